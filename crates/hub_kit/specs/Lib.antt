@@ -1,0 +1,4 @@
+pub mod KeyOrder
+pub mod Names
+pub mod Padded
+pub mod PaddedBack
