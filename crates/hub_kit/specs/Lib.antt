@@ -1,4 +1,5 @@
 pub mod KeyOrder
+pub mod Moments
 pub mod Names
 pub mod Padded
 pub mod PaddedBack

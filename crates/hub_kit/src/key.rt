@@ -6,6 +6,7 @@ ghost use Rattle.hub_kit.specs.KeyOrder.{key_exact};
 
 use crate::names::{GroupName, RoleName, ServerKey, ServerName, ServiceName, UserName};
 use crate::short_text::ShortText;
+use crate::target::Target;
 use crate::text::Text;
 
 /// A type of keys, each of which its order tells from every other.
@@ -46,5 +47,9 @@ impl Key for ServerKey {
 }
 
 impl Key for Text {
+    ghost exact = { slice_cmp-IsAntisymmetric nat_cmp-IsAntisymmetric };
+}
+
+impl Key for Target {
     ghost exact = { slice_cmp-IsAntisymmetric nat_cmp-IsAntisymmetric };
 }

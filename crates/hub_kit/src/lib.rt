@@ -6,6 +6,9 @@
 pub mod bytes;
 pub mod key;
 pub mod list;
+pub mod moment;
+pub mod moments;
 pub mod names;
 pub mod short_text;
+pub mod target;
 pub mod text;

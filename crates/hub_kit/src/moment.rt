@@ -1,0 +1,48 @@
+//! Moments: whole seconds since 1970-01-01T00:00:00Z.
+ghost use Rattle.std.specs.Prelude.{◌≡◌, ◌≤◌};
+ghost use Rattle.hub_kit.specs.Moments.{greatest, moment_of};
+
+use std::marker::Model;
+
+/// The greatest number of seconds of a moment.
+const GREATEST: u64 = 250_000_000_000;
+
+/// A number of seconds since 1970-01-01T00:00:00Z, at most 250,000,000,000.
+#[derive(Clone, Copy, Debug, PartialEq, Eq, PartialOrd, Ord)]
+pub struct Moment {
+    seconds: u64,
+}
+
+impl Model for Moment {
+    ghost use Rattle.std.specs.Prelude.{ℕ, ◌≤◌};
+    ghost use Rattle.hub_kit.specs.Moments.{greatest};
+
+    ghost Value = { ℕ };
+
+    ghost view = { λ m. m.seconds };
+
+    ghost invariant = { λ m. m.seconds ≤ greatest };
+
+    ghost inverse = { λ n. record { seconds = n } };
+}
+
+impl Moment {
+    /// The moment of a number of seconds, unless it is past the greatest.
+    pub fn from_seconds(seconds: u64) -> Option<Moment>
+        ensures { result ≡ moment_of seconds }
+    {
+        if seconds <= GREATEST {
+            Some(Moment { seconds })
+        } else {
+            None
+        }
+    }
+
+    /// The seconds since 1970-01-01T00:00:00Z.
+    pub fn seconds(&self) -> u64
+        ensures value { result ≡ self.now }
+        ensures bounded { self.now ≤ greatest }
+    {
+        self.seconds
+    }
+}
