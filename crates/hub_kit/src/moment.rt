@@ -27,6 +27,13 @@ impl Model for Moment {
 }
 
 impl Moment {
+    /// 1970-01-01T00:00:00Z.
+    pub fn zero() -> Moment
+        ensures { result ≡ 0 }
+    {
+        Moment { seconds: 0 }
+    }
+
     /// The moment of a number of seconds, unless it is past the greatest.
     pub fn from_seconds(seconds: u64) -> Option<Moment>
         ensures { result ≡ moment_of seconds }
