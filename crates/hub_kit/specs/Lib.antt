@@ -1,5 +1,9 @@
+pub mod Hashes
 pub mod KeyOrder
+pub mod MomentTexts
 pub mod Moments
 pub mod Names
 pub mod Padded
 pub mod PaddedBack
+pub mod ServerKeys
+pub mod Targets

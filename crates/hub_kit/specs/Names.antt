@@ -27,6 +27,11 @@ abbrev pub name_read : List ℕ → Result (List ℕ) NameError
 name_read [] = Err Empty
 name_read (b ∷ bs) = if nat_lt 64 (length (b ∷ bs)) then Err TooLong else bad_byte (b ∷ bs) (first_bad (b ∷ bs))
 
+-- what reading a server's name gives
+abbrev pub server_read : List ℕ → Result (List ℕ) NameError
+server_read [] = Ok []
+server_read (b ∷ bs) = name_read (b ∷ bs)
+
 abbrev pub IsName : List ℕ → Type 0
 IsName bytes = name_read bytes ≡ Ok bytes
 

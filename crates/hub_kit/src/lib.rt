@@ -4,6 +4,7 @@
 #![tactic(auto)]
 
 pub mod bytes;
+pub mod hashes;
 pub mod key;
 pub mod list;
 pub mod moment;
@@ -11,4 +12,7 @@ pub mod moments;
 pub mod names;
 pub mod short_text;
 pub mod target;
+pub mod targets;
+#[cfg(test)]
+mod tests;
 pub mod text;

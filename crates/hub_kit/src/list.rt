@@ -1,5 +1,5 @@
 //! Lists of any length.
-ghost use Rattle.std.specs.Prelude.{◌≡◌, List, [], ◌∷◌, ◌++◌, length, OnOk, OnErr, IfErr};
+ghost use Rattle.std.specs.Prelude.{◌≡◌, List, [], ◌∷◌, ◌++◌, ◌==◌, length, slice_get, option_copied, OnOk, OnErr, IfErr};
 
 use std::alloc::{AllocFailed, Global};
 use std::marker::Model;
@@ -52,6 +52,19 @@ impl<T> List<T> {
         ensures { result ≡ length self.now }
     {
         self.items.len()
+    }
+
+    pub fn is_empty(&self) -> bool
+        ensures { result ≡ (length self.now == 0) }
+    {
+        self.items.is_empty()
+    }
+
+    /// The item at a place, counted from 0.
+    pub fn get(&self, at: usize) -> Option<&T>
+        ensures { option_copied result ≡ slice_get self.now at }
+    {
+        self.items.as_slice().get(at)
     }
 
     /// Adds an item at the end. Without memory it is handed back.

@@ -1,6 +1,6 @@
 //! Moments: whole seconds since 1970-01-01T00:00:00Z.
-ghost use Rattle.std.specs.Prelude.{◌≡◌, ◌≤◌};
-ghost use Rattle.hub_kit.specs.Moments.{greatest, moment_of};
+ghost use Rattle.std.specs.Prelude.{◌≡◌, ◌≤◌, ◌+◌};
+ghost use Rattle.hub_kit.specs.Moments.{greatest, moment_of, capped};
 
 use std::marker::Model;
 
@@ -32,6 +32,35 @@ impl Moment {
         ensures { result ≡ 0 }
     {
         Moment { seconds: 0 }
+    }
+
+    /// The greatest moment, in the year 9892.
+    pub fn greatest() -> Moment
+        ensures { result ≡ greatest }
+    {
+        Moment { seconds: GREATEST }
+    }
+
+    /// The moment of a number of seconds, or the greatest where they pass it.
+    pub fn up_to(seconds: u64) -> Moment
+        ensures { result ≡ capped seconds }
+    {
+        if seconds <= GREATEST {
+            Moment { seconds }
+        } else {
+            Moment::greatest()
+        }
+    }
+
+    /// The moment so many seconds later, or the greatest where that is past it.
+    pub fn later(self, seconds: u64) -> Moment
+        ensures { result ≡ capped (self + seconds) }
+    {
+        if seconds <= GREATEST {
+            Moment::up_to(self.seconds + seconds)
+        } else {
+            Moment::greatest()
+        }
     }
 
     /// The moment of a number of seconds, unless it is past the greatest.

@@ -3,6 +3,7 @@ ghost use Rattle.std.specs.Prelude.{◌≡◌, ℕ, Some, nat_eq, refl, IfOk};
 ghost use Rattle.std.specs.Ordering.{nat_cmp};
 ghost use Rattle.std.specs.Cmp.{partial_equiv_from_equiv};
 ghost use Rattle.std.specs.Cmp.Lexicographic.{pointwise, slice_cmp, nat_list_eq_equiv, nat_list_cmp_total, texts_po, texts_ties};
+ghost use Rattle.hub_kit.specs.Targets.{IsTarget};
 
 use crate::text::Text;
 use std::alloc::{AllocError, Global};
@@ -17,16 +18,28 @@ pub struct Target {
 
 impl Model for Target {
     ghost use Rattle.std.specs.Prelude.{ℕ, List};
+    ghost use Rattle.hub_kit.specs.Targets.{IsTarget};
 
     ghost Value = { List ℕ };
 
     ghost view = { λ t. t.text };
+
+    ghost invariant = { λ t. IsTarget t.text };
 }
 
 impl Target {
+    /// The target of a text that is a target's.
+    pub(crate) fn from_text(text: Text) -> Target
+        requires { IsTarget text }
+        ensures { result ≡ text }
+    {
+        Target { text }
+    }
+
     /// The canonical text, with the port always written.
     pub fn as_text(&self) -> &Text
-        ensures { result.now ≡ self.now }
+        ensures value { result.now ≡ self.now }
+        ensures canonical { IsTarget self.now }
     {
         &self.text
     }

@@ -1,0 +1,32 @@
+-- What each step tells the seat that makes it. The word was n, and what the seat knows and has in hand goes from m to m'.
+use Rattle.std.specs.Prelude.{◌≡◌, ℕ, ◌%◌, true, List, [], ◌∷◌, Option, Some}
+use mathlib.Core.List.{IsPrefix}
+use Rattle.atomic_table.specs.Table.{Me, Step}
+use Rattle.desk.specs.declared.turn.SeatView.{SeatView}
+use Rattle.desk.specs.declared.turn.Stage.TheVariants.{Held, Met}
+use Rattle.desk.specs.OwnEntries.{Agree, Apart}
+use Rattle.desk.specs.Seats.{IsOrdered, shared, settled_as, after}
+
+module _ {B E A : Type 0} where
+  -- the seat isn't alone any more
+  abbrev pub left : Step (Option B) → Me (Option B) (SeatView B E A) → ℕ → Me (Option B) (SeatView B E A) → Type 0
+  left st m n m' = m' ≡ (shared m.0, m.1)
+
+  -- the seat has taken in the one that it met: both had seen beginnings of one list, and had made different entries of it
+  abbrev pub settled : Step (Option B) → Me (Option B) (SeatView B E A) → ℕ → Me (Option B) (SeatView B E A) → Type 0
+  settled st m n m' = (ys : List E) (qs : List (ℕ × E)) → m.0.stage ≡ Met ys qs
+      → (m' ≡ (settled_as ys qs m.0, m.1)) × Agree m.0.seen ys × Apart m.0.mine qs × IsOrdered m'.0
+
+module _ {B E A : Type 0} (entries : B → List E) (base : B → A) where
+  -- the book begins with what the seat has seen, and is just that where the seat is alone
+  abbrev pub Finds : SeatView B E A → B → Type 0
+  Finds d b = IsPrefix d.seen (entries b) × (d.alone ≡ true → entries b ≡ d.seen) × (d.base ≡ Some (base b))
+
+  -- where the word was even the seat has the turn and the book; where it was odd nothing happened
+  abbrev pub taken : Step (Option B) → Me (Option B) (SeatView B E A) → ℕ → Me (Option B) (SeatView B E A) → Type 0
+  taken st m n m' = (n % 2 ≡ 1 → m' ≡ m)
+      × (n % 2 ≡ 0 → (b : B) × (m' ≡ (record m.0 { stage = Held b }, (0, Some b) ∷ m.1)) × Finds m.0 b)
+
+-- the seat that held the turn with the book b gave back the book b', and with it the turn
+abbrev pub given : {B E A : Type 0} → (B → List E) → (B → ℕ) → Step (Option B) → Me (Option B) (SeatView B E A) → ℕ → Me (Option B) (SeatView B E A) → Type 0
+given {B} entries faults st m n m' = (b b' : B) → m.0.stage ≡ Held b → m.1 ≡ (0, Some b') ∷ [] → (m' ≡ (after entries faults b b' m.0, [])) × IsOrdered m'.0

@@ -1,0 +1,165 @@
+// A desk over a list of numbers.
+ghost use Rattle.std.specs.Prelude.{◌≡◌, ◌≤◌, ◌^◌, ◌++◌, ◌∷◌, [], length, MatchBool, true, false};
+
+use crate::{Booked, Desk, Job, Pass};
+use std::sync::Wait;
+use std::thread::join;
+
+#[derive(Drop)]
+struct Numbers {
+    all: Vec<u64>,
+    ghost room: { length all.items ≤ 2 ^ 62 },
+}
+
+impl Booked for Numbers {
+    type Entry = u64;
+
+    type Base = ();
+
+    ghost entries = { λ b. b.all.items };
+
+    ghost base = { λ _. tt };
+
+    ghost faults = { λ _. 0 };
+
+    fn length(&self) -> u64 {
+        self.all.len() as u64
+    }
+}
+
+#[derive(Drop)]
+struct Append {
+    number: u64,
+    acted: bool,
+}
+
+impl Job<Numbers> for Append {
+    type Answer = bool;
+
+    ghost acted = { λ j. j.acted };
+
+    ghost does = { λ j b r j' b'. MatchBool r (b'.all.items ≡ b.all.items ++ j.number ∷ []) (b'.all.items ≡ b.all.items) };
+
+    fn act(&mut self, book: &mut Numbers) -> bool {
+        self.acted = true;
+        if book.all.len() as u64 == 1 << 62 {
+            return false;
+        }
+        book.all.push(self.number).is_ok()
+    }
+}
+
+// Whether the list is 7, 8.
+#[derive(Drop)]
+struct IsSevenEight {
+    acted: bool,
+}
+
+impl Job<Numbers> for IsSevenEight {
+    type Answer = bool;
+
+    ghost acted = { λ j. j.acted };
+
+    ghost does = { λ j b r j' b'. b' ≡ b };
+
+    fn act(&mut self, book: &mut Numbers) -> bool {
+        self.acted = true;
+        book.all.as_slice() == [7, 8].as_slice()
+    }
+}
+
+fn add<R: Wait>(rt: &R, desk: &Desk<Numbers>, pass: &mut Pass<Numbers>, number: u64) -> bool
+    requires { pass.old.of ≡ desk.now }
+    ensures { pass.new.of ≡ pass.old.of }
+{
+    let mut job = Append {
+        number,
+        acted: false,
+    };
+    desk.visit(rt, pass, &mut job)
+}
+
+fn finds_both<R: Wait>(rt: &R, desk: &Desk<Numbers>, pass: &mut Pass<Numbers>) -> bool
+    requires { pass.old.of ≡ desk.now }
+    ensures { pass.new.of ≡ pass.old.of }
+{
+    let mut job = IsSevenEight { acted: false };
+    desk.visit(rt, pass, &mut job)
+}
+
+fn none(rt: &HostRuntime) -> Numbers {
+    Numbers {
+        all: Vec::new(rt.alloc()),
+    }
+}
+
+#[test]
+fn two_passes_stand_in_one_history(rt: HostRuntime) {
+    let Ok((desk, mut first)) = Desk::open(rt.alloc(), none(&rt)) else {
+        panic!(rt; "no memory")
+    };
+    assert!(rt; add(&rt, &desk, &mut first, 7));
+    let Ok(mut second) = desk.split(&mut first) else {
+        panic!(rt; "no memory")
+    };
+    assert!(rt; add(&rt, &desk, &mut second, 8) && finds_both(&rt, &desk, &mut second));
+    desk.join(&mut first, second);
+    assert_eq!(rt; desk.close(&rt, first).all.as_slice(), [7, 8].as_slice());
+}
+
+#[test]
+fn a_pass_that_was_split_before_finds_all(rt: HostRuntime) {
+    let Ok((desk, mut first)) = Desk::open(rt.alloc(), none(&rt)) else {
+        panic!(rt; "no memory")
+    };
+    let Ok(mut early) = desk.split(&mut first) else {
+        panic!(rt; "no memory")
+    };
+    assert!(rt; add(&rt, &desk, &mut first, 7) && add(&rt, &desk, &mut first, 8));
+    assert!(rt; finds_both(&rt, &desk, &mut early));
+}
+
+// Appends the number a thousand times, and answers whether it did.
+fn add_many<R: Wait>(
+    rt: &R,
+    desk: &Desk<Numbers>,
+    mut pass: Pass<Numbers>,
+    number: u64,
+) -> (Pass<Numbers>, bool)
+    requires { pass.of ≡ desk.now }
+    ensures { result.0.of ≡ desk.now }
+{
+    for _ in 0..1000 {
+        if !add(rt, desk, &mut pass, number) {
+            return (pass, false);
+        }
+    }
+    (pass, true)
+}
+
+#[test]
+fn two_threads_share_one_book(rt: HostRuntime) {
+    let Ok((desk, mut first)) = Desk::open(rt.alloc(), none(&rt)) else {
+        panic!(rt; "no memory")
+    };
+    let Ok(second) = desk.split(&mut first) else {
+        panic!(rt; "no memory")
+    };
+    let (shared, runtime) = (&desk, &rt);
+    let ((mut first, sevens), (second, eights)) = join(
+        runtime,
+        move ||
+            requires { first.of ≡ shared.now }
+            ensures { result.0.of ≡ shared.entry.now }
+        { add_many(runtime, shared, first, 7) },
+        move ||
+            requires { second.of ≡ shared.now }
+            ensures { result.0.of ≡ shared.entry.now }
+        { add_many(runtime, shared, second, 8) },
+    );
+    desk.join(&mut first, second);
+    let book = desk.close(&rt, first);
+    let kept = |number: u64| book.all.iter().filter(|n| **n == number).count();
+    assert!(rt; sevens && eights);
+    assert_eq!(rt; (kept(7), kept(8)), (1000, 1000));
+}
