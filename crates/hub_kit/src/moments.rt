@@ -1,5 +1,5 @@
 //! Moments of numbers and of texts, and their texts.
-ghost use Rattle.std.specs.Prelude.{◌≡◌, ◌≤◌, pos, ◌*ℤ◌, IsOk, IfOk};
+ghost use Rattle.std.specs.Prelude.{◌≡◌, ◌≤◌, pos, ◌*ℤ◌, length, IsOk, IfOk};
 ghost use Rattle.jiff.specs.Words.{parse_timestamp, civil_nanos};
 ghost use Rattle.hub_kit.specs.Moments.{greatest, moment_of};
 ghost use Rattle.hub_kit.specs.MomentTexts.{moment_read, IsMomentText};
@@ -25,9 +25,10 @@ pub fn moment(seconds: u64) -> Option<Moment>
     Moment::from_seconds(seconds)
 }
 
-/// The date and time in UTC of a moment, as `YYYY-MM-DDTHH:MM:SSZ`.
+/// The date and time in UTC of a moment, as `YYYY-MM-DDTHH:MM:SSZ` (RFC 3339).
 pub fn moment_text(alloc: Global, at: Moment) -> Result<Text, AllocError>
-    ensures { IfOk result (IsMomentText at) }
+    ensures text { IfOk result (IsMomentText at) }
+    ensures len { IfOk result (λ text. length text ≡ 20) }
 {
     let shown = match civil_of(at.seconds()) {
         Ok(shown) => shown,

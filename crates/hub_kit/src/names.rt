@@ -39,6 +39,7 @@ impl Model for UserName {
 }
 
 impl UserName {
+    /// The bytes, of which there are at most 64.
     pub fn as_bytes(&self) -> &[u8]
         ensures value { result.now ≡ self.now }
         ensures fits { length self.now ≤ 64 }
@@ -46,6 +47,7 @@ impl UserName {
         self.text.as_bytes()
     }
 
+    /// The name as text, which is ASCII.
     pub fn as_str(&self) -> &str
         ensures value { result.now ≡ self.now }
         ensures name { spec.IsName self.now }
@@ -74,6 +76,7 @@ impl Model for GroupName {
 }
 
 impl GroupName {
+    /// The bytes, of which there are at most 64.
     pub fn as_bytes(&self) -> &[u8]
         ensures value { result.now ≡ self.now }
         ensures fits { length self.now ≤ 64 }
@@ -81,6 +84,7 @@ impl GroupName {
         self.text.as_bytes()
     }
 
+    /// The name as text, which is ASCII.
     pub fn as_str(&self) -> &str
         ensures value { result.now ≡ self.now }
         ensures name { spec.IsName self.now }
@@ -109,6 +113,7 @@ impl Model for ServiceName {
 }
 
 impl ServiceName {
+    /// The bytes, of which there are at most 64.
     pub fn as_bytes(&self) -> &[u8]
         ensures value { result.now ≡ self.now }
         ensures fits { length self.now ≤ 64 }
@@ -116,6 +121,7 @@ impl ServiceName {
         self.text.as_bytes()
     }
 
+    /// The name as text, which is ASCII.
     pub fn as_str(&self) -> &str
         ensures value { result.now ≡ self.now }
         ensures name { spec.IsName self.now }
@@ -144,6 +150,7 @@ impl Model for RoleName {
 }
 
 impl RoleName {
+    /// The bytes, of which there are at most 64.
     pub fn as_bytes(&self) -> &[u8]
         ensures value { result.now ≡ self.now }
         ensures fits { length self.now ≤ 64 }
@@ -151,6 +158,7 @@ impl RoleName {
         self.text.as_bytes()
     }
 
+    /// The name as text, which is ASCII.
     pub fn as_str(&self) -> &str
         ensures value { result.now ≡ self.now }
         ensures name { spec.IsName self.now }
@@ -179,6 +187,7 @@ impl Model for ServerName {
 }
 
 impl ServerName {
+    /// The bytes, of which there are at most 64.
     pub fn as_bytes(&self) -> &[u8]
         ensures value { result.now ≡ self.now }
         ensures fits { length self.now ≤ 64 }
@@ -186,6 +195,7 @@ impl ServerName {
         self.text.as_bytes()
     }
 
+    /// The name as text, which is ASCII.
     pub fn as_str(&self) -> &str
         ensures value { result.now ≡ self.now }
         ensures name { spec.IsServerName self.now }

@@ -1,0 +1,4 @@
+mod Chains
+mod Ends
+mod Places
+mod Rows
