@@ -1,1 +1,4 @@
+pub mod CallLemmas
+pub mod RouteLemmas
+pub mod RunningLemmas
 pub mod StreamLemmas

@@ -3,21 +3,22 @@ use Rattle.std.proofs.Common.{◌≡◌, ℕ, ◌+◌, List, [], ◌++◌, lengt
 use Rattle.std.proofs.lemmas.List.{append-nil, take_at, take-append-drop, drop-drop}
 use Rattle.hub_devices.specs.Streams.{Takes, Appends}
 
-some_same : (a b : List ℕ) → Some a ≡ Some b → a ≡ b
+pub some_same : (a b : List ℕ) → Some a ≡ Some b → a ≡ b
 some_same a b e = cc
 
--- nothing was taken
-pub Takes_none : (left : Option (List ℕ)) → Takes left [] left
-Takes_none left = record { leaves = λ bytes told. (bytes, refl, told) }
+module _ {A : Type 0} where
+  -- nothing was taken
+  pub Takes_none : (left : Option (List A)) → Takes left [] left
+  Takes_none left = record { leaves = λ items told. (items, refl, told) }
 
--- one taking and then another
-pub Takes_then : (a b c : Option (List ℕ)) (x y : List ℕ) → Takes a x b → Takes b y c → Takes a (x ++ y) c
-Takes_then a b c x y first second = record {
-  leaves = λ left told.
-      let one = first.leaves left told in
-      let two = second.leaves one.0 one.2 in
-      (two.0, one.1 ∙ (ap (λ r. x ++ r) two.1 ∙ sym (append_assoc x y two.0)), two.2);
-}
+  -- one taking and then another
+  pub Takes_then : (a b c : Option (List A)) (x y : List A) → Takes a x b → Takes b y c → Takes a (x ++ y) c
+  Takes_then a b c x y first second = record {
+    leaves = λ left told.
+        let one = first.leaves left told in
+        let two = second.leaves one.0 one.2 in
+        (two.0, one.1 ∙ (ap (λ r. x ++ r) two.1 ∙ sym (append_assoc x y two.0)), two.2);
+  }
 
 -- the part that a read wrote to the front of its buffer
 pub Takes_part : (bytes into part : List ℕ) (at n : ℕ) → part ≡ take n (drop at bytes) → length part ≡ n

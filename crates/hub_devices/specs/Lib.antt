@@ -1,4 +1,9 @@
+pub mod Calls
+pub mod FailingCalls
 pub mod Faults
 pub mod Moments
+pub mod NamedFiles
+pub mod Routes
+pub mod Running
 pub mod Streams
 pub mod ToCome

@@ -5,5 +5,5 @@ use Rattle.hub_devices.proofs.mem_bytes.MemSourceSource.read.Goals as goal
 
 pub returns-clause-takes : goal.returns-clause-takes
 returns-clause-takes c =
-    Takes_part c.args.self.now.bytes.items c.args.into.now c.copy_from_slice.new.self c.args.self.now.at c.min-count.result
+    Takes_part c.args.self.now.bytes c.args.into.now c.copy_from_slice.new.self c.args.self.now.at c.min-count.result
     (grind (arith, common_steps)) (grind (arith, common_steps))

@@ -1,0 +1,15 @@
+use Rattle.std.proofs.Common.{rules}
+use Rattle.hub_devices.proofs.RouteLemmas.{get_before}
+use Rattle.hub_devices.proofs.mem_routes.by_path.Goals as goal
+
+pub loop-at-preserved-in_ok-insert : goal.loop-at-preserved-in_ok-insert
+loop-at-preserved-in_ok-insert c =
+    get_before c.loop-at.table c.insert.new.self c.args.routes.now c.loop-at.at c.index-routes-at.result c.in_ok-path.path
+    c.in_ok-target.target (search rules) (search rules) c.index-routes-at.is c.in_ok-insert.ensures.updates c.in_ok-path.ensures
+    c.in_ok-target.ensures c.loop-at.invariant.1
+
+pub loop-at-preserved : goal.loop-at-preserved
+loop-at-preserved c =
+    get_before c.loop-at.table c.insert.new.self c.args.routes.now c.loop-at.at c.index-routes-at.result c.in_ok-path.path
+    c.in_ok-target.target (search rules) (search rules) c.index-routes-at.is c.in_ok-insert.ensures.updates c.in_ok-path.ensures
+    c.in_ok-target.ensures c.loop-at.invariant.1

@@ -1,0 +1,7 @@
+//! Why a call that takes memory gave nothing.
+/// The device failed, and its count of faults rose; or there was no memory, which is no fault of the device.
+#[derive(Clone, Copy, Debug, PartialEq, Eq)]
+pub enum LinkError {
+    Failed,
+    Memory,
+}
