@@ -1,4 +1,6 @@
 mod Chains
 mod Ends
+mod Index
 mod Places
+mod Ranks
 mod Rows

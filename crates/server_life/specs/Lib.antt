@@ -1,5 +1,7 @@
 pub mod LifeTable
 pub mod Lives
 pub mod Owed
+pub mod Ranks
 pub mod Leased
 pub mod LeaseTable
+pub mod LeaseIndex

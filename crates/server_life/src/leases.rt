@@ -1,11 +1,12 @@
 //! The leases of targets: which generation holds which target, for which server.
 
-ghost use Rattle.std.specs.Prelude.{◌≡◌, ◌≢◌, ℕ, ◌+◌, ◌-◌, ◌<◌, ◌≤◌, ◌^◌, ◌↔◌, IsTrue, length, slice_get, slice_set, All, AllPairs, IfOk, MatchOption, MatchResult, MatchBool, replicate, slice_index_or, Option, Some, None, List};
+ghost use Rattle.std.specs.Prelude.{◌≡◌, ◌≢◌, ℕ, ◌+◌, ◌-◌, ◌<◌, ◌≤◌, ◌^◌, length, slice_get, slice_set, All, AllPairs, IfOk, MatchOption, MatchResult, MatchBool, replicate, Some, None};
 ghost use Rattle.hub_kit.specs.declared.target.Target.{Target};
 ghost use Rattle.hub_kit.specs.declared.names.ServerKey.{ServerKey};
 ghost use Rattle.server_life.specs.LeaseTable.{IsOneToOne};
 ghost use Rattle.server_life.specs.Leased.{IsFree, IsFirstFree, IsNotLive, IsUnleased, HoldsLease};
 
+use crate::ordered::{get, put, remove};
 use hub_kit::names::ServerKey;
 use hub_kit::target::Target;
 use std::alloc::{AllocError, Global};
@@ -18,12 +19,16 @@ pub struct Held {
     pub server: ServerKey,
 }
 
-/// The pool, the lease of each of its targets, and the next generation.
+/// The pool, the lease of each of its targets, the next generation, and the look-ups: the free places in order, and the
+/// place of each live generation and of each leased server.
 #[derive(Drop)]
 pub struct Leases {
     pool: Vec<Target>,
     leased: Vec<Option<Held>>,
     next: u64,
+    free: Vec<(usize, ())>,
+    generations: Vec<(u64, usize)>,
+    servers: Vec<(ServerKey, usize)>,
 }
 
 /// All targets are leased.
@@ -34,55 +39,18 @@ pub struct NoTarget {
 }
 
 impl Model for Leases {
-    ghost use Rattle.std.specs.Prelude.{map, ◌<◌, ◌^◌};
-    ghost use Rattle.server_life.specs.LeaseTable.{LeaseTable, IsOneToOne};
+    ghost use Rattle.server_life.specs.LeaseTable.{LeaseTable};
 
     ghost Value = { LeaseTable };
 
+    ghost use Rattle.std.specs.Prelude.{length, ◌≤◌};
+    ghost use Rattle.std.specs.Vec.{vec_capacity};
+    ghost use Rattle.server_life.specs.LeaseIndex.{IsIndexed};
+
     ghost view = { λ a. record { pool = a.pool.items; leased = a.leased.items; next = a.next } };
 
-    ghost invariant = { λ a. IsOneToOne (record { pool = a.pool.items; leased = a.leased.items; next = a.next }) };
-}
-
-/// Whether two keys are of one server.
-fn is_same(a: &ServerKey, b: &ServerKey) -> bool
-    ensures { IsTrue result ↔ (a.now ≡ b.now) }
-{
-    a == b
-}
-
-/// The first place without a lease.
-fn first_free(leased: &[Option<Held>]) -> Option<usize>
-    ensures { MatchOption result (All (λ o. o ≢ None) leased.now) (λ i. IsFirstFree leased.now i) }
-{
-    for (i, slot) in leased.iter().enumerate() {
-        if slot.is_none() {
-            return Some(i);
-        }
-    }
-    None
-}
-
-/// The first place without a lease, where there is one.
-fn free_place(leased: &[Option<Held>]) -> usize
-    requires { (i : ℕ) × IsFree leased.now i }
-    ensures { IsFirstFree leased.now result }
-{
-    first_free(leased).unwrap_or(0)
-}
-
-/// The place of the lease of a generation.
-fn place_of(leased: &[Option<Held>], g: u64) -> Option<usize>
-    ensures { MatchOption result (IsNotLive leased.now g) (λ i. (key : ServerKey) × HoldsLease leased.now i g key) }
-{
-    for (i, slot) in leased.iter().enumerate() {
-        if let Some(held) = slot {
-            if held.generation == g {
-                return Some(i);
-            }
-        }
-    }
-    None
+    ghost invariant = { λ a. IsIndexed (record { pool = a.pool.items; leased = a.leased.items; next = a.next }) a.free.items a.generations.items a.servers.items
+        × (length a.pool.items ≤ vec_capacity a.free) × (length a.pool.items ≤ vec_capacity a.generations) × (length a.pool.items ≤ vec_capacity a.servers) };
 }
 
 impl Leases {
@@ -94,10 +62,21 @@ impl Leases {
         ensures { IfOk result (λ l. l ≡ record { pool = pool.items; leased = replicate (length pool.items) None; next = next }) }
     {
         let mut leased = Vec::new(alloc);
-        for _place in 0..pool.len() {
+        let mut free = Vec::with_capacity(alloc, pool.len())?;
+        for place in 0..pool.len() {
             leased.push(None)?;
+            put(&mut free, &place, ());
         }
-        Ok(Leases { pool, leased, next })
+        let generations = Vec::with_capacity(alloc, pool.len())?;
+        let servers = Vec::with_capacity(alloc, pool.len())?;
+        Ok(Leases {
+            pool,
+            leased,
+            next,
+            free,
+            generations,
+            servers,
+        })
     }
 
     /// The next generation, and the place of the free target of least index.
@@ -110,13 +89,11 @@ impl Leases {
         // below the next one.
         ensures one_to_one { IsOneToOne self.now }
     {
-        match first_free(self.leased.as_slice()) {
-            Some(i) => Ok((self.next, i)),
-            None => {
-                let n = self.pool.len() as u32;
-                Err(NoTarget { live: n, pool: n })
-            }
+        if self.free.is_empty() {
+            let n = self.pool.len() as u32;
+            return Err(NoTarget { live: n, pool: n });
         }
+        Ok((self.next, self.free[0].0))
     }
 
     /// Leases what `next_free` gives.
@@ -127,13 +104,10 @@ impl Leases {
         ensures { (i : ℕ) × IsFirstFree self.old.leased i
             × (self.new ≡ record { pool = self.old.pool; leased = slice_set self.old.leased i (Some (record { generation = self.old.next; server = key })); next = self.old.next + 1 }) }
     {
-        let at = free_place(self.leased.as_slice());
+        let at = self.free[0].0;
         let generation = self.next;
-        self.leased[at] = Some(Held {
-            generation,
-            server: key,
-        });
         self.next = generation + 1;
+        self.hold(at, generation, key);
     }
 
     /// Leases the target at a place of the pool.
@@ -144,6 +118,9 @@ impl Leases {
         requires unleased { IsUnleased self.old.leased key }
         ensures { self.new ≡ record { pool = self.old.pool; leased = slice_set self.old.leased at (Some (record { generation = g; server = key })); next = self.old.next } }
     {
+        remove(&mut self.free, &at);
+        put(&mut self.generations, &g, at);
+        put(&mut self.servers, &key, at);
         self.leased[at] = Some(Held {
             generation: g,
             server: key,
@@ -154,28 +131,27 @@ impl Leases {
     pub fn held(&self, g: u64) -> Option<(usize, &ServerKey)>
         ensures { MatchOption result (IsNotLive self.now.leased g) (λ r. HoldsLease self.now.leased r.0 g r.1.now) }
     {
-        for (i, slot) in self.leased.iter().enumerate() {
-            if let Some(held) = slot {
-                if held.generation == g {
-                    return Some((i, &held.server));
-                }
-            }
+        let Some(at) = get(self.generations.as_slice(), &g) else {
+            return None;
+        };
+        match &self.leased[at] {
+            Some(held) => Some((at, &held.server)),
+            None => None,
         }
-        None
     }
 
     /// The generation of a leased server.
     pub fn generation(&self, key: &ServerKey) -> Option<u64>
         ensures { MatchOption result (IsUnleased self.now.leased key.now) (λ g. (i : ℕ) × HoldsLease self.now.leased i g key.now) }
     {
-        for slot in self.leased.iter() {
-            if let Some(held) = slot {
-                if is_same(&held.server, key) {
-                    return Some(held.generation);
-                }
-            }
+        let at = match get(self.servers.as_slice(), key) {
+            Some(at) => at,
+            None => return None,
+        };
+        match &self.leased[at] {
+            Some(held) => Some(held.generation),
+            None => None,
         }
-        None
     }
 
     /// Ends the lease of a generation, and says whether there was one.
@@ -184,12 +160,15 @@ impl Leases {
             ((i : ℕ) × (key : ServerKey) × HoldsLease self.old.leased i g key × (self.new ≡ record { pool = self.old.pool; leased = slice_set self.old.leased i None; next = self.old.next }))
             (IsNotLive self.old.leased g × (self.new ≡ self.old)) }
     {
-        match place_of(self.leased.as_slice(), g) {
-            Some(at) => {
-                self.leased[at] = None;
-                true
-            }
-            None => false,
-        }
+        let Some(at) = get(self.generations.as_slice(), &g) else {
+            return false;
+        };
+        let Some(held) = self.leased[at].take() else {
+            return false;
+        };
+        remove(&mut self.generations, &g);
+        remove(&mut self.servers, &held.server);
+        put(&mut self.free, &at, ());
+        true
     }
 }

@@ -6,6 +6,7 @@
 mod laws;
 mod leases;
 mod life;
+mod ordered;
 #[cfg(test)]
 mod tests;
 

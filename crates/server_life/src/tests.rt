@@ -1,4 +1,4 @@
-//! The whole life table against the lines of docs/LIFE.md, and a pool with nothing in it.
+//! The whole life table against the lines of docs/LIFE.md, and a pool of one.
 use super::*;
 use crate::life::LifeEvent::{
     Alive, AskStop, Begin, Dead, EndUnkept, Ended, PollFailed, RouteFailed, Routed, SpawnFailed,
@@ -9,6 +9,8 @@ use crate::life::Phase::{
     Adopting, Parked, Ready, Routing, Spawning, Stopped, Stopping, Unrouting,
 };
 use crate::life::Todo::{AddRoute, DeleteRoute, Nothing, Start, StopProgram};
+use hub_kit::names::{ServerKey, read_key};
+use hub_kit::targets::read_target;
 use std::test::Fail;
 
 const UNROUTE: Phase = Parked(5, ParkedAt::Unroute);
@@ -218,9 +220,37 @@ fn table(rt: HostRuntime) {
     assert_eq!(rt; stale, Err(OldGeneration(4)));
 }
 
+/// Takes what is next, unless nothing is free, the server has a lease, or no generation is left.
+fn start(leases: &mut Leases, key: ServerKey) -> Result<(u64, usize), Option<NoTarget>> {
+    let (generation, at) = match leases.next_free() {
+        Ok(next) => next,
+        Err(none) => return Err(Some(none)),
+    };
+    match leases.generation(&key) {
+        Some(_) => return Err(None),
+        None => {}
+    }
+    if generation == u64::MAX {
+        return Err(None);
+    }
+    leases.take(key);
+    Ok((generation, at))
+}
+
 #[test]
-fn empty_pool(rt: HostRuntime) -> Result<(), Fail> {
-    let leases = Leases::new(rt.alloc(), Vec::new(rt.alloc()), 1)?;
-    assert_eq!(rt; leases.next_free(), Err(NoTarget { live: 0, pool: 0 }));
+fn pool_of_one(rt: HostRuntime) -> Result<(), Fail> {
+    let mut pool = Vec::new(rt.alloc());
+    pool.push(read_target(rt.alloc(), b"http://127.0.0.1:8000")?)?;
+    let mut leases = Leases::new(rt.alloc(), pool, 7)?;
+
+    assert_eq!(rt; start(&mut leases, read_key(b"ann/")?), Ok((7, 0)));
+    let none = NoTarget { live: 1, pool: 1 };
+    assert_eq!(rt; start(&mut leases, read_key(b"bob/lab")?), Err(Some(none)));
+    assert_eq!(rt; leases.generation(&read_key(b"ann/")?), Some(7));
+    assert!(rt; leases.held(7).is_some_and(|held| held.0 == 0));
+
+    assert!(rt; leases.free(7));
+    assert!(rt; !leases.free(7));
+    assert_eq!(rt; start(&mut leases, read_key(b"ann/")?), Ok((8, 0)));
     Ok(())
 }

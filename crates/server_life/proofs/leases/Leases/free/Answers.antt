@@ -1,0 +1,42 @@
+use Rattle.std.proofs.Common.{ℕ, ◌≡◌, slice_get, Option, Some, None, not, arith, subst, sym, ap, ◌∙◌}
+use Rattle.std.specs.Ordering.{nat_cmp, eq_by_cmp}
+use Rattle.std.specs.FinMap.Entries.{find, where_key}
+use Rattle.server_life.specs.declared.leases.Held.{Held}
+use Rattle.server_life.specs.Leased.{HoldsLease}
+use Rattle.server_life.specs.LeaseTable.{LeaseTable}
+use Rattle.server_life.specs.LeaseIndex.{IsIndexed, generation_in}
+use Rattle.server_life.proofs.Index.{freed_index, known_server, read_lease, moved, with_lease, lease}
+use Rattle.server_life.proofs.leases.Leases.free.Goals as goal
+
+pub remove-requires-2-clause-known : goal.remove-requires-2-clause-known
+remove-requires-2-clause-known c =
+    let read = read_lease nat_cmp generation_in c.self.inside.leased.items c.self.inside.generations.items c.args.g c.in-Some.at c.index_mut.result.now c.in-Some-take.held c.self.invariant.0.of_generations
+    (c.in-Some.ensures ∙ ap (find nat_cmp c.args.g) c.as_slice.ensures.value) c.index_mut.ensures.value (sym c.take.ensures.value ∙ c.in-Some-take.is) in
+    known_server c.self.inside.leased.items c.self.inside.servers.items c.in-Some.at c.in-Some-take.held c.self.invariant.0.of_servers read.0
+
+pub invariant_of-self-2 : goal.invariant_of-self-2
+invariant_of-self-2 c =
+    let t : LeaseTable = record { pool = c.self.inside.pool.items; leased = c.self.inside.leased.items; next = c.self.inside.next } in
+    let read = read_lease nat_cmp generation_in c.self.inside.leased.items c.self.inside.generations.items c.args.g c.in-Some.at c.index_mut.result.now c.in-Some-take.held c.self.invariant.0.of_generations
+    (c.in-Some.ensures ∙ ap (find nat_cmp c.args.g) c.as_slice.ensures.value) c.index_mut.ensures.value (sym c.take.ensures.value ∙ c.in-Some-take.is) in (
+      subst (λ (o : Option Held). IsIndexed (with_lease t c.in-Some.at o) c.put.new.entries.items c.remove.new.entries.items c.remove-2.new.entries.items) (sym c.take.ensures.after)
+          (moved _ _ _ _ _ _ _ c.put.ensures.items
+          (c.remove.ensures.items ∙ ap (λ (g : ℕ). where_key nat_cmp (λ k. not (eq_by_cmp nat_cmp g k)) c.self.inside.generations.items) (sym read.1))
+          c.remove-2.ensures.items
+          (freed_index t c.self.inside.free.items c.self.inside.generations.items c.self.inside.servers.items c.in-Some.at c.in-Some-take.held c.self.invariant.0 read.0)),
+      omega (arith, c.put.ensures.capacity, c.self.invariant.1),
+      omega (arith, c.remove.ensures.capacity, c.self.invariant.2),
+      omega (arith, c.remove-2.ensures.capacity, c.self.invariant.3),
+    )
+
+pub returns : goal.returns
+returns c =
+    let t : LeaseTable = record { pool = c.self.inside.pool.items; leased = c.self.inside.leased.items; next = c.self.inside.next } in
+    let read = read_lease nat_cmp generation_in c.self.inside.leased.items c.self.inside.generations.items c.args.g c.in-Some.at c.index_mut.result.now c.in-Some-take.held c.self.invariant.0.of_generations
+    (c.in-Some.ensures ∙ ap (find nat_cmp c.args.g) c.as_slice.ensures.value) c.index_mut.ensures.value (sym c.take.ensures.value ∙ c.in-Some-take.is) in (
+      c.in-Some.at,
+      c.in-Some-take.held.server,
+      subst (λ (t : LeaseTable). HoldsLease t.leased c.in-Some.at c.args.g c.in-Some-take.held.server) c.self.view_is
+          (subst (λ (y : ℕ). slice_get c.self.inside.leased.items c.in-Some.at ≡ Some (Some (lease y c.in-Some-take.held.server))) read.1 read.0),
+      subst (λ (u : LeaseTable). with_lease t c.in-Some.at c.take.new.self ≡ with_lease u c.in-Some.at None) c.self.view_is (ap (with_lease t c.in-Some.at) c.take.ensures.after),
+    )

@@ -1,0 +1,36 @@
+-- The look-ups of the leases: which places are free, and the place of each generation and of each server.
+use Rattle.std.specs.Prelude.{ℕ, ◌≡◌, ◌≢◌, ◌+◌, T, List, Option, Some, MatchOption, slice_get, length}
+use Rattle.std.specs.declared.cmp.Ordering.{Ordering}
+use Rattle.std.specs.Ordering.{nat_cmp}
+use Rattle.std.specs.FinMap.Entries.{find, is_sorted}
+use Rattle.hub_kit.specs.declared.names.ServerKey.{ServerKey}
+use Rattle.hub_kit.specs.KeyOrder.{key_cmp}
+use Rattle.server_life.specs.declared.leases.Held.{Held}
+use Rattle.server_life.specs.Leased.{IsFree}
+use Rattle.server_life.specs.LeaseTable.{LeaseTable, IsOneToOne}
+
+-- what is found at a key is the place of the lease that has it
+abbrev pub IsIndex : {K : Type 0} → (K → K → Ordering) → (Held → K) → List (Option Held) → List (K × ℕ) → Type 0
+IsIndex {K} R key_of leased es = (q : K) → MatchOption (find R q es)
+    ((i : ℕ) (h : Held) → slice_get leased i ≡ Some (Some h) → key_of h ≢ q)
+    (λ i. (h : Held) × (slice_get leased i ≡ Some (Some h)) × (key_of h ≡ q))
+
+abbrev pub IsFreeIndex : List (Option Held) → List (ℕ × Unit {0}) → Type 0
+IsFreeIndex leased es = (i : ℕ) → MatchOption (find nat_cmp i es) (IsFree leased i → ⊥) (λ _. IsFree leased i)
+
+abbrev pub generation_in : Held → ℕ
+generation_in h = h.generation
+
+abbrev pub server_in : Held → ServerKey
+server_in h = h.server
+
+pub record IsIndexed (t : LeaseTable) (free : List (ℕ × Unit {0})) (generations : List (ℕ × ℕ)) (servers : List (ServerKey × ℕ)) : Type 0 where
+  pub one : IsOneToOne t
+  pub free_rise : T (is_sorted nat_cmp free)
+  pub free_places : IsFreeIndex t.leased free
+  pub generations_rise : T (is_sorted nat_cmp generations)
+  pub of_generations : IsIndex nat_cmp generation_in t.leased generations
+  pub servers_rise : T (is_sorted key_cmp servers)
+  pub of_servers : IsIndex key_cmp server_in t.leased servers
+  pub all_generations : length generations + length free ≡ length t.pool
+  pub all_servers : length servers + length free ≡ length t.pool
