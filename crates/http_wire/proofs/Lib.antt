@@ -1,0 +1,11 @@
+pub mod PlaceLemmas
+pub mod RoomLemmas
+pub mod HeadLemmas
+pub mod TookLemmas
+pub mod BadLemmas
+pub mod StreamLemmas
+pub mod ToldLemmas
+pub mod WordLemmas
+pub mod DecimalLemmas
+pub mod FillLemmas
+pub mod RequestLemmas

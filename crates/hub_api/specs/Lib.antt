@@ -1,0 +1,4 @@
+pub mod Calls
+pub mod Paths
+pub mod Refusals
+pub mod ReplyText

@@ -1,0 +1,18 @@
+//! The hub's REST API as bytes: a request becomes an asked call or a refusal, and a reply becomes its text.
+//! The contracts of `read_call` and `reply_text` carry it: each is its definition, exactly. Connections read requests by
+//! `http_wire`, ask the calls of `hub_core`, and write these texts.
+#![tactic(auto)]
+
+mod laws;
+mod paths;
+mod reading;
+mod refusal;
+mod replies;
+#[cfg(test)]
+mod tests;
+
+pub use laws::{a_user_is_asked, a_version_is_asked};
+pub use paths::{ApiRouter, new_router};
+pub use reading::{draws, read_call};
+pub use refusal::{ApiRefusal, refusal_reply, wire_refusal_reply};
+pub use replies::{NO_MEMORY, no_memory, reply_text};

@@ -1,0 +1,51 @@
+//! The paths of the calls, found by `matchit`.
+ghost use Rattle.std.specs.Prelude.{◌≡◌, [], map, IfOk, MatchOption, None, Some};
+ghost use Rattle.matchit.specs.Seek.{first};
+ghost use Rattle.hub_api.specs.Paths.{with_all, hub_paths, hub_rows};
+
+use matchit::Router;
+use std::alloc::{AllocError, Global};
+
+/// The paths of the calls that are built. A path's row is its place here.
+static PATHS: [&str; 3] = ["/hub/api", "/hub/api/", "/hub/api/user"];
+
+/// The paths of the calls, each with its row. A connection makes one and keeps it.
+pub type ApiRouter = Router<usize>;
+
+/// The router of these paths, each with its place.
+fn router_of(alloc: Global, paths: &[&str]) -> Result<ApiRouter, AllocError>
+    ensures { IfOk result (λ router. router ≡ with_all [] 0 (map (λ s. s.now) paths.now)) }
+{
+    let mut router = Router::new(alloc);
+    for i in 0..paths.len() {
+        if router.insert(paths[i], i).is_err() {
+            return Err(AllocError);
+        }
+    }
+    Ok(router)
+}
+
+/// The table.
+#[tactic(auto, unfolding(crate::specs::Paths::hub_paths))]
+fn table() -> &'static [&'static str]
+    ensures { map (λ s. s.now) result.now ≡ hub_paths }
+{
+    PATHS.as_slice()
+}
+
+/// The router of the table of calls. The one refusal is want of memory.
+pub fn new_router(alloc: Global) -> Result<ApiRouter, AllocError>
+    ensures { IfOk result (λ router. router ≡ hub_rows) }
+{
+    router_of(alloc, table())
+}
+
+/// The row that a path has.
+pub(crate) fn row_of(router: &ApiRouter, path: &str) -> Option<usize>
+    ensures { MatchOption (first router.now path.now) (result ≡ None) (λ route. result ≡ Some route.value) }
+{
+    match router.at(path) {
+        Ok(found) => Some(*found.value),
+        Err(_) => None,
+    }
+}

@@ -1,0 +1,115 @@
+//! The texts of replies, and requests that ask calls or none.
+use crate::{new_router, read_call, refusal_reply, reply_text, wire_refusal_reply};
+use http_wire::error::WireError;
+use http_wire::request::Request;
+use hub_core::Reply;
+use hub_kit::bytes::Bytes;
+use hub_kit::text::Text;
+use hub_view::{Body, add_member, line, lines, message_body};
+use std::alloc::{AllocError, Global};
+use std::test::Fail;
+
+fn reply(status: u16, body: Body) -> Reply {
+    Reply {
+        status,
+        body,
+        location: None,
+        no_store: false,
+        revision: Some(0),
+    }
+}
+
+/// Who ann is.
+fn identity(alloc: Global) -> Result<Body, AllocError> {
+    let mut fields = Vec::new(alloc);
+    add_member(alloc, &mut fields, true, "admin", Body::Truth(false))?;
+    let created = line(alloc, "2023-11-14T22:13:20Z")?;
+    add_member(alloc, &mut fields, true, "created", created)?;
+    let groups = Body::Items(Vec::new(alloc));
+    add_member(alloc, &mut fields, true, "groups", groups)?;
+    add_member(alloc, &mut fields, true, "kind", line(alloc, "user")?)?;
+    add_member(alloc, &mut fields, true, "last_activity", Body::Null)?;
+    add_member(alloc, &mut fields, true, "name", line(alloc, "ann")?)?;
+    let scopes = lines(alloc, &["inherit"])?;
+    add_member(alloc, &mut fields, true, "scopes", scopes)?;
+    let servers = Body::Pairs(Vec::new(alloc));
+    add_member(alloc, &mut fields, true, "servers", servers)?;
+    Ok(Body::Pairs(fields))
+}
+
+#[test]
+fn an_identity_as_text(rt: HostRuntime) -> Result<(), Fail> {
+    let alloc = rt.alloc();
+    let text = reply_text(alloc, &reply(200, identity(alloc)?), false)?;
+    assert!(rt;
+        text.as_slice()
+            == b"HTTP/1.1 200 OK\r\nContent-Type: application/json\r\nContent-Length: 142\r\nX-Hub-Revision: 0\r\n\r\n{\"admin\":false,\"created\":\"2023-11-14T22:13:20Z\",\"groups\":[],\"kind\":\"user\",\"last_activity\":null,\"name\":\"ann\",\"scopes\":[\"inherit\"],\"servers\":{}}".as_slice()
+    );
+    Ok(())
+}
+
+#[test]
+fn a_refusal_as_text(rt: HostRuntime) -> Result<(), Fail> {
+    let alloc = rt.alloc();
+    let body = message_body(alloc, 403, "no valid token")?;
+    let text = reply_text(alloc, &reply(403, body), true)?;
+    assert!(rt;
+        text.as_slice()
+            == b"HTTP/1.1 403 Forbidden\r\nContent-Type: application/json\r\nContent-Length: 41\r\nX-Hub-Revision: 0\r\nConnection: close\r\n\r\n{\"message\":\"no valid token\",\"status\":403}".as_slice()
+    );
+    Ok(())
+}
+
+#[test]
+fn a_wire_refusal_as_text(rt: HostRuntime) -> Result<(), Fail> {
+    let alloc = rt.alloc();
+    match wire_refusal_reply(alloc, WireError::TooLarge(65))? {
+        Some(reply) => {
+            let text = reply_text(alloc, &reply, true)?;
+            assert!(rt;
+                text.as_slice()
+                    == b"HTTP/1.1 413 Payload Too Large\r\nContent-Type: application/json\r\nContent-Length: 36\r\nConnection: close\r\n\r\n{\"message\":\"too large\",\"status\":413}".as_slice()
+            );
+        }
+        None => panic!(rt; "no reply"),
+    }
+    Ok(())
+}
+
+fn request(alloc: Global, method: &str, path: &str) -> Result<Request, AllocError> {
+    Ok(Request {
+        method: Text::from_str(alloc, method)?,
+        path: Text::from_str(alloc, path)?,
+        query: Text::new(alloc),
+        token: None,
+        seen: None,
+        paged: false,
+        close: false,
+        body: Bytes::new(alloc),
+    })
+}
+
+/// The text of the refusal of a request, or nothing where it asks a call.
+fn refusal_text(alloc: Global, method: &str, path: &str) -> Result<Bytes, AllocError> {
+    let router = new_router(alloc)?;
+    match read_call(&router, request(alloc, method, path)?) {
+        Ok(_) => Ok(Bytes::new(alloc)),
+        Err(refusal) => reply_text(alloc, &refusal_reply(alloc, refusal)?, false),
+    }
+}
+
+#[test]
+fn requests_that_ask_no_call(rt: HostRuntime) -> Result<(), Fail> {
+    let alloc = rt.alloc();
+    let text = refusal_text(alloc, "PUT", "/hub/api/user")?;
+    assert!(rt;
+        text.as_slice()
+            == b"HTTP/1.1 405 Method Not Allowed\r\nContent-Type: application/json\r\nContent-Length: 45\r\n\r\n{\"message\":\"method not allowed\",\"status\":405}".as_slice()
+    );
+    let text = refusal_text(alloc, "PUT", "/hub/api/nothing")?;
+    assert!(rt;
+        text.as_slice()
+            == b"HTTP/1.1 404 Not Found\r\nContent-Type: application/json\r\nContent-Length: 39\r\n\r\n{\"message\":\"no such path\",\"status\":404}".as_slice()
+    );
+    Ok(())
+}

@@ -1,0 +1,3 @@
+mod Calendar
+pub mod Places
+pub mod StandsLaws

@@ -1,0 +1,67 @@
+//! The book at a desk, and the job of an asked call.
+ghost use Rattle.std.specs.Prelude.{◌≡◌, false};
+ghost use Rattle.hub_core.specs.Visits.{entries_of, VisitedAt};
+
+use crate::book::Book;
+use crate::call::Asked;
+use crate::change::Change;
+use crate::machine::Machine;
+use crate::reply::Outcome;
+use desk::{Booked, Job};
+use hub_kit::moment::Moment;
+use std::alloc::{AllocError, Global};
+
+impl Booked for Book {
+    /// A change, or nothing where the history isn't told.
+    type Entry = Option<Change>;
+
+    type Base = Machine;
+
+    ghost entries = { entries_of };
+
+    ghost base = { λ b. b.start };
+
+    ghost faults = { λ b. b.faults };
+
+    fn length(&self) -> u64 {
+        self.length()
+    }
+}
+
+/// An asked call that waits for its visit.
+#[derive(Drop)]
+pub struct Ask {
+    pub alloc: Global,
+    pub now: Moment,
+    pub draw: Option<[u8; 16]>,
+    pub asked: Asked,
+    pub acted: bool,
+}
+
+impl Ask {
+    /// A call that is to be answered at this moment. A draw isn't needed by any call that is built.
+    pub fn new(alloc: Global, now: Moment, draw: Option<[u8; 16]>, asked: Asked) -> Ask
+        ensures { result ≡ record { alloc = alloc; now = now; draw = draw; asked = asked; acted = false } }
+    {
+        Ask {
+            alloc,
+            now,
+            draw,
+            asked,
+            acted: false,
+        }
+    }
+}
+
+impl Job<Book> for Ask {
+    type Answer = Result<Outcome, AllocError>;
+
+    ghost acted = { λ j. j.acted };
+
+    ghost does = { λ j b r j' b'. VisitedAt b.start (entries_of b) (entries_of b') j.now j.draw j.asked r };
+
+    fn act(&mut self, book: &mut Book) -> Result<Outcome, AllocError> {
+        self.acted = true;
+        book.visit(self.alloc, self.now, self.draw, &self.asked)
+    }
+}

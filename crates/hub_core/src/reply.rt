@@ -1,0 +1,20 @@
+//! What the hub answers.
+use hub_kit::text::Text;
+use hub_view::Body;
+
+/// A reply. `revision` is the length of the history with the call's own entry, if it made one.
+#[derive(Drop)]
+pub struct Reply {
+    pub status: u16,
+    pub body: Body,
+    pub location: Option<Text>,
+    /// Whether caches may not keep it.
+    pub no_store: bool,
+    pub revision: Option<u64>,
+}
+
+/// What a visit gives.
+#[derive(Drop)]
+pub enum Outcome {
+    Answer(Reply),
+}

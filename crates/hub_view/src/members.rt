@@ -1,0 +1,61 @@
+//! Parts of bodies: texts, lists of texts, and objects whose members stand there where they are shown.
+ghost use Rattle.std.specs.Prelude.{◌≡◌, ◌++◌, map, OnOk, OnErr, IfOk};
+ghost use Rattle.hub_view.specs.Json.{member};
+ghost use Rattle.hub_view.specs.Json as json;
+ghost use Rattle.hub_view.specs.Body.{body_tokens, bodies, members};
+
+use crate::body::Body;
+use hub_kit::text::Text;
+use std::alloc::{AllocError, Global};
+
+/// A text as a body.
+pub fn line(alloc: Global, text: &str) -> Result<Body, AllocError>
+    ensures { IfOk result (λ body. body_tokens body ≡ json.line text.now) }
+{
+    Ok(Body::Line(Text::from_str(alloc, text)?))
+}
+
+/// Texts as a list.
+pub fn lines(alloc: Global, texts: &[&str]) -> Result<Body, AllocError>
+    ensures { IfOk result (λ body. body_tokens body ≡ json.lines (map (λ text. text.now) texts.now)) }
+{
+    let mut items = Vec::new(alloc);
+    for text in texts {
+        items.push(line(alloc, text)?)?;
+    }
+    Ok(Body::Items(items))
+}
+
+/// Adds a member where it is shown. Keys have to come in the order of their bytes.
+pub fn add_member(
+    alloc: Global,
+    fields: &mut Vec<(Text, Body)>,
+    shown: bool,
+    key: &str,
+    value: Body,
+) -> Result<(), AllocError>
+    ensures ok { OnOk result (members fields.new.items ≡ members fields.old.items ++ member shown key.now (body_tokens value)) }
+    ensures err { OnErr result (fields.new.items ≡ fields.old.items) }
+{
+    if shown {
+        let key = Text::from_str(alloc, key)?;
+        fields.push((key, value))?;
+    }
+    Ok(())
+}
+
+/// The body of a refusal: its message and its status.
+pub fn message_body(alloc: Global, status: u16, message: &str) -> Result<Body, AllocError>
+    ensures { IfOk result (λ body. body_tokens body ≡ json.message_body status message.now) }
+{
+    let mut fields = Vec::new(alloc);
+    add_member(alloc, &mut fields, true, "message", line(alloc, message)?)?;
+    add_member(
+        alloc,
+        &mut fields,
+        true,
+        "status",
+        Body::Number(status as u64),
+    )?;
+    Ok(Body::Pairs(fields))
+}

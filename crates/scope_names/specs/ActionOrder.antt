@@ -1,0 +1,45 @@
+-- The order of actions: by their places, and custom ones by their names. It is the order of their texts.
+use Rattle.std.specs.Prelude.{◌≡◌, ℕ, Bool, List, [], ◌∷◌}
+use Rattle.std.proofs.Common.{refl, ap, sym, ◌∙◌, get_or}
+use Rattle.std.specs.Cmp.{IsTotalOrder, on_total}
+use Rattle.std.specs.Cmp.Lexicographic.{nat_list_cmp_total}
+use Rattle.std.specs.Ordering.{eq_by_cmp}
+use Rattle.std.specs.FinMap.{IsAntisymmetric}
+use Rattle.std.proofs.lemmas.Map.Lookups.{exact_bytes}
+use Rattle.std.specs.declared.cmp.Ordering.{Ordering}
+use Rattle.hub_kit.specs.KeyOrder.{name_cmp}
+use Rattle.scope_names.specs.declared.action.Action.{Action}
+use Rattle.scope_names.specs.declared.action.Action.TheVariants.{AccessServers, AccessServices, AdminUi, AdminAuthState, AdminGroups, AdminRoles, AdminServerState, AdminServers, AdminServices, AdminUsers, Custom, DeleteGroups, DeleteServers, DeleteUsers, Groups, GroupsShares, ListGroups, ListServices, ListUsers, Proxy, ReadGroups, ReadGroupsName, ReadGroupsShares, ReadHub, ReadMetrics, ReadRoles, ReadRolesGroups, ReadRolesServices, ReadRolesUsers, ReadServers, ReadServices, ReadServicesName, ReadShares, ReadTokens, ReadUsers, ReadUsersActivity, ReadUsersGroups, ReadUsersName, ReadUsersShares, Servers, Shares, Shutdown, Tokens, Users, UsersActivity, UsersShares}
+use Rattle.scope_names.specs.Actions.{place_of, name_of}
+
+-- what tells an action from every other
+abbrev pub rank : Action → List ℕ
+rank a = place_of a ∷ name_of a
+
+abbrev pub action_cmp : Action → Action → Ordering
+action_cmp a b = name_cmp (rank a) (rank b)
+
+abbrev pub same_action : Action → Action → Bool
+same_action = eq_by_cmp action_cmp
+
+pub actions_total : IsTotalOrder action_cmp
+actions_total = on_total rank nat_list_cmp_total
+
+-- ---- no two actions have one rank
+
+-- all actions, at their places
+placed : List ℕ → List Action
+placed name = AccessServers ∷ AccessServices ∷ AdminUi ∷ AdminAuthState ∷ AdminGroups ∷ AdminRoles ∷ AdminServerState ∷ AdminServers ∷ AdminServices ∷ AdminUsers ∷ Custom name ∷ DeleteGroups ∷ DeleteServers ∷ DeleteUsers ∷ Groups ∷ GroupsShares ∷ ListGroups ∷ ListServices ∷ ListUsers ∷ Proxy ∷ ReadGroups ∷ ReadGroupsName ∷ ReadGroupsShares ∷ ReadHub ∷ ReadMetrics ∷ ReadRoles ∷ ReadRolesGroups ∷ ReadRolesServices ∷ ReadRolesUsers ∷ ReadServers ∷ ReadServices ∷ ReadServicesName ∷ ReadShares ∷ ReadTokens ∷ ReadUsers ∷ ReadUsersActivity ∷ ReadUsersGroups ∷ ReadUsersName ∷ ReadUsersShares ∷ Servers ∷ Shares ∷ Shutdown ∷ Tokens ∷ Users ∷ UsersActivity ∷ UsersShares ∷ []
+
+-- the action of a rank
+unranked : List ℕ → Action
+unranked [] = AccessServers
+unranked (place ∷ name) = get_or (placed name) place AccessServers
+
+unranked-rank : (a : Action) → unranked (rank a) ≡ a
+unfolding unranked placed
+unranked-rank (Custom name) = refl
+unranked-rank _ = refl
+
+pub actions_exact : IsAntisymmetric action_cmp
+actions_exact a b h = sym (unranked-rank a) ∙ ap unranked (exact_bytes (rank a) (rank b) h) ∙ unranked-rank b
