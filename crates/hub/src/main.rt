@@ -1,0 +1,40 @@
+//! The hub: a thin main over `hub_main::run`, with the process's words, standard input and standard output.
+//! What it does is the contract of `run`; the two devices tell no content, so what the system gave and took isn't known.
+#![tactic(auto)]
+
+use hub_kit::text::Text;
+use hub_main::run::{Outside, run};
+use hub_main::standard::{ReaderSource, WriterSink};
+use std::io::ErrorKind;
+use std::process::ExitCode;
+use std::{env, io};
+
+/// The words behind the program's name, or the status: 2 where one is no UTF-8, and 7 where there is no memory for them.
+fn words(rt: &HostRuntime) -> Result<Vec<Text>, u8> {
+    let args = match env::args(rt) {
+        Ok(args) => args,
+        Err(error) if error.kind() == ErrorKind::OutOfMemory => return Err(7),
+        Err(_) => return Err(2),
+    };
+    let mut words = Vec::new(rt.alloc());
+    for arg in args.skip(1) {
+        if words.push(Text::from_string(arg)).is_err() {
+            return Err(7);
+        }
+    }
+    Ok(words)
+}
+
+fn main(rt: HostRuntime) -> ExitCode {
+    let status = match words(&rt) {
+        Ok(words) => {
+            let mut outside = Outside {
+                input: ReaderSource::new(rt.reader()),
+                output: WriterSink::new(io::writer(&rt)),
+            };
+            run(&rt, rt.alloc(), words.as_slice(), &mut outside)
+        }
+        Err(status) => status,
+    };
+    ExitCode::from(status)
+}

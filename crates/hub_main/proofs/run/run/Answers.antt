@@ -1,0 +1,5 @@
+use Rattle.hub_main.proofs.SessionLemmas.{wanting_ends}
+use Rattle.hub_main.proofs.run.run.Goals as goal
+
+pub returns-in-Err-Memory-clause-ends : goal.returns-in-Err-Memory-clause-ends
+returns-in-Err-Memory-clause-ends g c = wanting_ends _ _ _

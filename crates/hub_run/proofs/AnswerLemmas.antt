@@ -1,0 +1,99 @@
+-- A request and what is said to it make a turn.
+use Rattle.std.proofs.Common.{◌≡◌, inl, inr, ◌||◌, ℕ, Bool, true, List, ◌++◌, length, Option, Result, Ok, Err, refl, sym, ap, ◌∙◌, subst, arith}
+use Rattle.http_wire.specs.declared.error.WireError.{WireError}
+use Rattle.http_wire.specs.declared.request.Request.{Request}
+use Rattle.http_wire.specs.Request.{IsRequestText}
+use Rattle.http_wire.specs.Body.{WithinRequest, AtMostDue, RequestRefusedAt}
+use Rattle.hub_core.specs.State.{Hub}
+use Rattle.hub_core.specs.Visits.{Entry}
+use Rattle.hub_core.specs.declared.call.Asked.{Asked}
+use Rattle.hub_core.specs.declared.reply.Outcome.{Outcome}
+use Rattle.hub_api.specs.Calls.{call_read}
+use Rattle.hub_api.specs.Refusals.{api_refusal}
+use Rattle.hub_api.specs.ReplyText.{reply_text, no_memory}
+use Rattle.hub_api.specs.declared.refusal.ApiRefusal.{ApiRefusal}
+use Rattle.hub_core.specs.Replies.{Reply}
+use Rattle.hub_run.specs.Turns.{Turn, visited, declined, refused, wanting, View, Visits, Moves, TurnAt, closes, turn_text, refusal_text}
+use Rattle.hub_run.specs.Steps.{Says, SaysOutcome, Answers, Refuses, StopsAt, TurnEnds}
+use Rattle.hub_run.specs.declared.served.TurnEnd.{TurnEnd}
+use Rattle.hub_run.specs.declared.served.TurnEnd.TheVariants as end
+use Rattle.desk.specs.Passes.{PassState}
+
+-- a request is no more than one request
+pub within : (request : Request) (text : List ℕ) → IsRequestText request text → WithinRequest text
+within request text is =
+    inr (
+      is.head,
+      request.body,
+      is.served,
+      is.printed,
+      subst (λ (due : Result ℕ WireError). AtMostDue due (length request.body)) (sym is.due) (omega arith),
+    )
+
+-- what is to be shown of a turn that answers this request
+abbrev pub Made : Hub → View → View → List ℕ → Bool → List ℕ → Bool → Type 0
+Made start x y text last said closed =
+    (turn : Turn) × ((left : Option (List ℕ)) (rest : List ℕ) → TurnAt start left (text ++ rest) turn rest)
+    × Moves start x turn y × (closed ≡ (closes turn || last)) × (said ≡ turn_text turn closed)
+
+-- no memory for the reply, whatever the visit left
+pub made_wanting : (start : Hub) (x y : View) (request : Request) (text : List ℕ) (last : Bool) (said : List ℕ) (closed : Bool)
+    → IsRequestText request text → Moves start x wanting y → said ≡ no_memory → closed ≡ true → Made start x y text last said closed
+made_wanting start x y request text last said closed is moves text_is closed_is =
+    (wanting, (λ left rest. (text, within request text is, refl)), moves, closed_is, text_is)
+
+pub made_visited : {E : Type 0} (start : Hub) (x y : View) (request : Request) (text : List ℕ) (asked : Asked) (moment : ℕ) (before after : List Entry)
+    (outcome : Result Outcome E) (last : Bool) (said : List ℕ) (closed : Bool)
+    → IsRequestText request text → call_read request ≡ Ok asked → Visits x moment before after y
+    → Answers start moment before after asked outcome → SaysOutcome outcome (request.close || last) said closed
+    → Made start x y text last said closed
+made_visited start x y request text asked moment before after (Ok o) last said closed is read visits answers (r, viewed, inl (text_is, closed_is)) = (
+  visited text request moment before after r,
+  (λ left rest. ((is, (asked, o, read, answers, viewed)), refl)),
+  visits,
+  closed_is,
+  text_is ∙ ap (λ c. reply_text r c) (sym closed_is),
+)
+made_visited start x y request text asked moment before after (Ok o) last said closed is read visits answers (r, viewed, inr (text_is, closed_is)) =
+    made_wanting start x y request text last said closed is
+    (inr (moment, before, after, inr (asked, o, answers), visits)) text_is closed_is
+made_visited start x y request text asked moment before after (Err e) last said closed is read visits answers (text_is, closed_is) =
+    made_wanting start x y request text last said closed is
+    (inr (moment, before, after, inl answers, visits)) text_is closed_is
+
+pub made_declined : (start : Hub) (x : View) (request : Request) (text : List ℕ) (refusal : ApiRefusal) (last : Bool) (said : List ℕ) (closed : Bool)
+    → IsRequestText request text → call_read request ≡ Err refusal → Says (api_refusal refusal) (request.close || last) said closed
+    → Made start x x text last said closed
+made_declined start x request text refusal last said closed is read (inl (text_is, closed_is)) = (
+  declined text request refusal,
+  (λ left rest. ((is, read), refl)),
+  refl,
+  closed_is,
+  text_is ∙ ap (λ c. reply_text (api_refusal refusal) c) (sym closed_is),
+)
+made_declined start x request text refusal last said closed is read (inr (text_is, closed_is)) =
+    made_wanting start x x request text last said closed is (inl refl) text_is closed_is
+
+-- bytes that are no request, and what is said to them
+pub made_refused : (start : Hub) (x : View) (left : Option (List ℕ)) (gone rest : List ℕ) (e : WireError) (last : Bool) (said : List ℕ)
+    → WithinRequest gone → RequestRefusedAt left (gone ++ rest) e → Refuses e said
+    → (turn : Turn) × TurnAt start left (gone ++ rest) turn rest × Moves start x turn x × (true ≡ (closes turn || last)) × (said ≡ turn_text turn true)
+made_refused start x left gone rest e last said part at (inl (r, is, text_is)) =
+    (refused e, (r, gone, is, part, refl, at), refl, refl, text_is ∙ sym (ap (λ (w : Option Reply). refusal_text w true) is))
+made_refused start x left gone rest e last said part at (inr text_is) =
+    (wanting, (gone, part, refl), inl refl, refl, text_is)
+
+abbrev pub at_view : PassState Entry Hub → Option (ℕ → ℕ) → View
+at_view p c = record { pass = p; clock = c }
+
+-- the same pass and the same moments to come
+pub same_view : (p q : PassState Entry Hub) (c d : Option (ℕ → ℕ)) → q ≡ p → d ≡ c → at_view q d ≡ at_view p c
+same_view p q c d e f = rw (e, f) refl
+
+-- nothing was answered and nothing written
+pub stops : (start : Hub) (x y : View) (left held : Option (List ℕ)) (bytes : List ℕ) (e : TurnEnd)
+    → StopsAt left bytes e → y ≡ x → TurnEnds start x y left held held bytes e
+stops start x y left held bytes end.Ended at same = (at, same, refl)
+stops start x y left held bytes end.Cut at same = (at, same, refl)
+stops start x y left held bytes end.ReadFault at same = (at, same, refl)
+stops start x y left held bytes end.WriteFault at same = absurd at

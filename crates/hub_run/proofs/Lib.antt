@@ -1,0 +1,5 @@
+pub mod AnswerLemmas
+pub mod CompleteLemmas
+pub mod EndLemmas
+pub mod RanLemmas
+pub mod TurnsLemmas

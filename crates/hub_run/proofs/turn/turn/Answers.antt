@@ -1,0 +1,41 @@
+use Rattle.std.proofs.Common.{◌∙◌, ℕ, List, sym, subst}
+use Rattle.hub_devices.specs.Streams.{Appends}
+use Rattle.hub_run.proofs.AnswerLemmas.{stops, same_view}
+use Rattle.hub_run.proofs.turn.turn.Goals as goal
+
+pub returns-in-Ok-write_all-clause-ok : goal.returns-in-Ok-write_all-clause-ok
+returns-in-Ok-write_all-clause-ok g c = λ start base.
+    let found = c.in-Ok.ensures.ok start base in (
+      found.0,
+      found.1,
+      found.2,
+      found.3,
+      found.4,
+      found.5,
+      subst (λ (text : List ℕ). Appends (g.O.Sink.held c.args.output.now) text (g.O.Sink.held c.write_all.new.output))
+          (c.as_slice.ensures ∙ found.6) c.in-Ok-write_all.ensures.ok,
+    )
+
+pub returns-in-Ok-clause-err : goal.returns-in-Ok-clause-err
+returns-in-Ok-clause-err g c = λ start base.
+    let found = c.in-Ok.ensures.ok start base in
+    let broken = c.in-Err-write_all.ensures.err in (
+      found.1,
+      found.2,
+      record {
+        turn = found.0;
+        rest = c.next_reply.new.kept;
+        close = c.in-Ok.close;
+        part = broken.0;
+        more = broken.1;
+        at = found.3;
+        moves = found.4;
+        text = sym found.6 ∙ (sym c.as_slice.ensures ∙ broken.2);
+        wrote = broken.3;
+      },
+    )
+
+pub returns-clause-err : goal.returns-clause-err
+returns-clause-err g c = λ start base.
+    let found = c.in-Err.ensures.err in
+    (found.0, found.1, stops start _ _ _ _ found.0 c.in-Err.end found.2 (same_view _ _ _ _ found.3 found.4))

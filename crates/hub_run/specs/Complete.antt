@@ -1,0 +1,23 @@
+-- Which requests have to be answered, and by what.
+use Rattle.std.specs.Prelude.{◌≡◌, ℕ, false, List, Some, Ok}
+use Rattle.http_wire.specs.declared.request.Request.{Request}
+use Rattle.hub_api.specs.Calls.{call_read, asked}
+use Rattle.hub_core.specs.Answer.{is_past}
+use Rattle.hub_core.specs.State.{Hub, good_token}
+use Rattle.hub_core.specs.Visits.{Entry, Reached}
+use Rattle.hub_core.specs.declared.call.Call.TheVariants.{C3}
+use Rattle.hub_core.specs.declared.rows.Token.{Token}
+use Rattle.hub_run.specs.Turns.{Turn, visited, declined, refused, wanting}
+
+-- the turn is of this request, or a 507
+abbrev pub IsOf : Request → Turn → Type 0
+IsOf request (visited text q moment before after r) = q ≡ request
+IsOf request (declined text q e) = q ≡ request
+IsOf request (refused e) = ⊥
+IsOf request wanting = Unit {0}
+
+-- the request asks who its caller is, and in the state that the entries left, at this moment, it names no revision past the history and its token is good
+pub record MayBeTold (start : Hub) (request : Request) (moment : ℕ) (before : List Entry) : Type 0 where
+  pub call : call_read request ≡ Ok (asked request C3)
+  pub seen : (state : Hub) → Reached start before state → is_past state.length request.seen ≡ false
+  pub token : (state : Hub) → Reached start before state → (token : Token) × (good_token state moment request.token ≡ Some token)

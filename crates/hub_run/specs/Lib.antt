@@ -1,0 +1,5 @@
+pub mod Complete
+pub mod Connections
+pub mod Steps
+pub mod Turns
+pub mod Written

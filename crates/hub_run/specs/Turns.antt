@@ -1,0 +1,114 @@
+-- The turns of a connection: what each reads, what it answers, and what it leaves of the pass and of the clock.
+use Rattle.std.specs.Prelude.{◌≡◌, ◌⊎◌, ℕ, Bool, true, List, [], ◌∷◌, ◌++◌, Option, Some, None, Ok, Err}
+use mathlib.Core.List.{IsPrefix}
+use Rattle.desk.specs.Passes.{PassState, IsSamePass}
+use Rattle.desk.specs.OwnEntries.{added}
+use Rattle.hub_devices.specs.ToCome.{Tells}
+use Rattle.http_wire.specs.declared.error.WireError.{WireError}
+use Rattle.http_wire.specs.declared.request.Request.{Request}
+use Rattle.http_wire.specs.Request.{IsRequestText}
+use Rattle.http_wire.specs.Body.{RequestRefusedAt, WithinRequest}
+use Rattle.hub_core.specs.State.{Hub}
+use Rattle.hub_core.specs.Replies.{Reply, answered}
+use Rattle.hub_core.specs.Answers.{outcome_view}
+use Rattle.hub_core.specs.Visits.{Entry, AnsweredAt}
+use Rattle.hub_core.specs.declared.call.Asked.{Asked}
+use Rattle.hub_core.specs.declared.reply.Outcome.{Outcome}
+use Rattle.hub_api.specs.Calls.{call_read}
+use Rattle.hub_api.specs.Refusals.{api_refusal, wire_refusal}
+use Rattle.hub_api.specs.ReplyText.{reply_text, no_memory}
+use Rattle.hub_api.specs.declared.refusal.ApiRefusal.{ApiRefusal}
+
+-- one request, or one refusal of the wire, with its reply
+pub data Turn : Type 0 where
+  -- a request with its bytes whose call was answered by a visit: its moment, the entries that it found and those that it left, and the reply
+  visited : List ℕ → Request → ℕ → List Entry → List Entry → Reply → Turn
+  -- a request with its bytes that asks no call
+  declined : List ℕ → Request → ApiRefusal → Turn
+  -- bytes that are no request
+  refused : WireError → Turn
+  -- no memory for a reply
+  wanting : Turn
+
+-- ---- what is written
+
+abbrev pub refusal_text : Option Reply → Bool → List ℕ
+refusal_text None close = []
+refusal_text (Some r) close = reply_text r close
+
+abbrev pub turn_text : Turn → Bool → List ℕ
+turn_text (visited text q moment before after r) close = reply_text r close
+turn_text (declined text q e) close = reply_text (api_refusal e) close
+turn_text (refused e) close = refusal_text (wire_refusal e) close
+turn_text wanting close = no_memory
+
+-- the connection is closed after it, whatever its place
+abbrev pub closes : Turn → Bool
+closes (visited text q moment before after r) = q.close
+closes (declined text q e) = q.close
+closes (refused e) = true
+closes wanting = true
+
+-- ---- what is read
+
+-- the reply is that of the machine in the state that the entries before the visit left
+abbrev pub IsAnswered : Hub → Request → ℕ → List Entry → List Entry → Reply → Type 0
+IsAnswered start q moment before after r =
+    (asked : Asked) × (o : Outcome) × (call_read q ≡ Ok asked) × AnsweredAt start before after moment None asked o × (outcome_view o ≡ answered r)
+
+-- the bytes of a turn's request
+abbrev pub request_bytes : Turn → List ℕ
+request_bytes (visited text q moment before after r) = text
+request_bytes (declined text q e) = text
+request_bytes (refused e) = []
+request_bytes wanting = []
+
+-- a request, with the reply that it has to get
+abbrev pub IsRight : Hub → Turn → Type 0
+IsRight start (visited text q moment before after r) = IsRequestText q text × IsAnswered start q moment before after r
+IsRight start (declined text q e) = IsRequestText q text × (call_read q ≡ Err e)
+IsRight start (refused e) = ⊥
+IsRight start wanting = ⊥
+
+-- the turn stands at the front of the bytes, and the rest goes on; a 507 takes no more than one request
+abbrev pub TurnAt : Hub → Option (List ℕ) → List ℕ → Turn → List ℕ → Type 0
+TurnAt start left bytes (visited text q moment before after r) rest =
+    IsRight start (visited text q moment before after r) × (bytes ≡ text ++ rest)
+TurnAt start left bytes (declined text q e) rest = IsRight start (declined text q e) × (bytes ≡ text ++ rest)
+TurnAt start left bytes (refused e) rest =
+    (r : Reply) × (gone : List ℕ) × (wire_refusal e ≡ Some r) × WithinRequest gone × (bytes ≡ gone ++ rest) × RequestRefusedAt left bytes e
+TurnAt start left bytes wanting rest = (gone : List ℕ) × WithinRequest gone × (bytes ≡ gone ++ rest)
+
+-- ---- what it leaves
+
+-- what a connection knows beside its bytes: its pass, and the moments to come
+pub record View : Type 0 where
+  pub pass : PassState Entry Hub
+  pub clock : Option (ℕ → ℕ)
+
+-- a visit by the pass p at a moment found the entries `before` and left `after`: it stands after all that the pass had seen, and exactly there where nobody else is
+pub record Visits (x : View) (moment : ℕ) (before after : List Entry) (y : View) : Type 0 where
+  pub begins : IsPrefix x.pass.seen before
+  pub whole : x.pass.alone ≡ true → before ≡ x.pass.seen
+  pub appends : IsPrefix before after
+  pub same : IsSamePass x.pass y.pass
+  pub seen : y.pass.seen ≡ after
+  pub mine : y.pass.mine ≡ x.pass.mine ++ added before after
+  pub told : Tells x.clock moment y.clock
+
+-- the entries that a visit left are those that it found, or those of an answer
+abbrev pub IsLeft : Hub → ℕ → List Entry → List Entry → Type 0
+IsLeft start moment before after =
+    (after ≡ before) ⊎ ((asked : Asked) × (o : Outcome) × AnsweredAt start before after moment None asked o)
+
+abbrev pub Moves : Hub → View → Turn → View → Type 0
+Moves start x (visited text q moment before after r) y = Visits x moment before after y
+Moves start x (declined text q e) y = y ≡ x
+Moves start x (refused e) y = y ≡ x
+Moves start x wanting y =
+    (y ≡ x) ⊎ ((moment : ℕ) × (before after : List Entry) × IsLeft start moment before after × Visits x moment before after y)
+
+-- one turn after the other
+abbrev pub Turns : Hub → View → List Turn → View → Type 0
+Turns start x [] y = y ≡ x
+Turns start x (t ∷ ts) y = (z : View) × Moves start x t z × Turns start z ts y

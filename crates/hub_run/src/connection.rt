@@ -1,0 +1,109 @@
+//! One connection from its first request to its end.
+ghost use Rattle.std.specs.Prelude.{◌≡◌, ◌≤◌, ℕ, Some, Err};
+ghost use Rattle.hub_api.specs.Paths.{hub_rows};
+ghost use Rattle.hub_core.specs.State.{Hub};
+ghost use Rattle.hub_devices.specs.Faults.{Rises};
+ghost use Rattle.hub_run.specs.Connections.{ConnectionEnds};
+
+use crate::served::{Served, TurnEnd};
+use crate::turn::turn;
+use desk::{Desk, Pass};
+use http_wire::buffer::WireBuffer;
+use http_wire::error::SessionFault;
+use http_wire::writes::write_all;
+use hub_api::{ApiRouter, new_router, no_memory};
+use hub_core::Book;
+use hub_devices::clock::Clock;
+use hub_devices::sink::Sink;
+use hub_devices::source::Source;
+use std::alloc::Global;
+use std::sync::Wait;
+
+/// The reply after which a connection is closed in any case.
+pub const REPLY_LIMIT: u64 = 1000;
+
+/// Serves one connection: reads requests one after the other and writes one reply for each. It ends where the input ends,
+/// after a reply that closes the connection (one that a request asks to be the last, one to HTTP/1.0, a refusal of the
+/// wire, a 507, or the thousandth), or at the first fault of the source or the sink.
+pub fn serve_connection<I: Source, O: Sink, C: Clock, W: Wait>(
+    rt: &W,
+    alloc: Global,
+    desk: &Desk<Book>,
+    pass: &mut Pass<Book>,
+    input: &mut I,
+    output: &mut O,
+    clock: &mut C,
+) -> Result<Served, SessionFault>
+    requires { pass.old.of ≡ desk.now }
+    ensures of { pass.new.of ≡ pass.old.of }
+    ensures base { pass.new.base ≡ pass.old.base }
+    ensures ends { (start : Hub) → pass.old.base ≡ Some start
+        → ConnectionEnds start
+        (record { pass = pass.old; clock = C.to_come clock.old }) (I.left input.old) (O.held output.old)
+        (record { pass = pass.new; clock = C.to_come clock.new }) (I.left input.new) (O.held output.new) result }
+    ensures reads { I.faults input.old ≤ I.faults input.new }
+    ensures writes { O.faults output.old ≤ O.faults output.new }
+    ensures read_fault { (n : ℕ) → result ≡ Err (SessionFault.ReadFault n) → Rises (I.faults input.old) (I.faults input.new) }
+    ensures write_fault { (n : ℕ) → result ≡ Err (SessionFault.WriteFault n) → Rises (O.faults output.old) (O.faults output.new) }
+{
+    match new_router(alloc) {
+        Ok(router) => serve_turns(rt, alloc, &router, desk, pass, input, output, clock),
+        Err(_) => match write_all(output, no_memory()) {
+            Ok(()) => Ok(Served::Closed(1)),
+            Err(_) => Err(SessionFault::WriteFault(0)),
+        },
+    }
+}
+
+/// The turns of a connection, by a router of its own.
+fn serve_turns<I: Source, O: Sink, C: Clock, W: Wait>(
+    rt: &W,
+    alloc: Global,
+    router: &ApiRouter,
+    desk: &Desk<Book>,
+    pass: &mut Pass<Book>,
+    input: &mut I,
+    output: &mut O,
+    clock: &mut C,
+) -> Result<Served, SessionFault>
+    requires of { pass.old.of ≡ desk.now }
+    requires rows { router.now ≡ hub_rows }
+    ensures of { pass.new.of ≡ pass.old.of }
+    ensures base { pass.new.base ≡ pass.old.base }
+    ensures ends { (start : Hub) → pass.old.base ≡ Some start
+        → ConnectionEnds start
+        (record { pass = pass.old; clock = C.to_come clock.old }) (I.left input.old) (O.held output.old)
+        (record { pass = pass.new; clock = C.to_come clock.new }) (I.left input.new) (O.held output.new) result }
+    ensures reads { I.faults input.old ≤ I.faults input.new }
+    ensures writes { O.faults output.old ≤ O.faults output.new }
+    ensures read_fault { (n : ℕ) → result ≡ Err (SessionFault.ReadFault n) → Rises (I.faults input.old) (I.faults input.new) }
+    ensures write_fault { (n : ℕ) → result ≡ Err (SessionFault.WriteFault n) → Rises (O.faults output.old) (O.faults output.new) }
+{
+    let mut kept = WireBuffer::new(alloc);
+    let mut count = 0;
+    'turns: loop {
+        match turn(
+            rt,
+            alloc,
+            router,
+            desk,
+            pass,
+            input,
+            output,
+            &mut kept,
+            clock,
+            count + 1 == REPLY_LIMIT,
+        ) {
+            Ok(close) => {
+                count += 1;
+                if close {
+                    return Ok(Served::Closed(count));
+                }
+            }
+            Err(TurnEnd::Ended) => return Ok(Served::Ended(count)),
+            Err(TurnEnd::Cut) => return Ok(Served::Cut(count)),
+            Err(TurnEnd::ReadFault) => return Err(SessionFault::ReadFault(count)),
+            Err(TurnEnd::WriteFault) => return Err(SessionFault::WriteFault(count)),
+        }
+    }
+}

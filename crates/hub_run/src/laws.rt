@@ -1,0 +1,26 @@
+//! What the contract of a connection comes to.
+ghost use Rattle.std.specs.Prelude.{◌≡◌, ◌++◌, ℕ, List, Option};
+ghost use Rattle.http_wire.specs.Request.{IsRequestText};
+ghost use Rattle.http_wire.specs.declared.request.Request.{Request};
+ghost use Rattle.hub_core.specs.Replies.{Reply};
+ghost use Rattle.hub_core.specs.State.{Hub};
+ghost use Rattle.hub_core.specs.Visits.{Entry};
+ghost use Rattle.hub_run.specs.Complete.{IsOf, MayBeTold};
+ghost use Rattle.hub_run.specs.Turns.{Turn, TurnAt, IsAnswered};
+
+use http_wire::laws::next_request_is_one;
+
+/// The turn at the front of bytes that begin with a request is of this very request, unless it is a 507.
+pub fn a_request_gets_its_turn()
+    ensures { (start : Hub) (left : Option (List ℕ)) (text more rest : List ℕ) (request : Request) (turn : Turn)
+        → IsRequestText request text → TurnAt start left (text ++ more) turn rest → IsOf request turn }
+{
+    next_request_is_one()
+}
+
+/// A visited request for the identity, with a good token and with no revision named that is past the history, is answered
+/// 200. So where no count of faults rose, it is answered 200 or 507.
+pub fn a_good_request_is_answered()
+    ensures { (start : Hub) (request : Request) (moment : ℕ) (before after : List Entry) (r : Reply)
+        → IsAnswered start request moment before after r → MayBeTold start request moment before → r.status ≡ 200 }
+{}

@@ -1,0 +1,18 @@
+//! Connections: requests in, replies out, over one desk that many connections share.
+//! The contract of `serve_connection` carries it: the sink gets exactly the replies, each that of the book at its place in
+//! the one history, of the requests at the front of the bytes that were taken, however they are cut. Programs stand above.
+#![tactic(auto)]
+
+mod answering;
+mod connection;
+mod laws;
+mod served;
+#[cfg(test)]
+mod tests;
+mod turn;
+mod visit;
+mod written;
+
+pub use connection::{REPLY_LIMIT, serve_connection};
+pub use laws::{a_good_request_is_answered, a_request_gets_its_turn};
+pub use served::Served;

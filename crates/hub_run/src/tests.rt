@@ -1,0 +1,127 @@
+//! Whole connections over memory: what is written, and how they end.
+use crate::{Served, serve_connection};
+use desk::Desk;
+use http_wire::error::SessionFault;
+use hub_core::{Book, HubConfig};
+use hub_devices::mem_bytes::{MemSink, MemSource};
+use hub_devices::mem_clock::FixedClock;
+use hub_kit::bytes::Bytes;
+use hub_kit::moments::moment;
+use hub_kit::names::read_user;
+use hub_kit::text::Text;
+use std::alloc::Global;
+use std::sync::Wait;
+use std::test::Fail;
+
+const IDENTITY: &[u8] =
+    b"GET /hub/api/user HTTP/1.1\r\nHost: hub\r\nAuthorization: token secret-token-ann\r\n\r\n";
+
+const IDENTITY_REPLY: &[u8] =
+    b"HTTP/1.1 200 OK\r\nContent-Type: application/json\r\nContent-Length: 142\r\nX-Hub-Revision: 0\r\n\r\n{\"admin\":false,\"created\":\"2023-11-14T22:13:20Z\",\"groups\":[],\"kind\":\"user\",\"last_activity\":null,\"name\":\"ann\",\"scopes\":[\"inherit\"],\"servers\":{}}";
+
+/// Serves one connection for ann. The numbers are those of the read and the write that are to fail.
+fn serve<W: Wait>(
+    rt: &W,
+    alloc: Global,
+    input: &[u8],
+    cut: usize,
+    failing_read: u64,
+    failing_write: u64,
+) -> Result<(Result<Served, SessionFault>, MemSink), Fail> {
+    let Some(now) = moment(1_700_000_000) else {
+        return Err("no moment".into());
+    };
+    let Ok(user) = read_user(b"ann") else {
+        return Err("no name".into());
+    };
+    let config = HubConfig {
+        user,
+        admin: false,
+        token: Text::from_str(alloc, "secret-token-ann")?,
+        expires_at: None,
+    };
+    let Ok((desk, mut pass)) = Desk::open(alloc, Book::open(alloc, &config, now)?) else {
+        return Err("no desk".into());
+    };
+    let mut source = MemSource::new(
+        Bytes::from_slice(alloc, input)?,
+        cut,
+        Vec::from_slice(alloc, &[failing_read])?,
+    );
+    let mut sink = MemSink::new(alloc, Vec::from_slice(alloc, &[failing_write])?);
+    let mut clock = FixedClock(now);
+    let served = serve_connection(
+        rt,
+        alloc,
+        &desk,
+        &mut pass,
+        &mut source,
+        &mut sink,
+        &mut clock,
+    );
+    Ok((served, sink))
+}
+
+#[test]
+fn every_cutting_gets_the_same_replies(rt: HostRuntime) -> Result<(), Fail> {
+    let mut twice = Bytes::from_slice(rt.alloc(), IDENTITY)?;
+    twice.push_all(IDENTITY)?;
+    let mut replies = Bytes::from_slice(rt.alloc(), IDENTITY_REPLY)?;
+    replies.push_all(IDENTITY_REPLY)?;
+    for cut in [1, 7, 10_000] {
+        let (served, sink) = serve(&rt, rt.alloc(), twice.as_slice(), cut, 999, 999)?;
+        assert!(rt; served == Ok(Served::Ended(2)));
+        assert!(rt; sink.as_slice() == replies.as_slice());
+    }
+    let (served, sink) = serve(
+        &rt,
+        rt.alloc(),
+        &IDENTITY[..IDENTITY.len() - 1],
+        1,
+        999,
+        999,
+    )?;
+    assert!(rt; served == Ok(Served::Cut(0)) && sink.as_slice().is_empty());
+    Ok(())
+}
+
+#[test]
+fn refusals_and_ends(rt: HostRuntime) -> Result<(), Fail> {
+    let cases: [(&[u8], Served, &[u8]); 4] = [
+        (
+            b"GET /hub/api/user HTTP/1.1\r\n\r\n",
+            Served::Ended(1),
+            b"HTTP/1.1 403 Forbidden\r\nContent-Type: application/json\r\nContent-Length: 41\r\nX-Hub-Revision: 0\r\n\r\n{\"message\":\"no valid token\",\"status\":403}",
+        ),
+        (
+            b"GET /hub/api/user HTTP/1.1\r\nX-Hub-Seen: 1\r\nConnection: close\r\n\r\n",
+            Served::Closed(1),
+            b"HTTP/1.1 412 Precondition Failed\r\nContent-Type: application/json\r\nContent-Length: 45\r\nX-Hub-Revision: 0\r\nConnection: close\r\n\r\n{\"message\":\"seen 1, revision 0\",\"status\":412}",
+        ),
+        (
+            b"GET /hub/api/nothing HTTP/1.0\r\n\r\n",
+            Served::Closed(1),
+            b"HTTP/1.1 404 Not Found\r\nContent-Type: application/json\r\nContent-Length: 39\r\nConnection: close\r\n\r\n{\"message\":\"no such path\",\"status\":404}",
+        ),
+        (
+            b"\0",
+            Served::Closed(1),
+            b"HTTP/1.1 400 Bad Request\r\nContent-Type: application/json\r\nContent-Length: 35\r\nConnection: close\r\n\r\n{\"message\":\"bad head\",\"status\":400}",
+        ),
+    ];
+    for (input, end, text) in cases {
+        let (served, sink) = serve(&rt, rt.alloc(), input, 5, 999, 999)?;
+        assert!(rt; served == Ok(end));
+        assert!(rt; sink.as_slice() == text);
+    }
+    Ok(())
+}
+
+#[test]
+fn faults_end_the_connection(rt: HostRuntime) -> Result<(), Fail> {
+    let (read, _) = serve(&rt, rt.alloc(), IDENTITY, 10, 0, 999)?;
+    assert!(rt; read == Err(SessionFault::ReadFault(0)));
+    let (write, sink) = serve(&rt, rt.alloc(), IDENTITY, 10, 999, 0)?;
+    assert!(rt; write == Err(SessionFault::WriteFault(0)) && sink.as_slice().is_empty());
+    Ok(())
+}

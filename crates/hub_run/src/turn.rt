@@ -1,0 +1,103 @@
+//! One turn: what comes next is read, and its reply is written.
+ghost use Rattle.std.specs.Prelude.{◌≡◌, ◌≤◌, ◌||◌, ◌++◌, ℕ, true, List, Some, IfOk, IfErr};
+ghost use Rattle.hub_devices.specs.Streams.{Appends};
+ghost use Rattle.hub_devices.specs.Faults.{Rises};
+ghost use Rattle.http_wire.specs.Took.{Took};
+ghost use Rattle.http_wire.specs.Request.{IsRequestText};
+ghost use Rattle.hub_api.specs.Paths.{hub_rows};
+ghost use Rattle.hub_core.specs.State.{Hub};
+ghost use Rattle.hub_run.specs.Steps.{StopsAt, TurnEnds};
+ghost use Rattle.hub_run.specs.Turns.{Turn, TurnAt, Moves, turn_text, closes};
+ghost use Rattle.hub_run.specs.Written.{written_bytes};
+
+use crate::answering::answer;
+use crate::served::TurnEnd;
+use crate::written::{Written, text_of_wire};
+use desk::{Desk, Pass};
+use http_wire::buffer::WireBuffer;
+use http_wire::error::WireError;
+use http_wire::requests::read_request;
+use http_wire::writes::write_all;
+use hub_api::ApiRouter;
+use hub_core::Book;
+use hub_devices::clock::Clock;
+use hub_devices::sink::Sink;
+use hub_devices::source::Source;
+use std::alloc::Global;
+use std::sync::Wait;
+
+/// Reads what comes next, and makes its reply. `true` says that the connection is to be closed.
+fn next_reply<I: Source, C: Clock, W: Wait>(
+    rt: &W,
+    alloc: Global,
+    router: &ApiRouter,
+    desk: &Desk<Book>,
+    pass: &mut Pass<Book>,
+    input: &mut I,
+    kept: &mut WireBuffer,
+    clock: &mut C,
+    last: bool,
+) -> Result<(Written, bool), TurnEnd>
+    requires of { pass.old.of ≡ desk.now }
+    requires rows { router.now ≡ hub_rows }
+    ensures of { pass.new.of ≡ pass.old.of }
+    ensures base { pass.new.base ≡ pass.old.base }
+    ensures last { IfOk result (λ r. last ≡ true → r.1 ≡ true) }
+    ensures ok { (start : Hub) → pass.old.base ≡ Some start → IfOk result (λ r. (turn : Turn) × (bytes : List ℕ)
+        × Took (I.left input.old) kept.old (I.left input.new) bytes × TurnAt start (I.left input.new) bytes turn kept.new
+        × Moves start (record { pass = pass.old; clock = C.to_come clock.old }) turn (record { pass = pass.new; clock = C.to_come clock.new })
+        × (r.1 ≡ (closes turn || last)) × (written_bytes r.0 ≡ turn_text turn r.1)) }
+    ensures err { IfErr result (λ e. (bytes : List ℕ) × Took (I.left input.old) kept.old (I.left input.new) bytes
+        × StopsAt (I.left input.new) bytes e × (pass.new ≡ pass.old) × (C.to_come clock.new ≡ C.to_come clock.old)) }
+    ensures counted { I.faults input.old ≤ I.faults input.new }
+    ensures cause { result ≡ Err TurnEnd.ReadFault → Rises (I.faults input.old) (I.faults input.new) }
+{
+    match read_request(alloc, input, kept) {
+        Ok(request) => Ok(answer(rt, alloc, router, desk, pass, clock, request, last)),
+        Err(WireError::Ended) => Err(TurnEnd::Ended),
+        Err(WireError::Cut) => Err(TurnEnd::Cut),
+        Err(WireError::ReadFault) => Err(TurnEnd::ReadFault),
+        Err(error) => Ok((text_of_wire(alloc, error), true)),
+    }
+}
+
+/// Reads what comes next and writes its reply. `true` says that the connection is to be closed.
+pub(crate) fn turn<I: Source, O: Sink, C: Clock, W: Wait>(
+    rt: &W,
+    alloc: Global,
+    router: &ApiRouter,
+    desk: &Desk<Book>,
+    pass: &mut Pass<Book>,
+    input: &mut I,
+    output: &mut O,
+    kept: &mut WireBuffer,
+    clock: &mut C,
+    last: bool,
+) -> Result<bool, TurnEnd>
+    requires of { pass.old.of ≡ desk.now }
+    requires rows { router.now ≡ hub_rows }
+    ensures of { pass.new.of ≡ pass.old.of }
+    ensures base { pass.new.base ≡ pass.old.base }
+    ensures last { IfOk result (λ close. last ≡ true → close ≡ true) }
+    ensures ok { (start : Hub) → pass.old.base ≡ Some start → IfOk result (λ close. (turn : Turn) × (bytes : List ℕ)
+        × Took (I.left input.old) kept.old (I.left input.new) bytes × TurnAt start (I.left input.new) bytes turn kept.new
+        × Moves start (record { pass = pass.old; clock = C.to_come clock.old }) turn (record { pass = pass.new; clock = C.to_come clock.new })
+        × (close ≡ (closes turn || last))
+        × Appends (O.held output.old) (turn_text turn close) (O.held output.new)) }
+    ensures err { (start : Hub) → pass.old.base ≡ Some start → IfErr result (λ e. (bytes : List ℕ)
+        × Took (I.left input.old) kept.old (I.left input.new) bytes
+        × TurnEnds start (record { pass = pass.old; clock = C.to_come clock.old }) (record { pass = pass.new; clock = C.to_come clock.new })
+        (I.left input.new) (O.held output.old) (O.held output.new) bytes e) }
+    ensures reads { I.faults input.old ≤ I.faults input.new }
+    ensures writes { O.faults output.old ≤ O.faults output.new }
+    ensures read_fault { result ≡ Err TurnEnd.ReadFault → Rises (I.faults input.old) (I.faults input.new) }
+    ensures write_fault { result ≡ Err TurnEnd.WriteFault → Rises (O.faults output.old) (O.faults output.new) }
+{
+    match next_reply(rt, alloc, router, desk, pass, input, kept, clock, last) {
+        Ok((written, close)) => match write_all(output, written.as_slice()) {
+            Ok(()) => Ok(close),
+            Err(_) => Err(TurnEnd::WriteFault),
+        },
+        Err(end) => Err(end),
+    }
+}

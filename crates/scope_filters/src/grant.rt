@@ -1,0 +1,175 @@
+//! Grants: for each action a set of filters.
+ghost use Rattle.std.specs.Prelude.{◌≡◌, ◌<◌, ◌^◌, OnOk, OnErr};
+ghost use Rattle.std.specs.Option.{option_copied};
+ghost use Rattle.std.specs.FinMap as map;
+ghost use Rattle.std.specs.BTreeMap as tree;
+ghost use Rattle.std.specs.BTreeMap.{IsOrdered};
+ghost use Rattle.std.specs.Map.Iter.{ShowsInOrder, deref, deref_pair};
+ghost use Rattle.keyed_rows.specs.Rows.{map_of};
+ghost use Rattle.scope_filters.specs.FilterOrder.{filter_cmp};
+ghost use Rattle.scope_filters.specs.Admits.{any_admits};
+ghost use Rattle.scope_names.specs.ActionOrder.{action_cmp};
+ghost use Rattle.scope_filters.specs.Grants.{with_filter, AdmitsMore};
+
+use crate::filter::Filter;
+use crate::members::Members;
+use crate::object::Object;
+use scope_names::action::Action;
+use std::alloc::{AllocError, Global};
+use std::collections::BTreeMap;
+use std::collections::btree_map::{Iter, Keys};
+use std::marker::Model;
+
+/// A set of filters, fewer than 2^64.
+#[derive(Drop)]
+pub struct Filters {
+    items: BTreeMap<Filter, ()>,
+}
+
+impl Model for Filters {
+    ghost use Rattle.std.specs.FinSet.{FinSet};
+    ghost use Rattle.std.specs.FinMap.{code};
+    ghost use Rattle.std.specs.Coded.{codes};
+    ghost use Rattle.keyed_rows.specs.Rows.{map_of};
+    ghost use Rattle.scope_filters.specs.FilterOrder.{filter_cmp};
+
+    ghost Value = { FinSet filter_cmp };
+
+    ghost coded = { Prim.hlevel (codes, code) };
+
+    ghost view = { λ a. map_of filter_cmp a.items };
+}
+
+impl Filters {
+    /// No filters, which takes no memory.
+    pub fn new(alloc: Global) -> Filters
+        ensures { result ≡ map.empty }
+    {
+        Filters {
+            items: BTreeMap::new(alloc),
+        }
+    }
+
+    /// Adds a filter.
+    pub fn insert(&mut self, filter: Filter) -> Result<(), AllocError>
+        ensures ok { OnOk result (self.new ≡ map.insert self.old filter tt) }
+        ensures err { OnErr result (self.new ≡ self.old) }
+    {
+        keyed_rows::insert_row(&mut self.items, filter, ())
+    }
+
+    /// The number of the filters.
+    pub fn len(&self) -> usize
+        ensures { result ≡ map.len self.now }
+    {
+        number_of(&self.items)
+    }
+
+    /// The filters, in their order.
+    pub fn iter(&self) -> Keys<'_, Filter, ()>
+        ensures items { result ≡ map.keys self.now }
+        ensures runs { ShowsInOrder (deref {X = Filter}) }
+    {
+        self.items.keys()
+    }
+
+    /// Whether one of the filters admits the action on the object. Takes no memory.
+    pub fn admits<M: Members>(&self, action: Action, object: &Object, members: &M) -> bool
+        ensures { result ≡ any_admits action (M.context members.now) (map.keys self.now) object.now }
+    {
+        any_of(&self.items, action, object, members)
+    }
+}
+
+fn any_of<M: Members>(
+    items: &BTreeMap<Filter, ()>,
+    action: Action,
+    object: &Object,
+    members: &M,
+) -> bool
+    ensures value { result ≡ any_admits action (M.context members.now) (tree.keys items.now) object.now }
+    ensures ordered { IsOrdered filter_cmp items.now }
+{
+    items.keys().any(|f| f.admits(action, object, members))
+}
+
+fn number_of(items: &BTreeMap<Filter, ()>) -> usize
+    ensures { result ≡ map.len (map_of filter_cmp items.now) }
+{
+    items.len()
+}
+
+/// What may be done: an action on each object that a filter under the action admits.
+#[derive(Drop)]
+pub struct Grant {
+    rows: BTreeMap<Action, Filters>,
+    alloc: Global,
+}
+
+impl Model for Grant {
+    ghost use Rattle.std.specs.FinMap.{code};
+    ghost use Rattle.std.specs.Coded.{codes};
+    ghost use Rattle.keyed_rows.specs.Rows.{map_of};
+    ghost use Rattle.scope_names.specs.ActionOrder.{action_cmp};
+    ghost use Rattle.scope_filters.specs.Grants.{Rights};
+
+    ghost Value = { Rights };
+
+    ghost coded = { Prim.hlevel (codes, code) };
+
+    ghost view = { λ a. map_of action_cmp a.rows };
+}
+
+impl Grant {
+    /// A grant of nothing, which takes no memory. It keeps the allocator for what is added.
+    pub fn new(alloc: Global) -> Grant
+        ensures { result ≡ map.empty }
+    {
+        Grant {
+            rows: BTreeMap::new(alloc),
+            alloc,
+        }
+    }
+
+    /// Adds a filter under an action.
+    pub fn add(&mut self, action: Action, filter: Filter) -> Result<(), AllocError>
+        ensures ok { OnOk result (self.new ≡ with_filter self.old action filter) }
+        ensures err { OnErr result (self.new ≡ self.old) }
+        ensures admits { OnOk result (AdmitsMore self.old action filter self.new) }
+    {
+        add_filter(self.alloc, &mut self.rows, action, filter)
+    }
+
+    /// The filters under an action.
+    pub fn at(&self, action: &Action) -> Option<&Filters>
+        ensures { option_copied result ≡ map.get self.now action.now }
+    {
+        keyed_rows::row_at(&self.rows, action)
+    }
+
+    /// Each action with its filters, in the order of the actions.
+    pub fn iter(&self) -> Iter<'_, Action, Filters>
+        ensures items { result ≡ map.entries self.now }
+        ensures runs { ShowsInOrder (deref_pair {K = Action} {X = Filters}) }
+    {
+        self.rows.iter()
+    }
+}
+
+fn add_filter(
+    alloc: Global,
+    rows: &mut BTreeMap<Action, Filters>,
+    action: Action,
+    filter: Filter,
+) -> Result<(), AllocError>
+    ensures ok { OnOk result (map_of action_cmp rows.new ≡ with_filter (map_of action_cmp rows.old) action filter) }
+    ensures err { OnErr result (map_of action_cmp rows.new ≡ map_of action_cmp rows.old) }
+{
+    match rows.get_mut(&action) {
+        Some(filters) => return filters.insert(filter),
+        None => (),
+    }
+    let mut filters = Filters::new(alloc);
+    filters.insert(filter)?;
+    keyed_rows::insert_row(rows, action, filters)
+}
