@@ -1,0 +1,4 @@
+pub mod Held
+pub mod Joins
+pub mod Meanings
+pub mod Ones

@@ -1,0 +1,4 @@
+pub mod Containment
+pub mod FilterTexts
+pub mod Meets
+pub mod Named
