@@ -110,6 +110,12 @@ Ran_stop {start} {left} {held} {left1} {held1} {left2} {held2} {turns} {kept} by
     subst (λ (h : Option (List ℕ)). Ran start left held left2 h turns bytes []) (sym same)
     (Ran_took start left held left1 held1 left2 turns kept bytes [] ran took)
 
+-- nothing is ahead
+pub Ran_ended : {start : Hub} {left held left1 held1 : Option (List ℕ)} {turns : List Turn} {bytes : List ℕ}
+    → Ran start left held left1 held1 turns bytes [] → bytes ≡ [] → Ran start left held left1 held1 turns [] []
+Ran_ended {start} {left} {held} {left1} {held1} {turns} {bytes} ran none =
+    subst (λ (b : List ℕ). Ran start left held left1 held1 turns b []) none ran
+
 -- the turn after which the connection is closed
 pub Ran_last : {start : Hub} {left held left1 held1 : Option (List ℕ)} {turns : List Turn} {bytes : List ℕ} → (t : Turn) (close : Bool)
     → Ran start left held left1 held1 turns bytes (turn_text t close) → close ≡ true → Ran start left held left1 held1 turns bytes (turn_text t true)

@@ -1,7 +1,7 @@
 -- A whole connection: what was taken and written, and how it ended.
 use Rattle.std.specs.Prelude.{◌≡◌, ◌+◌, ◌||◌, ◌==◌, ℕ, Bool, true, false, List, [], ◌∷◌, ◌++◌, length, All, Option, Result, Ok, Err}
 use Rattle.std.specs.List.{flat_map}
-use Rattle.hub_devices.specs.Streams.{Appends}
+use Rattle.hub_devices.specs.Streams.{Appends, IsEnd}
 use Rattle.http_wire.specs.Took.{Took}
 use Rattle.http_wire.specs.Body.{RequestRefusedAt}
 use Rattle.http_wire.specs.declared.error.WireError.TheVariants as wire
@@ -26,8 +26,7 @@ pub record Ran
 -- how a connection ended, which began with the view x and a source and a sink that told `left` and `held`, for a book that began with `start`
 abbrev pub ConnectionEnds : Hub → View → Option (List ℕ) → Option (List ℕ) → View → Option (List ℕ) → Option (List ℕ) → Result Served SessionFault → Type 0
 ConnectionEnds start x left held y left' held' (Ok (Ended n)) =
-    (turns : List Turn) × (part : List ℕ) × (length turns ≡ n) × Ran start left held left' held' turns part [] × Turns start x turns y
-    × RequestRefusedAt left' part wire.Ended
+    (turns : List Turn) × (length turns ≡ n) × Ran start left held left' held' turns [] [] × Turns start x turns y × IsEnd left'
 ConnectionEnds start x left held y left' held' (Ok (Cut n)) =
     (turns : List Turn) × (part : List ℕ) × (length turns ≡ n) × Ran start left held left' held' turns part [] × Turns start x turns y
     × RequestRefusedAt left' part wire.Cut

@@ -1,9 +1,9 @@
 use Rattle.std.proofs.Common.{◌+◌, ◌++◌, ◌∷◌, ◌∙◌, [], sym, ap, refl, arith}
 use Rattle.std.proofs.lemmas.List.{length_push}
 use Rattle.hub_run.specs.Turns.{turn_text}
-use Rattle.hub_run.proofs.RanLemmas.{Ran_empty, Ran_stop, Ran_reply, Ran_turn, Ran_last, below_limit}
+use Rattle.hub_run.proofs.RanLemmas.{Ran_empty, Ran_stop, Ran_reply, Ran_turn, Ran_last, Ran_ended, below_limit}
 use Rattle.hub_run.proofs.TurnsLemmas.{turns_more}
-use Rattle.hub_run.proofs.EndLemmas.{turns_same}
+use Rattle.hub_run.proofs.EndLemmas.{turns_same, ended_is_empty, ended_is_end}
 use Rattle.hub_run.proofs.connection.serve_turns.Goals as goal
 
 pub turns-init : goal.turns-init
@@ -54,7 +54,13 @@ pub returns-in-Err-Ended-clause-ends : goal.returns-in-Err-Ended-clause-ends
 returns-in-Err-Ended-clause-ends g c = λ start base.
     let before = c.turns.invariant.ran start base in
     let found = rw c.in-Err-Ended.field-0-is at c.in-Err-Ended.ensures.err start (c.turns.invariant.base ∙ base) in
-    (before.0, found.0, before.1, Ran_stop found.0 before.2 found.1 found.2.2, turns_same start _ _ _ before.0 before.3 found.2.1, found.2.0)
+    let ran = Ran_stop found.0 before.2 found.1 found.2.2 in (
+      before.0,
+      before.1,
+      Ran_ended ran (ended_is_empty _ found.0 found.2.0),
+      turns_same start _ _ _ before.0 before.3 found.2.1,
+      ended_is_end _ found.0 found.2.0,
+    )
 
 pub returns-in-Err-Cut-clause-ends : goal.returns-in-Err-Cut-clause-ends
 returns-in-Err-Cut-clause-ends g c = λ start base.
