@@ -13,7 +13,10 @@ pub struct ReaderSource<R: Read + Drop> {
 }
 
 impl<R: Read + Drop> ReaderSource<R> {
-    pub fn new(reader: R) -> ReaderSource<R> {
+    /// A source that has not failed yet.
+    pub fn new(reader: R) -> ReaderSource<R>
+        ensures { ⟦<ReaderSource<R> as Source>⟧.faults result ≡ 0 }
+    {
         ReaderSource { reader, faults: 0 }
     }
 }
@@ -42,7 +45,10 @@ pub struct WriterSink<W: Write + Drop> {
 }
 
 impl<W: Write + Drop> WriterSink<W> {
-    pub fn new(writer: W) -> WriterSink<W> {
+    /// A sink that has not failed yet.
+    pub fn new(writer: W) -> WriterSink<W>
+        ensures { ⟦<WriterSink<W> as Sink>⟧.faults result ≡ 0 }
+    {
         WriterSink { writer, faults: 0 }
     }
 }
