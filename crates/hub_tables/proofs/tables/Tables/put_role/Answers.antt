@@ -1,0 +1,14 @@
+use Rattle.std.specs.Cmp.Lexicographic.{nat_list_cmp_total}
+use Rattle.keyed_rows.proofs.Finite.{own_put}
+use Rattle.hub_tables.specs.declared.records.Role.{Role}
+use Rattle.hub_tables.specs.Kept.{Roles}
+use Rattle.hub_tables.specs.ShareOrder.{names_exact}
+use Rattle.hub_tables.proofs.Kept.{roles_kept}
+use Rattle.hub_tables.proofs.tables.Tables.put_role.Goals as goal
+
+pub invariant_of-self : goal.invariant_of-self
+invariant_of-self c =
+    roles_kept c.self.inside.trees c.put.new.rows c.self.invariant (own_put nat_list_cmp_total names_exact (λ (row : Role). row.name) _ _ c.args.value c.put.result c.put.ensures.ok c.put.ensures.err (c.self.invariant Roles))
+
+pub returns-clause-answer : goal.returns-clause-answer
+returns-clause-answer c = rw (← c.self.view_is) c.put.ensures.answer

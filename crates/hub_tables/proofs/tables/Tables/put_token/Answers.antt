@@ -1,0 +1,21 @@
+use Rattle.std.specs.Cmp.{nat_cmp_total}
+use Rattle.std.specs.FinMap.{nat_cmp-IsAntisymmetric}
+use Rattle.keyed_rows.proofs.Finite.{own_put}
+use Rattle.hub_tables.specs.declared.records.Token.{Token}
+use Rattle.hub_tables.specs.Kept.{Tokens}
+use Rattle.hub_tables.proofs.Kept.{tokens_kept}
+use Rattle.hub_tables.proofs.tables.Tables.put_token.Goals as goal
+
+pub put_hashed-requires-clause-indexed : goal.put_hashed-requires-clause-indexed
+put_hashed-requires-clause-indexed c = (c.self.invariant Tokens).indexed
+
+pub invariant_of-self : goal.invariant_of-self
+invariant_of-self c =
+    tokens_kept c.self.inside.trees c.put_hashed.new.rows c.put_hashed.new.ids c.self.invariant (record {
+      own = own_put nat_cmp_total nat_cmp-IsAntisymmetric (λ (row : Token). row.id) _ _ c.args.value c.put_hashed.result c.put_hashed.ensures.ok c.put_hashed.ensures.err (c.self.invariant Tokens).own;
+      ordered = c.put_hashed.ensures.ordered;
+      indexed = c.put_hashed.ensures.indexed;
+    })
+
+pub returns-clause-answer : goal.returns-clause-answer
+returns-clause-answer c = rw (← c.self.view_is) c.put_hashed.ensures.answer

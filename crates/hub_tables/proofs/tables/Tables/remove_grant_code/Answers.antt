@@ -1,0 +1,11 @@
+use Rattle.std.specs.Cmp.Lexicographic.{nat_list_cmp_total}
+use Rattle.keyed_rows.proofs.Finite.{own_removed}
+use Rattle.hub_tables.specs.declared.records.OAuthCode.{OAuthCode}
+use Rattle.hub_tables.specs.Kept.{GrantCodes}
+use Rattle.hub_tables.specs.ShareOrder.{names_exact}
+use Rattle.hub_tables.proofs.Kept.{grant_codes_kept}
+use Rattle.hub_tables.proofs.tables.Tables.remove_grant_code.Goals as goal
+
+pub invariant_of-self : goal.invariant_of-self
+invariant_of-self c =
+    grant_codes_kept c.self.inside.trees c.remove_row.new.rows c.self.invariant (own_removed nat_list_cmp_total names_exact (λ (row : OAuthCode). row.hash) _ _ c.args.key.now c.remove_row.ensures.removed (c.self.invariant GrantCodes))

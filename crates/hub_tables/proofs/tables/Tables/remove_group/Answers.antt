@@ -1,0 +1,11 @@
+use Rattle.std.specs.Cmp.Lexicographic.{nat_list_cmp_total}
+use Rattle.keyed_rows.proofs.Finite.{own_removed}
+use Rattle.hub_tables.specs.declared.records.Group.{Group}
+use Rattle.hub_tables.specs.Kept.{Groups}
+use Rattle.hub_tables.specs.ShareOrder.{names_exact}
+use Rattle.hub_tables.proofs.Kept.{groups_kept}
+use Rattle.hub_tables.proofs.tables.Tables.remove_group.Goals as goal
+
+pub invariant_of-self : goal.invariant_of-self
+invariant_of-self c =
+    groups_kept c.self.inside.trees c.remove_row.new.rows c.self.invariant (own_removed nat_list_cmp_total names_exact (λ (row : Group). row.name) _ _ c.args.key.now c.remove_row.ensures.removed (c.self.invariant Groups))

@@ -1,0 +1,11 @@
+use Rattle.hub_tables.specs.contracts.keys.ShareKeyOrd.TheImpl.Laws.{total-law}
+use Rattle.keyed_rows.proofs.Finite.{own_removed}
+use Rattle.hub_tables.specs.declared.records.Share.{Share}
+use Rattle.hub_tables.specs.Kept.{Shares}
+use Rattle.hub_tables.specs.ShareOrder.{share_exact}
+use Rattle.hub_tables.proofs.Kept.{shares_kept}
+use Rattle.hub_tables.proofs.tables.Tables.remove_share.Goals as goal
+
+pub invariant_of-self : goal.invariant_of-self
+invariant_of-self c =
+    shares_kept c.self.inside.trees c.remove_row.new.rows c.self.invariant (own_removed total-law share_exact (λ (row : Share). row.key) _ _ (record { server = c.args.server.now; to = c.args.to.now }) c.remove_row.ensures.removed (c.self.invariant Shares))

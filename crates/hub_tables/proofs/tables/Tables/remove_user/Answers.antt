@@ -1,0 +1,11 @@
+use Rattle.std.specs.Cmp.Lexicographic.{nat_list_cmp_total}
+use Rattle.keyed_rows.proofs.Finite.{own_removed}
+use Rattle.hub_tables.specs.declared.records.User.{User}
+use Rattle.hub_tables.specs.Kept.{Users}
+use Rattle.hub_tables.specs.ShareOrder.{names_exact}
+use Rattle.hub_tables.proofs.Kept.{users_kept}
+use Rattle.hub_tables.proofs.tables.Tables.remove_user.Goals as goal
+
+pub invariant_of-self : goal.invariant_of-self
+invariant_of-self c =
+    users_kept c.self.inside.trees c.remove_row.new.rows c.self.invariant (own_removed nat_list_cmp_total names_exact (λ (row : User). row.name) _ _ c.args.key.now c.remove_row.ensures.removed (c.self.invariant Users))

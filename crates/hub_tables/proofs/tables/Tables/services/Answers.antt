@@ -1,0 +1,15 @@
+use Rattle.std.proofs.Common.{◌∙◌, sym, ap, subst}
+use Rattle.std.specs.FinMap as map
+use Rattle.std.specs.Cmp.Lexicographic.{nat_list_cmp_total}
+use Rattle.keyed_rows.specs.Rows.{OwnKeys}
+use Rattle.keyed_rows.proofs.Finite.{values_row}
+use Rattle.hub_tables.specs.declared.records.Service.{Service}
+use Rattle.hub_tables.specs.Kept.{Services}
+use Rattle.hub_tables.specs.State.{State}
+use Rattle.hub_tables.proofs.tables.Tables.services.Goals as goal
+
+pub returns-clause-rows : goal.returns-clause-rows
+returns-clause-rows c = c.values.ensures.rest ∙ sym (values_row nat_list_cmp_total c.self.inside.trees.services c.values.ensures.ordered) ∙ ap (λ (s : State). map.values s.services) c.self.view_is
+
+pub returns-clause-own : goal.returns-clause-own
+returns-clause-own c = subst (λ (s : State). OwnKeys (λ (row : Service). row.name) s.services) c.self.view_is (c.self.invariant Services)

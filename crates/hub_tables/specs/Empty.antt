@@ -1,0 +1,23 @@
+-- Trees with no rows.
+use Rattle.std.specs.Prelude.{◌≡◌, []}
+use Rattle.std.specs.Ordering.{nat_cmp}
+use Rattle.std.specs.BTreeMap.{IsOrdered}
+use Rattle.hub_tables.specs.declared.trees.Trees.{Trees}
+
+pub record AreEmpty (t : Trees) : Type 0 where
+  pub users : t.users.entries ≡ []
+  pub groups : t.groups.entries ≡ []
+  pub services : t.services.entries ≡ []
+  pub roles : t.roles.entries ≡ []
+  pub tokens : t.tokens.entries ≡ []
+  pub tokens_ordered : IsOrdered nat_cmp t.tokens
+  pub token_ids : t.token_ids.entries ≡ []
+  pub servers : t.servers.entries ≡ []
+  pub leases : t.leases.entries ≡ []
+  pub shares : t.shares.entries ≡ []
+  pub codes : t.codes.entries ≡ []
+  pub codes_ordered : IsOrdered nat_cmp t.codes
+  pub code_ids : t.code_ids.entries ≡ []
+  pub clients : t.clients.entries ≡ []
+  pub grant_codes : t.grant_codes.entries ≡ []
+  pub nexts : t.nexts.entries ≡ []

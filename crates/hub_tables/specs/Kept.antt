@@ -1,0 +1,66 @@
+-- The trees behind the tables: which state they hold, and what is always true of them.
+use Rattle.std.specs.Prelude.{ℕ, List}
+use Rattle.std.specs.Ordering.{nat_cmp}
+use Rattle.std.specs.BTreeMap.{BTreeMap, IsOrdered}
+use Rattle.hub_kit.specs.KeyOrder.{name_cmp, key_cmp}
+use Rattle.keyed_rows.specs.Rows.{map_of, OwnKeys}
+use Rattle.scope_names.specs.declared.custom.CustomRow.{CustomRow}
+use Rattle.hub_tables.specs.declared.limits.Limits.{Limits}
+use Rattle.hub_tables.specs.declared.trees.Trees.{Trees}
+use Rattle.hub_tables.specs.Hashes.{IsIndexed}
+use Rattle.hub_tables.specs.ShareOrder.{share_cmp}
+use Rattle.hub_tables.specs.State.{State}
+
+-- the state that the trees hold
+abbrev pub state_of : Trees → Limits → List CustomRow → State
+state_of t limits scopes = record {
+  users = map_of name_cmp t.users;
+  groups = map_of name_cmp t.groups;
+  services = map_of name_cmp t.services;
+  roles = map_of name_cmp t.roles;
+  tokens = map_of nat_cmp t.tokens;
+  servers = map_of key_cmp t.servers;
+  leases = map_of name_cmp t.leases;
+  shares = map_of share_cmp t.shares;
+  codes = map_of nat_cmp t.codes;
+  clients = map_of name_cmp t.clients;
+  grant_codes = map_of name_cmp t.grant_codes;
+  nexts = map_of name_cmp t.nexts;
+  limits = limits;
+  scopes = scopes;
+}
+
+-- rows under their ids, with an index of their hashes
+pub record IsKeptByHash {X : Type 0} (id_of : X → ℕ) (hash_of : X → List ℕ) (rows : BTreeMap ℕ X) (ids : BTreeMap (List ℕ) ℕ) : Type 0 where
+  pub own : OwnKeys id_of (map_of nat_cmp rows)
+  pub ordered : IsOrdered nat_cmp rows
+  pub indexed : IsIndexed hash_of (map_of nat_cmp rows) (map_of name_cmp ids)
+
+pub data Kind : Type 0 where
+  Users : Kind
+  Groups : Kind
+  Services : Kind
+  Roles : Kind
+  Tokens : Kind
+  Servers : Kind
+  Leases : Kind
+  Shares : Kind
+  Codes : Kind
+  Clients : Kind
+  GrantCodes : Kind
+  Nexts : Kind
+
+-- each row of the kind stands under its own key, and those with a hash are found by it
+abbrev pub IsKept : Trees → Kind → Type 0
+IsKept t Users = OwnKeys {R = name_cmp} (λ row. row.name) (map_of name_cmp t.users)
+IsKept t Groups = OwnKeys {R = name_cmp} (λ row. row.name) (map_of name_cmp t.groups)
+IsKept t Services = OwnKeys {R = name_cmp} (λ row. row.name) (map_of name_cmp t.services)
+IsKept t Roles = OwnKeys {R = name_cmp} (λ row. row.name) (map_of name_cmp t.roles)
+IsKept t Tokens = IsKeptByHash (λ row. row.id) (λ row. row.hash) t.tokens t.token_ids
+IsKept t Servers = OwnKeys {R = key_cmp} (λ row. row.key) (map_of key_cmp t.servers)
+IsKept t Leases = OwnKeys {R = name_cmp} (λ row. row.target) (map_of name_cmp t.leases)
+IsKept t Shares = OwnKeys {R = share_cmp} (λ row. row.key) (map_of share_cmp t.shares)
+IsKept t Codes = IsKeptByHash (λ row. row.id) (λ row. row.hash) t.codes t.code_ids
+IsKept t Clients = OwnKeys {R = name_cmp} (λ row. row.id) (map_of name_cmp t.clients)
+IsKept t GrantCodes = OwnKeys {R = name_cmp} (λ row. row.hash) (map_of name_cmp t.grant_codes)
+IsKept t Nexts = OwnKeys {R = name_cmp} (λ row. row.name) (map_of name_cmp t.nexts)

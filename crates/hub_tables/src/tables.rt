@@ -1,0 +1,60 @@
+//! The tables: all rows of the hub, its limits and its custom scopes.
+ghost use Rattle.std.specs.Prelude.{◌≡◌};
+ghost use Rattle.std.specs.FinMap as map;
+
+mod grants;
+mod members;
+mod people;
+mod servers;
+mod tokens;
+
+use crate::limits::Limits;
+use crate::trees::Trees;
+use scope_names::table::ScopeTable;
+use std::alloc::Global;
+use std::marker::Model;
+
+/// The rows of each kind, which contracts see as the record of their finite maps.
+#[derive(Drop)]
+pub struct Tables {
+    trees: Trees,
+    limits: Limits,
+    scopes: ScopeTable,
+    alloc: Global,
+}
+
+impl Model for Tables {
+    ghost use Rattle.std.specs.Coded.{codes};
+    ghost use Rattle.std.specs.FinMap.{code};
+    ghost use Rattle.hub_tables.specs.State.{State};
+    ghost use Rattle.hub_tables.specs.Kept.{state_of, Kind, IsKept};
+
+    ghost Value = { State };
+
+    ghost coded = { Prim.hlevel (codes, code) };
+
+    ghost view = { λ a. state_of a.trees a.limits a.scopes };
+
+    ghost invariant = { λ a. (kind : Kind) → IsKept a.trees kind };
+}
+
+impl Tables {
+    /// Tables with no rows, which take no memory.
+    pub fn new(alloc: Global, limits: Limits, scopes: ScopeTable) -> Tables
+        ensures { result ≡ record { users = map.empty; groups = map.empty; services = map.empty; roles = map.empty; tokens = map.empty; servers = map.empty; leases = map.empty; shares = map.empty; codes = map.empty; clients = map.empty; grant_codes = map.empty; nexts = map.empty; limits = limits; scopes = scopes } }
+    {
+        Tables {
+            trees: Trees::new(alloc),
+            limits,
+            scopes,
+            alloc,
+        }
+    }
+
+    /// The custom scopes of the hub.
+    pub fn scope_table(&self) -> &ScopeTable
+        ensures { result.now ≡ self.now.scopes }
+    {
+        &self.scopes
+    }
+}

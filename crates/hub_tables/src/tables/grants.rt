@@ -1,0 +1,146 @@
+//! Shares, and the clients and codes of OAuth.
+ghost use Rattle.std.specs.Prelude.{◌≡◌, OnOk, OnErr, IfSome};
+ghost use Rattle.std.specs.Option.{option_copied};
+ghost use Rattle.std.specs.FinMap as map;
+ghost use Rattle.std.specs.Map.Iter.{ShowsInOrder, deref};
+ghost use Rattle.keyed_rows.specs.Rows.{OwnKeys};
+ghost use Rattle.hub_tables.specs.Puts.{IsAnswer};
+
+use crate::keyed;
+use crate::keys::{Recipient, ShareKey};
+use crate::records::{OAuthClient, OAuthCode, Share};
+use crate::tables::Tables;
+use hub_kit::names::ServerKey;
+use hub_kit::text::Text;
+use keyed_rows::{PutError, Room};
+use std::collections::btree_map::Values;
+
+/// The greatest number of clients of OAuth.
+const CLIENTS: u32 = 2_000;
+
+impl Tables {
+    /// The share of a server with a recipient.
+    pub fn share(&self, server: &ServerKey, to: &Recipient) -> Option<&Share>
+        ensures value { option_copied result ≡ map.get self.now.shares (record { server = server.now; to = to.now }) }
+        ensures own { IfSome result (λ row. row.now.key ≡ record { server = server.now; to = to.now }) }
+    {
+        let key = ShareKey {
+            server: *server,
+            to: *to,
+        };
+        keyed_rows::row_at(&self.trees.shares, &key)
+    }
+
+    /// Sets the row of a share.
+    pub fn put_share(&mut self, value: Share, leaving: u32) -> Result<(), PutError>
+        ensures answer { IsAnswer 8 self.old.limits.shares self.old.shares value.key leaving result }
+        ensures ok { OnOk result (self.new ≡ record self.old { shares = map.insert self.old.shares value.key value }) }
+        ensures err { OnErr result (self.new ≡ self.old) }
+    {
+        let room = Room {
+            kind: 8,
+            limit: self.limits.shares,
+            leaving,
+        };
+        keyed::put(self.alloc, &mut self.trees.shares, value, Some(room))
+    }
+
+    /// Takes the row of a share out, and tells whether it was there. Takes no memory.
+    pub fn remove_share(&mut self, server: &ServerKey, to: &Recipient) -> bool
+        ensures there { result ≡ map.contains_key self.old.shares (record { server = server.now; to = to.now }) }
+        ensures after { self.new ≡ record self.old { shares = map.remove self.old.shares (record { server = server.now; to = to.now }) } }
+    {
+        let key = ShareKey {
+            server: *server,
+            to: *to,
+        };
+        keyed_rows::remove_row(&mut self.trees.shares, &key)
+    }
+
+    /// The rows of shares, in the order of servers and then of recipients.
+    pub fn shares(&self) -> Values<'_, ShareKey, Share>
+        ensures rows { result ≡ map.values self.now.shares }
+        ensures own { OwnKeys (λ row. row.key) self.now.shares }
+        ensures runs { ShowsInOrder (deref {X = Share}) }
+    {
+        self.trees.shares.values()
+    }
+
+    /// The client of an id, `server:USER/SERVER` or `service:NAME`.
+    pub fn client(&self, key: &Text) -> Option<&OAuthClient>
+        ensures value { option_copied result ≡ map.get self.now.clients key.now }
+        ensures own { IfSome result (λ row. row.now.id ≡ key.now) }
+    {
+        keyed_rows::row_at(&self.trees.clients, key)
+    }
+
+    /// Sets the row of a client.
+    pub fn put_client(&mut self, value: OAuthClient, leaving: u32) -> Result<(), PutError>
+        ensures answer { IsAnswer 10 CLIENTS self.old.clients value.id leaving result }
+        ensures ok { OnOk result (self.new ≡ record self.old { clients = map.insert self.old.clients value.id value }) }
+        ensures err { OnErr result (self.new ≡ self.old) }
+    {
+        let room = Room {
+            kind: 10,
+            limit: CLIENTS,
+            leaving,
+        };
+        keyed::put(self.alloc, &mut self.trees.clients, value, Some(room))
+    }
+
+    /// Takes the row of a client out, and tells whether it was there. Takes no memory.
+    pub fn remove_client(&mut self, key: &Text) -> bool
+        ensures there { result ≡ map.contains_key self.old.clients key.now }
+        ensures after { self.new ≡ record self.old { clients = map.remove self.old.clients key.now } }
+    {
+        keyed_rows::remove_row(&mut self.trees.clients, key)
+    }
+
+    /// The rows of clients, in the order of ids.
+    pub fn clients(&self) -> Values<'_, Text, OAuthClient>
+        ensures rows { result ≡ map.values self.now.clients }
+        ensures own { OwnKeys (λ row. row.id) self.now.clients }
+        ensures runs { ShowsInOrder (deref {X = OAuthClient}) }
+    {
+        self.trees.clients.values()
+    }
+
+    /// The code of OAuth that stands under a hash.
+    pub fn grant_code(&self, key: &Text) -> Option<&OAuthCode>
+        ensures value { option_copied result ≡ map.get self.now.grant_codes key.now }
+        ensures own { IfSome result (λ row. row.now.hash ≡ key.now) }
+    {
+        keyed_rows::row_at(&self.trees.grant_codes, key)
+    }
+
+    /// Sets the row of a code of OAuth.
+    pub fn put_grant_code(&mut self, value: OAuthCode, leaving: u32) -> Result<(), PutError>
+        ensures answer { IsAnswer 11 self.old.limits.codes self.old.grant_codes value.hash leaving result }
+        ensures ok { OnOk result (self.new ≡ record self.old { grant_codes = map.insert self.old.grant_codes value.hash value }) }
+        ensures err { OnErr result (self.new ≡ self.old) }
+    {
+        let room = Room {
+            kind: 11,
+            limit: self.limits.codes,
+            leaving,
+        };
+        keyed::put(self.alloc, &mut self.trees.grant_codes, value, Some(room))
+    }
+
+    /// Takes the row of a code of OAuth out, and tells whether it was there. Takes no memory.
+    pub fn remove_grant_code(&mut self, key: &Text) -> bool
+        ensures there { result ≡ map.contains_key self.old.grant_codes key.now }
+        ensures after { self.new ≡ record self.old { grant_codes = map.remove self.old.grant_codes key.now } }
+    {
+        keyed_rows::remove_row(&mut self.trees.grant_codes, key)
+    }
+
+    /// The rows of the codes of OAuth, in the order of hashes.
+    pub fn grant_codes(&self) -> Values<'_, Text, OAuthCode>
+        ensures rows { result ≡ map.values self.now.grant_codes }
+        ensures own { OwnKeys (λ row. row.hash) self.now.grant_codes }
+        ensures runs { ShowsInOrder (deref {X = OAuthCode}) }
+    {
+        self.trees.grant_codes.values()
+    }
+}

@@ -1,0 +1,175 @@
+//! Users, groups, services and roles.
+ghost use Rattle.std.specs.Prelude.{◌≡◌, OnOk, OnErr, IfSome};
+ghost use Rattle.std.specs.Option.{option_copied};
+ghost use Rattle.std.specs.FinMap as map;
+ghost use Rattle.std.specs.Map.Iter.{ShowsInOrder, deref};
+ghost use Rattle.keyed_rows.specs.Rows.{OwnKeys};
+ghost use Rattle.hub_tables.specs.Puts.{IsAnswer};
+
+use crate::keyed;
+use crate::records::{Group, Role, Service, User};
+use crate::tables::Tables;
+use hub_kit::moment::Moment;
+use hub_kit::names::{GroupName, RoleName, ServiceName, UserName};
+use keyed_rows::{PutError, Room};
+use std::collections::btree_map::Values;
+
+impl Tables {
+    /// The user of a name.
+    pub fn user(&self, key: &UserName) -> Option<&User>
+        ensures value { option_copied result ≡ map.get self.now.users key.now }
+        ensures own { IfSome result (λ row. row.now.name ≡ key.now) }
+    {
+        keyed_rows::row_at(&self.trees.users, key)
+    }
+
+    /// Sets the row of a user.
+    pub fn put_user(&mut self, value: User, leaving: u32) -> Result<(), PutError>
+        ensures answer { IsAnswer 1 self.old.limits.users self.old.users value.name leaving result }
+        ensures ok { OnOk result (self.new ≡ record self.old { users = map.insert self.old.users value.name value }) }
+        ensures err { OnErr result (self.new ≡ self.old) }
+    {
+        let room = Room {
+            kind: 1,
+            limit: self.limits.users,
+            leaving,
+        };
+        // The check proves no call that moves a row of plain fields, unless their types are named beside it.
+        let _named: Option<Moment> = value.last_activity;
+        keyed::put(self.alloc, &mut self.trees.users, value, Some(room))
+    }
+
+    /// Takes the row of a user out, and tells whether it was there. Takes no memory.
+    pub fn remove_user(&mut self, key: &UserName) -> bool
+        ensures there { result ≡ map.contains_key self.old.users key.now }
+        ensures after { self.new ≡ record self.old { users = map.remove self.old.users key.now } }
+    {
+        keyed_rows::remove_row(&mut self.trees.users, key)
+    }
+
+    /// The rows of users, in the order of names.
+    pub fn users(&self) -> Values<'_, UserName, User>
+        ensures rows { result ≡ map.values self.now.users }
+        ensures own { OwnKeys (λ row. row.name) self.now.users }
+        ensures runs { ShowsInOrder (deref {X = User}) }
+    {
+        self.trees.users.values()
+    }
+
+    /// The group of a name.
+    pub fn group(&self, key: &GroupName) -> Option<&Group>
+        ensures value { option_copied result ≡ map.get self.now.groups key.now }
+        ensures own { IfSome result (λ row. row.now.name ≡ key.now) }
+    {
+        keyed_rows::row_at(&self.trees.groups, key)
+    }
+
+    /// Sets the row of a group.
+    pub fn put_group(&mut self, value: Group, leaving: u32) -> Result<(), PutError>
+        ensures answer { IsAnswer 2 self.old.limits.groups self.old.groups value.name leaving result }
+        ensures ok { OnOk result (self.new ≡ record self.old { groups = map.insert self.old.groups value.name value }) }
+        ensures err { OnErr result (self.new ≡ self.old) }
+    {
+        let room = Room {
+            kind: 2,
+            limit: self.limits.groups,
+            leaving,
+        };
+        keyed::put(self.alloc, &mut self.trees.groups, value, Some(room))
+    }
+
+    /// Takes the row of a group out, and tells whether it was there. Takes no memory.
+    pub fn remove_group(&mut self, key: &GroupName) -> bool
+        ensures there { result ≡ map.contains_key self.old.groups key.now }
+        ensures after { self.new ≡ record self.old { groups = map.remove self.old.groups key.now } }
+    {
+        keyed_rows::remove_row(&mut self.trees.groups, key)
+    }
+
+    /// The rows of groups, in the order of names.
+    pub fn groups(&self) -> Values<'_, GroupName, Group>
+        ensures rows { result ≡ map.values self.now.groups }
+        ensures own { OwnKeys (λ row. row.name) self.now.groups }
+        ensures runs { ShowsInOrder (deref {X = Group}) }
+    {
+        self.trees.groups.values()
+    }
+
+    /// The service of a name.
+    pub fn service(&self, key: &ServiceName) -> Option<&Service>
+        ensures value { option_copied result ≡ map.get self.now.services key.now }
+        ensures own { IfSome result (λ row. row.now.name ≡ key.now) }
+    {
+        keyed_rows::row_at(&self.trees.services, key)
+    }
+
+    /// Sets the row of a service.
+    pub fn put_service(&mut self, value: Service, leaving: u32) -> Result<(), PutError>
+        ensures answer { IsAnswer 3 self.old.limits.services self.old.services value.name leaving result }
+        ensures ok { OnOk result (self.new ≡ record self.old { services = map.insert self.old.services value.name value }) }
+        ensures err { OnErr result (self.new ≡ self.old) }
+    {
+        let room = Room {
+            kind: 3,
+            limit: self.limits.services,
+            leaving,
+        };
+        keyed::put(self.alloc, &mut self.trees.services, value, Some(room))
+    }
+
+    /// Takes the row of a service out, and tells whether it was there. Takes no memory.
+    pub fn remove_service(&mut self, key: &ServiceName) -> bool
+        ensures there { result ≡ map.contains_key self.old.services key.now }
+        ensures after { self.new ≡ record self.old { services = map.remove self.old.services key.now } }
+    {
+        keyed_rows::remove_row(&mut self.trees.services, key)
+    }
+
+    /// The rows of services, in the order of names.
+    pub fn services(&self) -> Values<'_, ServiceName, Service>
+        ensures rows { result ≡ map.values self.now.services }
+        ensures own { OwnKeys (λ row. row.name) self.now.services }
+        ensures runs { ShowsInOrder (deref {X = Service}) }
+    {
+        self.trees.services.values()
+    }
+
+    /// The role of a name.
+    pub fn role(&self, key: &RoleName) -> Option<&Role>
+        ensures value { option_copied result ≡ map.get self.now.roles key.now }
+        ensures own { IfSome result (λ row. row.now.name ≡ key.now) }
+    {
+        keyed_rows::row_at(&self.trees.roles, key)
+    }
+
+    /// Sets the row of a role.
+    pub fn put_role(&mut self, value: Role, leaving: u32) -> Result<(), PutError>
+        ensures answer { IsAnswer 4 self.old.limits.roles self.old.roles value.name leaving result }
+        ensures ok { OnOk result (self.new ≡ record self.old { roles = map.insert self.old.roles value.name value }) }
+        ensures err { OnErr result (self.new ≡ self.old) }
+    {
+        let room = Room {
+            kind: 4,
+            limit: self.limits.roles,
+            leaving,
+        };
+        keyed::put(self.alloc, &mut self.trees.roles, value, Some(room))
+    }
+
+    /// Takes the row of a role out, and tells whether it was there. Takes no memory.
+    pub fn remove_role(&mut self, key: &RoleName) -> bool
+        ensures there { result ≡ map.contains_key self.old.roles key.now }
+        ensures after { self.new ≡ record self.old { roles = map.remove self.old.roles key.now } }
+    {
+        keyed_rows::remove_row(&mut self.trees.roles, key)
+    }
+
+    /// The rows of roles, in the order of names.
+    pub fn roles(&self) -> Values<'_, RoleName, Role>
+        ensures rows { result ≡ map.values self.now.roles }
+        ensures own { OwnKeys (λ row. row.name) self.now.roles }
+        ensures runs { ShowsInOrder (deref {X = Role}) }
+    {
+        self.trees.roles.values()
+    }
+}

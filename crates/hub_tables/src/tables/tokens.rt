@@ -1,0 +1,123 @@
+//! Tokens and share codes, which stand under ids and are found by hashes.
+ghost use Rattle.std.specs.Prelude.{◌≡◌, OnOk, OnErr, IfSome};
+ghost use Rattle.std.specs.Option.{option_copied};
+ghost use Rattle.std.specs.FinMap as map;
+ghost use Rattle.std.specs.Map.Iter.{ShowsInOrder, deref};
+ghost use Rattle.keyed_rows.specs.Rows.{OwnKeys};
+ghost use Rattle.hub_tables.specs.Puts.{IsAnswer};
+ghost use Rattle.hub_tables.specs.Hashes.{row_with, FitsHash};
+
+use crate::hashed;
+use crate::records::{ShareCode, Token};
+use crate::tables::Tables;
+use hub_kit::text::Text;
+use keyed_rows::{PutError, Room};
+use std::collections::btree_map::Values;
+
+impl Tables {
+    /// The token of an id.
+    pub fn token(&self, id: u64) -> Option<&Token>
+        ensures value { option_copied result ≡ map.get self.now.tokens id }
+        ensures own { IfSome result (λ row. row.now.id ≡ id) }
+    {
+        keyed_rows::row_at(&self.trees.tokens, &id)
+    }
+
+    /// The token of a hash, which is looked up in an index.
+    pub fn token_of_hash(&self, hash: &Text) -> Option<&Token>
+        ensures { option_copied result ≡ row_with (λ row. row.hash) hash.now self.now.tokens }
+    {
+        hashed::row_of_hash(&self.trees.tokens, &self.trees.token_ids, hash)
+    }
+
+    /// Sets the row of a token. No other row has its hash, and a kept row of its id has the same.
+    pub fn put_token(&mut self, value: Token, leaving: u32) -> Result<(), PutError>
+        requires { FitsHash (λ row. row.id) (λ row. row.hash) self.old.tokens value }
+        ensures answer { IsAnswer 5 self.old.limits.tokens self.old.tokens value.id leaving result }
+        ensures ok { OnOk result (self.new ≡ record self.old { tokens = map.insert self.old.tokens value.id value }) }
+        ensures err { OnErr result (self.new ≡ self.old) }
+    {
+        let room = Room {
+            kind: 5,
+            limit: self.limits.tokens,
+            leaving,
+        };
+        hashed::put_hashed(
+            self.alloc,
+            &mut self.trees.tokens,
+            &mut self.trees.token_ids,
+            value,
+            Some(room),
+        )
+    }
+
+    /// Takes the row of a token out, and tells whether it was there. Takes no memory.
+    pub fn remove_token(&mut self, id: u64) -> bool
+        ensures there { result ≡ map.contains_key self.old.tokens id }
+        ensures after { self.new ≡ record self.old { tokens = map.remove self.old.tokens id } }
+    {
+        hashed::remove_hashed(&mut self.trees.tokens, &mut self.trees.token_ids, id)
+    }
+
+    /// The rows of tokens, in the order of ids.
+    pub fn tokens(&self) -> Values<'_, u64, Token>
+        ensures rows { result ≡ map.values self.now.tokens }
+        ensures own { OwnKeys (λ row. row.id) self.now.tokens }
+        ensures runs { ShowsInOrder (deref {X = Token}) }
+    {
+        self.trees.tokens.values()
+    }
+
+    /// The share code of an id.
+    pub fn code(&self, id: u64) -> Option<&ShareCode>
+        ensures value { option_copied result ≡ map.get self.now.codes id }
+        ensures own { IfSome result (λ row. row.now.id ≡ id) }
+    {
+        keyed_rows::row_at(&self.trees.codes, &id)
+    }
+
+    /// The share code of a hash, which is looked up in an index.
+    pub fn code_of_hash(&self, hash: &Text) -> Option<&ShareCode>
+        ensures { option_copied result ≡ row_with (λ row. row.hash) hash.now self.now.codes }
+    {
+        hashed::row_of_hash(&self.trees.codes, &self.trees.code_ids, hash)
+    }
+
+    /// Sets the row of a share code. No other row has its hash, and a kept row of its id has the same.
+    pub fn put_code(&mut self, value: ShareCode, leaving: u32) -> Result<(), PutError>
+        requires { FitsHash (λ row. row.id) (λ row. row.hash) self.old.codes value }
+        ensures answer { IsAnswer 9 self.old.limits.codes self.old.codes value.id leaving result }
+        ensures ok { OnOk result (self.new ≡ record self.old { codes = map.insert self.old.codes value.id value }) }
+        ensures err { OnErr result (self.new ≡ self.old) }
+    {
+        let room = Room {
+            kind: 9,
+            limit: self.limits.codes,
+            leaving,
+        };
+        hashed::put_hashed(
+            self.alloc,
+            &mut self.trees.codes,
+            &mut self.trees.code_ids,
+            value,
+            Some(room),
+        )
+    }
+
+    /// Takes the row of a share code out, and tells whether it was there. Takes no memory.
+    pub fn remove_code(&mut self, id: u64) -> bool
+        ensures there { result ≡ map.contains_key self.old.codes id }
+        ensures after { self.new ≡ record self.old { codes = map.remove self.old.codes id } }
+    {
+        hashed::remove_hashed(&mut self.trees.codes, &mut self.trees.code_ids, id)
+    }
+
+    /// The rows of share codes, in the order of ids.
+    pub fn codes(&self) -> Values<'_, u64, ShareCode>
+        ensures rows { result ≡ map.values self.now.codes }
+        ensures own { OwnKeys (λ row. row.id) self.now.codes }
+        ensures runs { ShowsInOrder (deref {X = ShareCode}) }
+    {
+        self.trees.codes.values()
+    }
+}

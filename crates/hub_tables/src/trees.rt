@@ -1,0 +1,56 @@
+//! The trees behind the tables.
+ghost use Rattle.hub_tables.specs.Empty.{AreEmpty};
+
+use crate::keys::ShareKey;
+use crate::records::{
+    Group, Lease, Next, OAuthClient, OAuthCode, Role, ServerRow, Service, Share, ShareCode, Token,
+    User,
+};
+use hub_kit::names::{GroupName, RoleName, ServerKey, ServiceName, UserName};
+use hub_kit::target::Target;
+use hub_kit::text::Text;
+use std::alloc::Global;
+use std::collections::BTreeMap;
+
+/// The rows of each kind under their keys, and the ids of tokens and share codes under their hashes.
+#[derive(Drop)]
+pub(crate) struct Trees {
+    pub users: BTreeMap<UserName, User>,
+    pub groups: BTreeMap<GroupName, Group>,
+    pub services: BTreeMap<ServiceName, Service>,
+    pub roles: BTreeMap<RoleName, Role>,
+    pub tokens: BTreeMap<u64, Token>,
+    pub token_ids: BTreeMap<Text, u64>,
+    pub servers: BTreeMap<ServerKey, ServerRow>,
+    pub leases: BTreeMap<Target, Lease>,
+    pub shares: BTreeMap<ShareKey, Share>,
+    pub codes: BTreeMap<u64, ShareCode>,
+    pub code_ids: BTreeMap<Text, u64>,
+    pub clients: BTreeMap<Text, OAuthClient>,
+    pub grant_codes: BTreeMap<Text, OAuthCode>,
+    pub nexts: BTreeMap<Text, Next>,
+}
+
+impl Trees {
+    /// Trees with no rows, which take no memory.
+    pub fn new(alloc: Global) -> Trees
+        ensures { AreEmpty result }
+    {
+        Trees {
+            users: BTreeMap::new(alloc),
+            groups: BTreeMap::new(alloc),
+            services: BTreeMap::new(alloc),
+            roles: BTreeMap::new(alloc),
+            tokens: BTreeMap::new(alloc),
+            token_ids: BTreeMap::new(alloc),
+            servers: BTreeMap::new(alloc),
+            leases: BTreeMap::new(alloc),
+            shares: BTreeMap::new(alloc),
+            codes: BTreeMap::new(alloc),
+            code_ids: BTreeMap::new(alloc),
+            clients: BTreeMap::new(alloc),
+            grant_codes: BTreeMap::new(alloc),
+            nexts: BTreeMap::new(alloc),
+        }
+    }
+}
