@@ -87,7 +87,7 @@ fn every_cutting_gets_the_same_replies(rt: HostRuntime) -> Result<(), Fail> {
 
 #[test]
 fn refusals_and_ends(rt: HostRuntime) -> Result<(), Fail> {
-    let cases: [(&[u8], Served, &[u8]); 4] = [
+    let cases: [(&[u8], Served, &[u8]); 8] = [
         (
             b"GET /hub/api/user HTTP/1.1\r\n\r\n",
             Served::Ended(1),
@@ -108,6 +108,26 @@ fn refusals_and_ends(rt: HostRuntime) -> Result<(), Fail> {
             Served::Closed(1),
             b"HTTP/1.1 400 Bad Request\r\nContent-Type: application/json\r\nContent-Length: 35\r\nConnection: close\r\n\r\n{\"message\":\"bad head\",\"status\":400}",
         ),
+        (
+            b"GET /hub/api/user HTTP/1.1\r\nContent-Length: 1048577\r\n\r\n",
+            Served::Closed(1),
+            b"HTTP/1.1 413 Payload Too Large\r\nContent-Type: application/json\r\nContent-Length: 36\r\nConnection: close\r\n\r\n{\"message\":\"too large\",\"status\":413}",
+        ),
+        (
+            b"GET /hub/api/user HTTP/1.1\r\nTransfer-Encoding: chunked\r\n\r\n",
+            Served::Closed(1),
+            b"HTTP/1.1 501 Not Implemented\r\nContent-Type: application/json\r\nContent-Length: 47\r\nConnection: close\r\n\r\n{\"message\":\"coding not supported\",\"status\":501}",
+        ),
+        (
+            b"PUT /hub/api/user HTTP/1.1\r\nConnection: close\r\n\r\n",
+            Served::Closed(1),
+            b"HTTP/1.1 405 Method Not Allowed\r\nContent-Type: application/json\r\nContent-Length: 45\r\nConnection: close\r\n\r\n{\"message\":\"method not allowed\",\"status\":405}",
+        ),
+        (
+            b"GET /hub/api/user HTTP/1.1\r\nConnection: close\r\nAuthorization: Basic secret-token-ann\r\n\r\n",
+            Served::Closed(1),
+            b"HTTP/1.1 403 Forbidden\r\nContent-Type: application/json\r\nContent-Length: 41\r\nX-Hub-Revision: 0\r\nConnection: close\r\n\r\n{\"message\":\"no valid token\",\"status\":403}",
+        ),
     ];
     for (input, end, text) in cases {
         let (served, sink) = serve(&rt, rt.alloc(), input, 5, 999, 999)?;
@@ -123,5 +143,18 @@ fn faults_end_the_connection(rt: HostRuntime) -> Result<(), Fail> {
     assert!(rt; read == Err(SessionFault::ReadFault(0)));
     let (write, sink) = serve(&rt, rt.alloc(), IDENTITY, 10, 999, 0)?;
     assert!(rt; write == Err(SessionFault::WriteFault(0)) && sink.as_slice().is_empty());
+    Ok(())
+}
+
+#[test]
+fn a_body_at_the_limit_is_read(rt: HostRuntime) -> Result<(), Fail> {
+    let head =
+        b"GET /hub/api/user HTTP/1.1\r\nAuthorization: beARer secret-token-ann\r\nContent-Length: 1048576\r\n\r\n";
+    let mut input = Bytes::from_slice(rt.alloc(), head)?;
+    let spaces = Vec::from_elem(rt.alloc(), b' ', 1_048_576)?;
+    input.push_all(spaces.as_slice())?;
+    let (served, sink) = serve(&rt, rt.alloc(), input.as_slice(), 65_536, 999, 999)?;
+    assert!(rt; served == Ok(Served::Ended(1)));
+    assert!(rt; sink.as_slice() == IDENTITY_REPLY);
     Ok(())
 }
