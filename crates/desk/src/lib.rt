@@ -8,8 +8,6 @@ pub mod desk;
 mod plays;
 mod sleepers;
 mod steps;
-#[cfg(test)]
-mod tests;
 mod turn;
 
 pub use booked::{Booked, Job};

@@ -19,8 +19,6 @@ mod place;
 pub mod request;
 pub mod requests;
 mod target;
-#[cfg(test)]
-mod tests;
 pub mod token;
 mod words;
 pub mod writes;

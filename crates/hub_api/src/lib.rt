@@ -8,8 +8,6 @@ mod paths;
 mod reading;
 mod refusal;
 mod replies;
-#[cfg(test)]
-mod tests;
 
 pub use laws::{a_user_is_asked, a_version_is_asked};
 pub use paths::{ApiRouter, new_router};

@@ -22,5 +22,3 @@ pub mod route_link;
 pub mod sink;
 pub mod source;
 pub mod spawner;
-#[cfg(test)]
-mod tests;

@@ -13,6 +13,4 @@ pub mod names;
 pub mod short_text;
 pub mod target;
 pub mod targets;
-#[cfg(test)]
-mod tests;
 pub mod text;

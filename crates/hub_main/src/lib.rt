@@ -5,6 +5,4 @@
 
 pub mod run;
 pub mod standard;
-#[cfg(test)]
-mod tests;
 pub mod words;

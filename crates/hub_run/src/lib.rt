@@ -7,8 +7,6 @@ mod answering;
 mod connection;
 mod laws;
 mod served;
-#[cfg(test)]
-mod tests;
 mod turn;
 mod visit;
 mod written;

@@ -220,6 +220,3 @@ fn add_filters(into: &mut Grant, action: &Action, filters: &Filters) -> Result<(
     }
     Ok(())
 }
-
-#[cfg(test)]
-mod tests;

@@ -9,5 +9,3 @@ pub mod holder;
 pub mod members;
 pub mod object;
 pub mod scope;
-#[cfg(test)]
-mod tests;

@@ -6,7 +6,5 @@
 pub mod asks;
 pub mod inside;
 pub mod meets;
-#[cfg(test)]
-mod tests;
 pub mod text_order;
 pub mod within;

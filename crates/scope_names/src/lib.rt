@@ -7,5 +7,3 @@ pub mod action;
 mod coverage;
 pub mod custom;
 pub mod table;
-#[cfg(test)]
-mod tests;

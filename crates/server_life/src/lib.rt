@@ -7,8 +7,6 @@ mod laws;
 mod leases;
 mod life;
 mod ordered;
-#[cfg(test)]
-mod tests;
 
 pub use laws::life_laws;
 pub use leases::{Leases, NoTarget};

@@ -1,5 +1,4 @@
 //! Whole connections over memory: what is written, and how they end.
-use crate::{Served, serve_connection};
 use desk::Desk;
 use http_wire::error::SessionFault;
 use hub_core::{Book, HubConfig};
@@ -9,6 +8,7 @@ use hub_kit::bytes::Bytes;
 use hub_kit::moments::moment;
 use hub_kit::names::read_user;
 use hub_kit::text::Text;
+use hub_run::{Served, serve_connection};
 use std::alloc::Global;
 use std::sync::Wait;
 use std::test::Fail;

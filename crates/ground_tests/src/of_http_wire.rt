@@ -1,13 +1,13 @@
 //! Each public call once, over memory, with the bytes cut to single reads.
-use crate::body::take_bytes;
-use crate::buffer::WireBuffer;
-use crate::due::body_length;
-use crate::error::{WireError, WriteError};
-use crate::heads::read_head;
-use crate::request::Request;
-use crate::requests::read_request;
-use crate::token::token_of;
-use crate::writes::write_all;
+use http_wire::body::take_bytes;
+use http_wire::buffer::WireBuffer;
+use http_wire::due::body_length;
+use http_wire::error::{WireError, WriteError};
+use http_wire::heads::read_head;
+use http_wire::request::Request;
+use http_wire::requests::read_request;
+use http_wire::token::token_of;
+use http_wire::writes::write_all;
 use hub_devices::mem_bytes::{MemSink, MemSource};
 use hub_kit::bytes::Bytes;
 use std::test::Fail;

@@ -1,6 +1,6 @@
 //! The words of `session`.
-use crate::words::{SessionWords, WordError, read_session};
 use hub_kit::text::Text;
+use hub_main::words::{SessionWords, WordError, read_session};
 use std::alloc::{AllocError, Global};
 
 /// Reads the words of a line, cut at its blanks.

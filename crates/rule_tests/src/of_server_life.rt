@@ -1,16 +1,16 @@
 //! The whole life table against the lines of docs/LIFE.md, and a pool of one.
-use super::*;
-use crate::life::LifeEvent::{
+use hub_kit::names::{ServerKey, read_key};
+use hub_kit::targets::read_target;
+use server_life::life::LifeEvent::{
     Alive, AskStop, Begin, Dead, EndUnkept, Ended, PollFailed, RouteFailed, Routed, SpawnFailed,
     Spawned, StopFailed, UnrouteFailed, Unrouted,
 };
-use crate::life::LifeRefusal::{NotNow, OldGeneration, PendingSpawn, PendingStop, Running};
-use crate::life::Phase::{
+use server_life::life::LifeRefusal::{NotNow, OldGeneration, PendingSpawn, PendingStop, Running};
+use server_life::life::Phase::{
     Adopting, Parked, Ready, Routing, Spawning, Stopped, Stopping, Unrouting,
 };
-use crate::life::Todo::{AddRoute, DeleteRoute, Nothing, Start, StopProgram};
-use hub_kit::names::{ServerKey, read_key};
-use hub_kit::targets::read_target;
+use server_life::life::Todo::{AddRoute, DeleteRoute, Nothing, Start, StopProgram};
+use server_life::*;
 use std::test::Fail;
 
 const UNROUTE: Phase = Parked(5, ParkedAt::Unroute);

@@ -3,9 +3,6 @@ ghost use Rattle.std.specs.Prelude.{◌≡◌, [], if◌then◌else◌};
 ghost use Rattle.std.specs.List.{list_any};
 ghost use Rattle.scope_filters.specs.Contexts.{same};
 
-use crate::asks::{admits, holds_any};
-use crate::inside::{Inside, contained};
-use crate::meets::meet;
 use hub_kit::names::{GroupName, UserName, read_group, read_user};
 use scope_expand::expand;
 use scope_filters::filter::Filter;
@@ -13,6 +10,9 @@ use scope_filters::holder::{Holder, Owner};
 use scope_filters::members::Members;
 use scope_filters::object::Object;
 use scope_filters::scope::{RawFilter, RawScope};
+use scope_meet::asks::{admits, holds_any};
+use scope_meet::inside::{Inside, contained};
+use scope_meet::meets::meet;
 use scope_names::action::Action;
 use scope_names::table::ScopeTable;
 

@@ -1,11 +1,11 @@
 ghost use Rattle.std.specs.Prelude.{[]};
 
-use crate::filter::Filter;
-use crate::grant::Grant;
-use crate::members::Members;
-use crate::object::Object;
-use crate::scope::{ScopeError, read_scope, scope_text};
 use hub_kit::names::{GroupName, ServerKey, UserName, read_key, read_user};
+use scope_filters::filter::Filter;
+use scope_filters::grant::Grant;
+use scope_filters::members::Members;
+use scope_filters::object::Object;
+use scope_filters::scope::{ScopeError, read_scope, scope_text};
 use scope_names::action::Action;
 use std::alloc::Global;
 

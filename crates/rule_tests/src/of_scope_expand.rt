@@ -1,6 +1,6 @@
 //! The own scopes of a user and of a service, and two grants together.
-use crate::{expand, join};
 use hub_kit::names::{read_service, read_user};
+use scope_expand::{expand, join};
 use scope_filters::filter::Filter;
 use scope_filters::grant::Grant;
 use scope_filters::holder::{Holder, Owner};

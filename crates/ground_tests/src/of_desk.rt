@@ -1,7 +1,7 @@
 // A desk over a list of numbers.
 ghost use Rattle.std.specs.Prelude.{◌≡◌, ◌≤◌, ◌^◌, ◌++◌, ◌∷◌, [], length, MatchBool, true, false};
 
-use crate::{Booked, Desk, Job, Pass};
+use desk::{Booked, Desk, Job, Pass};
 use std::sync::Wait;
 use std::thread::join;
 

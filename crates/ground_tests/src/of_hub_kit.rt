@@ -1,12 +1,12 @@
 //! What no clause says: values from outside, and that each public call succeeds where there is memory.
-use crate::hashes::{hash_of, token_text};
-use crate::moment::Moment;
-use crate::moments::{MomentError, moment, moment_text, read_moment};
-use crate::names::{
+use hub_kit::hashes::{hash_of, token_text};
+use hub_kit::moment::Moment;
+use hub_kit::moments::{MomentError, moment, moment_text, read_moment};
+use hub_kit::names::{
     NameError, key_text, read_group, read_key, read_role, read_server, read_service, read_user,
 };
-use crate::targets::{TargetError, read_target};
-use crate::text::Text;
+use hub_kit::targets::{TargetError, read_target};
+use hub_kit::text::Text;
 use std::test::Fail;
 
 #[test]

@@ -1,7 +1,7 @@
 //! The texts of replies, and requests that ask calls or none.
-use crate::{new_router, read_call, refusal_reply, reply_text, wire_refusal_reply};
 use http_wire::error::WireError;
 use http_wire::request::Request;
+use hub_api::{new_router, read_call, refusal_reply, reply_text, wire_refusal_reply};
 use hub_core::Reply;
 use hub_kit::bytes::Bytes;
 use hub_kit::text::Text;

@@ -1,8 +1,8 @@
 //! The texts that are read, and tables of few rows.
-use crate::action::{Action, action_text, read_action};
-use crate::custom::{CustomName, CustomRow, read_custom};
-use crate::table::{ScopeTable, TableError};
 use hub_kit::list::List;
+use scope_names::action::{Action, action_text, read_action};
+use scope_names::custom::{CustomName, CustomRow, read_custom};
+use scope_names::table::{ScopeTable, TableError};
 use std::alloc::{AllocError, Global};
 use std::test::Fail;
 

@@ -1,0 +1,14 @@
+//! Tests of scopes and of the life of servers: what no clause can say, with values from outside.
+//! A crate of their own, since a crate that has tests is proved twice. Nothing stands above it.
+#![tactic(auto)]
+
+#[cfg(test)]
+mod of_scope_expand;
+#[cfg(test)]
+mod of_scope_filters;
+#[cfg(test)]
+mod of_scope_meet;
+#[cfg(test)]
+mod of_scope_names;
+#[cfg(test)]
+mod of_server_life;
