@@ -1,5 +1,5 @@
 use Rattle.std.proofs.Common.{◌≡◌}
-use Rattle.desk.proofs.tests.add_many.Given as goal
+use Rattle.ground_tests.proofs.of_desk.add_many.Given as goal
 
 abbrev pub invariant-loop : goal.invariant-loop
 invariant-loop g l = l.pass.of ≡ l.initial.pass.of
