@@ -1,0 +1,273 @@
+#!/bin/sh
+# Nanoseconds and bytes of a row of the tables: 100,000 users and 1,000,000 tokens put and looked up, and a tenth of them.
+# usage: docs/bench/tables.sh [FOLDER]
+# Writes a scratch repository into FOLDER (a new one under /tmp if none is named), proves its crates over what earlier checks of
+# this checkout kept, and runs the program. It stands outside the gate, and leaves the repository as it was.
+set -eu
+top=$(cd "$(dirname "$0")/../.." && pwd)
+scratch=${1:-$(mktemp -d /tmp/tables-bench.XXXXXX)}
+bench=$scratch/crates/tables_bench
+below='hub_kit keyed_rows scope_names scope_filters hub_rows hub_tables'
+mkdir -p "$bench/src"
+cp "$top/HANDLES" "$scratch/HANDLES"
+for crate in $below; do
+    cp -r "$top/crates/$crate" "$scratch/crates/"
+    grep "^$crate:" "$top/crates.txt"
+done >"$scratch/crates.txt"
+echo "tables_bench: $below" >>"$scratch/crates.txt"
+
+cat >"$bench/src/main.rt" <<'END'
+//! Time and memory of the tables, at so many users and ten times as many tokens.
+#![tactic(auto)]
+
+ghost use Rattle.std.specs.Prelude.{◌<◌};
+
+use hub_kit::hashes::hash_of;
+use hub_kit::list::List;
+use hub_kit::moment::Moment;
+use hub_kit::names::{UserName, read_user};
+use hub_kit::text::Text;
+use hub_rows::limits::Limits;
+use hub_rows::records::{Token, User};
+use hub_tables::tables::Tables;
+use scope_filters::holder::Owner;
+use scope_names::table::ScopeTable;
+use std::alloc::Global;
+use std::time::{Clock, Duration, Instant};
+use std::{env, fs, io};
+
+const ASKED: u32 = 1000;
+const ROUNDS: u32 = 100;
+
+fn digit(number: u32) -> u8 {
+    b"0123456789"[(number % 10) as usize]
+}
+
+/// The text of a name by its number, which is below 10,000,000.
+fn name(number: u32) -> [u8; 8] {
+    [
+        b'n',
+        digit(number / 1000000),
+        digit(number / 100000),
+        digit(number / 10000),
+        digit(number / 1000),
+        digit(number / 100),
+        digit(number / 10),
+        digit(number),
+    ]
+}
+
+fn user(number: u32) -> Option<UserName> {
+    read_user(&name(number)).ok()
+}
+
+fn limits() -> Limits {
+    Limits {
+        users: 10000000,
+        groups: 0,
+        services: 0,
+        roles: 0,
+        servers: 0,
+        tokens: 10000000,
+        shares: 0,
+        codes: 0,
+        trail_bytes: 0,
+    }
+}
+
+fn put_users(tables: &mut Tables, users: u32) -> Option<()> {
+    for number in 0..users {
+        let row = User {
+            name: user(number)?,
+            admin: false,
+            created: Moment::zero(),
+            last_activity: None,
+        };
+        tables.put_user(row, 0).ok()?;
+    }
+    Some(())
+}
+
+/// A token by its number; each user has ten.
+fn token(alloc: Global, number: u32) -> Option<Token> {
+    Some(Token {
+        id: number as u64,
+        client: None,
+        created: Moment::zero(),
+        expires_at: None,
+        hash: hash_of(alloc, &name(number)).ok()?,
+        issued_for: None,
+        note: Text::new(alloc),
+        owner: Owner::User(user(number / 10)?),
+        scopes: List::new(alloc),
+    })
+}
+
+fn put_new(tables: &mut Tables, token: Token) -> Option<()> {
+    if !tables.token_is_new(token.id, &token.hash) {
+        return None;
+    }
+    tables.put_token(token, 0).ok()
+}
+
+fn put_tokens(tables: &mut Tables, alloc: Global, tokens: u32) -> Option<()> {
+    for number in 0..tokens {
+        put_new(tables, token(alloc, number)?)?;
+    }
+    Some(())
+}
+
+/// The hashes of tokens, spread over all of them.
+fn hashes(alloc: Global, tokens: u32) -> Option<Vec<Text>> {
+    let mut hashes = Vec::new(alloc);
+    for number in 0..ASKED {
+        let place = number.wrapping_mul(tokens / ASKED);
+        hashes.push(hash_of(alloc, &name(place)).ok()?).ok()?;
+    }
+    Some(hashes)
+}
+
+fn names(alloc: Global, users: u32) -> Option<Vec<UserName>> {
+    let mut names = Vec::new(alloc);
+    for number in 0..ASKED {
+        names.push(user(number.wrapping_mul(users / ASKED))?).ok()?;
+    }
+    Some(names)
+}
+
+fn found_tokens(tables: &Tables, hashes: &[Text]) -> usize {
+    hashes
+        .iter()
+        .filter(|hash| tables.token_of_hash(*hash).is_some())
+        .count()
+}
+
+fn found_users(tables: &Tables, names: &[UserName]) -> usize {
+    names
+        .iter()
+        .filter(|name| tables.user(*name).is_some())
+        .count()
+}
+
+/// The tokens of an owner, by a walk over all tokens.
+fn owned(tables: &Tables, owner: &Owner) -> usize {
+    tables.tokens().filter(|row| row.owner == *owner).count()
+}
+
+fn nanoseconds(spent: Duration) -> u64 {
+    u64::try_from(spent.as_nanos()).unwrap_or(u64::MAX)
+}
+
+/// The kibibytes that the process has in memory, as Linux tells in pages of 4 KiB.
+fn resident(rt: &HostRuntime) -> io::Result<u64> {
+    let text = fs::read_to_string(rt, "/proc/self/statm")?;
+    let pages = match text.split_whitespace().nth(1) {
+        Some(word) => word.parse::<u64>().unwrap_or(0),
+        None => 0,
+    };
+    Ok(pages.wrapping_mul(4))
+}
+
+/// A line of the time of one of so many calls, in nanoseconds.
+fn print_time(rt: &HostRuntime, what: &str, spent: u64, calls: u64, counted: usize) -> io::Result<()> {
+    if calls == 0 {
+        return Ok(());
+    }
+    println!(rt; "  {what}: {} ns each, {counted} found", spent / calls)
+}
+
+/// A line of what so many puts took.
+fn print_puts(rt: &HostRuntime, what: &str, spent: u64, kibibytes: u64, rows: u64) -> io::Result<()> {
+    if rows == 0 {
+        return Ok(());
+    }
+    println!(rt;
+        "  put {rows} {what}: {} ns and {} bytes a row",
+        spent / rows,
+        kibibytes.wrapping_mul(1024) / rows
+    )
+}
+
+fn time_user_looks(rt: &HostRuntime, tables: &Tables, users: u32) -> io::Result<()> {
+    let Some(names) = names(rt.alloc(), users) else {
+        return Ok(());
+    };
+    let start = Instant::now(rt)?;
+    let mut found = 0;
+    for _ in 0..ROUNDS {
+        found = found_users(tables, &names);
+    }
+    let spent = nanoseconds(start.elapsed(rt)?);
+    print_time(rt, "user by name", spent, 100000, found)
+}
+
+fn time_token_looks(rt: &HostRuntime, tables: &Tables, tokens: u32) -> io::Result<()> {
+    let Some(hashes) = hashes(rt.alloc(), tokens) else {
+        return Ok(());
+    };
+    let start = Instant::now(rt)?;
+    let mut found = 0;
+    for _ in 0..ROUNDS {
+        found = found_tokens(tables, &hashes);
+    }
+    let spent = nanoseconds(start.elapsed(rt)?);
+    print_time(rt, "token by hash", spent, 100000, found)
+}
+
+fn time_walk(rt: &HostRuntime, tables: &Tables) -> io::Result<()> {
+    let Some(name) = user(7) else {
+        return Ok(());
+    };
+    let start = Instant::now(rt)?;
+    let found = owned(tables, &Owner::User(name));
+    let spent = nanoseconds(start.elapsed(rt)?);
+    print_time(rt, "tokens of an owner", spent, 1, found)
+}
+
+fn time_users(rt: &HostRuntime, tables: &mut Tables, users: u32) -> io::Result<()> {
+    let before = resident(rt)?;
+    let start = Instant::now(rt)?;
+    if put_users(tables, users).is_none() {
+        println!(rt; "  no room for the users")?;
+    }
+    let spent = nanoseconds(start.elapsed(rt)?);
+    let taken = resident(rt)?.wrapping_sub(before);
+    print_puts(rt, "users", spent, taken, users as u64)
+}
+
+fn time_tokens(rt: &HostRuntime, tables: &mut Tables, tokens: u32) -> io::Result<()> {
+    let before = resident(rt)?;
+    let start = Instant::now(rt)?;
+    if put_tokens(tables, rt.alloc(), tokens).is_none() {
+        println!(rt; "  no room for the tokens")?;
+    }
+    let spent = nanoseconds(start.elapsed(rt)?);
+    let taken = resident(rt)?.wrapping_sub(before);
+    print_puts(rt, "tokens", spent, taken, tokens as u64)
+}
+
+fn time_tables(rt: &HostRuntime, users: u32) -> io::Result<()> {
+    let Ok(scopes) = ScopeTable::new(rt.alloc(), &[]) else {
+        return Ok(());
+    };
+    let mut tables = Tables::new(rt.alloc(), limits(), scopes);
+    let tokens = users.wrapping_mul(10);
+    println!(rt; "{users} users, {tokens} tokens")?;
+    time_users(rt, &mut tables, users)?;
+    time_tokens(rt, &mut tables, tokens)?;
+    time_user_looks(rt, &tables, users)?;
+    time_token_looks(rt, &tables, tokens)?;
+    time_walk(rt, &tables)
+}
+
+fn main(rt: HostRuntime) -> io::Result<()> {
+    for word in env::args(&rt)?.skip(1) {
+        time_tables(&rt, word.parse::<u32>().unwrap_or(0))?;
+    }
+    Ok(())
+}
+END
+
+cd "$bench"
+rt run -- 10000
+rt run -- 100000
