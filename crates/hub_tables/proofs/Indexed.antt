@@ -8,16 +8,17 @@ use Rattle.std.specs.FinMap.{FinMap, get, insert, remove, contains_key, empty, g
 use Rattle.std.specs.BTreeMap.{BTreeMap, IsOrdered}
 use Rattle.std.specs.declared.alloc.AllocError.{AllocError}
 use Rattle.hub_kit.specs.KeyOrder.{name_cmp}
+use Rattle.hub_rows.specs.declared.records.Token.{Token}
 use Rattle.keyed_rows.specs.Rows.{map_of}
 use Rattle.keyed_rows.proofs.Finite.{insert_same, insert_other, insert_cases, remove_cases, remove_other, same_or_apart, find_none, find_one, put_and_removed, remove_absent}
 use Rattle.keyed_rows.specs.declared.PutError.{PutError}
-use Rattle.hub_tables.specs.Hashes.{row_with, FitsHash, IsIndexed}
-use Rattle.hub_tables.specs.ShareOrder.{names_exact}
+use Rattle.hub_tables.specs.Hashes.{row_with, FitsHash, FitsToken, IsIndexed}
+use Rattle.hub_rows.specs.ShareOrder.{names_exact}
 
 one_value : {X : Type 0} {x : Option X} {v w : X} → x ≡ Some v → x ≡ Some w → v ≡ w
 one_value h k = cc
 
-absent : {X : Type 0} {x : Option X} {v : X} → x ≡ Some v → x ≡ None → ⊥
+pub absent : {X : Type 0} {x : Option X} {v : X} → x ≡ Some v → x ≡ None → ⊥
 absent h k = cc
 
 not_false : (b : Bool) → (b ≡ true → ⊥) → b ≡ false
@@ -31,7 +32,7 @@ tied_names a b h = elim (name_cmp a b) as (λ r. name_cmp a b ≡ r → is_eq r 
   | Greater ↦ λ e k. absurd (cc)
 ] refl h
 
-same_tied : (a b : List ℕ) → a ≡ b → eq_by_cmp name_cmp a b ≡ true
+pub same_tied : (a b : List ℕ) → a ≡ b → eq_by_cmp name_cmp a b ≡ true
 same_tied a b h = ap (eq_by_cmp name_cmp a) (sym h) ∙ ap is_eq (tied_itself nat_list_cmp_total a)
 
 some_kept : {X : Type 0} (x : Option X) → is_some x ≡ true → (v : X) × (x ≡ Some v)
@@ -143,4 +144,10 @@ pub fits_empty : {X : Type 0} (id_of : X → ℕ) (hash_of : X → List ℕ) (ro
 fits_empty id_of hash_of rows v e = record {
   no_other = λ id row at. absurd (absent at (ap (λ m. get m id) e ∙ get-empty nat_cmp id));
   same = λ row at. absurd (absent at (ap (λ m. get m (id_of v)) e ∙ get-empty nat_cmp (id_of v)));
+}
+
+pub fits_none : (tokens : FinMap nat_cmp Token) (v : Token) → tokens ≡ empty → FitsToken tokens v
+fits_none tokens v e = record {
+  hash = fits_empty (λ (row : Token). row.id) (λ (row : Token). row.hash) tokens v e;
+  owner = λ row at. absurd (absent at (ap (λ m. get m v.id) e ∙ get-empty nat_cmp v.id));
 }

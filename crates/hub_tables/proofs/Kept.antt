@@ -12,10 +12,10 @@ use Rattle.hub_kit.specs.KeyOrder.{name_cmp, key_exact}
 use Rattle.hub_kit.specs.contracts.names.ServerKeyOrd.TheImpl.Laws as server_key
 use Rattle.keyed_rows.specs.Rows.{map_of, OwnKeys}
 use Rattle.keyed_rows.proofs.Finite.{own_empty}
-use Rattle.hub_tables.specs.contracts.keys.ShareKeyOrd.TheImpl.Laws as share_key
+use Rattle.hub_rows.specs.contracts.keys.ShareKeyOrd.TheImpl.Laws as share_key
 use Rattle.hub_tables.specs.declared.trees.Trees.{Trees}
 use Rattle.hub_tables.specs.Empty.{AreEmpty}
-use Rattle.hub_tables.specs.ShareOrder.{names_exact, share_exact}
+use Rattle.hub_rows.specs.ShareOrder.{names_exact, share_exact}
 use Rattle.hub_tables.proofs.Indexed.{empty_indexed}
 use Rattle.hub_tables.specs.Kept.{Kind, IsKept, Users, Groups, Services, Roles, Tokens, Servers, Leases, Shares, Codes, Clients, GrantCodes, Nexts}
 

@@ -1,3 +1,4 @@
+pub mod Fresh
+pub mod GroupNames
 pub mod Indexed
 pub mod Kept
-pub mod Puts

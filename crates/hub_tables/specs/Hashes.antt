@@ -4,6 +4,7 @@ use Rattle.std.specs.Ordering.{nat_cmp, eq_by_cmp}
 use Rattle.std.specs.List.{find}
 use Rattle.std.specs.FinMap.{FinMap, get, values}
 use Rattle.hub_kit.specs.KeyOrder.{name_cmp}
+use Rattle.hub_rows.specs.declared.records.Token.{Token}
 
 -- the first row that has the hash, in the order of the ids
 abbrev pub row_with : {X : Type 0} → (X → List ℕ) → List ℕ → FinMap nat_cmp X → Option X
@@ -13,6 +14,11 @@ row_with hash_of hash rows = find (λ row. eq_by_cmp name_cmp (hash_of row) hash
 pub record FitsHash {X : Type 0} (id_of : X → ℕ) (hash_of : X → List ℕ) (rows : FinMap nat_cmp X) (value : X) : Type 0 where
   pub no_other : (id : ℕ) (row : X) → get rows id ≡ Some row → hash_of row ≡ hash_of value → id ≡ id_of value
   pub same : (row : X) → get rows (id_of value) ≡ Some row → hash_of row ≡ hash_of value
+
+-- a token may stand under its id: its hash fits, and one that it replaces has the same owner
+pub record FitsToken (tokens : FinMap nat_cmp Token) (value : Token) : Type 0 where
+  pub hash : FitsHash (λ (row : Token). row.id) (λ row. row.hash) tokens value
+  pub owner : (row : Token) → get tokens value.id ≡ Some row → row.owner ≡ value.owner
 
 -- the ids have the id of each row under its hash, and nothing else
 pub record IsIndexed {X : Type 0} (hash_of : X → List ℕ) (rows : FinMap nat_cmp X) (ids : FinMap name_cmp ℕ) : Type 0 where

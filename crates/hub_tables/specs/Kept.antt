@@ -5,10 +5,10 @@ use Rattle.std.specs.BTreeMap.{BTreeMap, IsOrdered}
 use Rattle.hub_kit.specs.KeyOrder.{name_cmp, key_cmp}
 use Rattle.keyed_rows.specs.Rows.{map_of, OwnKeys}
 use Rattle.scope_names.specs.declared.custom.CustomRow.{CustomRow}
-use Rattle.hub_tables.specs.declared.limits.Limits.{Limits}
+use Rattle.hub_rows.specs.declared.limits.Limits.{Limits}
 use Rattle.hub_tables.specs.declared.trees.Trees.{Trees}
 use Rattle.hub_tables.specs.Hashes.{IsIndexed}
-use Rattle.hub_tables.specs.ShareOrder.{share_cmp}
+use Rattle.hub_rows.specs.ShareOrder.{share_cmp}
 use Rattle.hub_tables.specs.State.{State}
 
 -- the state that the trees hold

@@ -1,7 +1,8 @@
+pub mod Changes
 pub mod Empty
 pub mod Hashes
 pub mod Kept
+pub mod Lookups
 pub mod Memberships
-pub mod Puts
-pub mod ShareOrder
+pub mod Own
 pub mod State

@@ -3,7 +3,7 @@ use Rattle.std.specs.Prelude.{ℕ, List, [], Option, Some, None}
 use Rattle.std.specs.FinMap.{FinMap, get}
 use Rattle.hub_kit.specs.KeyOrder.{name_cmp}
 use Rattle.scope_filters.specs.Contexts.{Context}
-use Rattle.hub_tables.specs.declared.records.Group.{Group}
+use Rattle.hub_rows.specs.declared.records.Group.{Group}
 
 abbrev pub users_of : Option Group → List (List ℕ)
 users_of None = []

@@ -4,20 +4,20 @@ use Rattle.std.specs.Ordering.{nat_cmp}
 use Rattle.std.specs.FinMap.{FinMap}
 use Rattle.hub_kit.specs.KeyOrder.{name_cmp, key_cmp}
 use Rattle.scope_names.specs.declared.custom.CustomRow.{CustomRow}
-use Rattle.hub_tables.specs.declared.limits.Limits.{Limits}
-use Rattle.hub_tables.specs.declared.records.User.{User}
-use Rattle.hub_tables.specs.declared.records.Group.{Group}
-use Rattle.hub_tables.specs.declared.records.Service.{Service}
-use Rattle.hub_tables.specs.declared.records.Role.{Role}
-use Rattle.hub_tables.specs.declared.records.Token.{Token}
-use Rattle.hub_tables.specs.declared.records.ServerRow.{ServerRow}
-use Rattle.hub_tables.specs.declared.records.Lease.{Lease}
-use Rattle.hub_tables.specs.declared.records.Share.{Share}
-use Rattle.hub_tables.specs.declared.records.ShareCode.{ShareCode}
-use Rattle.hub_tables.specs.declared.records.OAuthClient.{OAuthClient}
-use Rattle.hub_tables.specs.declared.records.OAuthCode.{OAuthCode}
-use Rattle.hub_tables.specs.declared.records.Next.{Next}
-use Rattle.hub_tables.specs.ShareOrder.{share_cmp}
+use Rattle.hub_rows.specs.declared.limits.Limits.{Limits}
+use Rattle.hub_rows.specs.declared.records.User.{User}
+use Rattle.hub_rows.specs.declared.records.Group.{Group}
+use Rattle.hub_rows.specs.declared.records.Service.{Service}
+use Rattle.hub_rows.specs.declared.records.Role.{Role}
+use Rattle.hub_rows.specs.declared.records.Token.{Token}
+use Rattle.hub_rows.specs.declared.records.ServerRow.{ServerRow}
+use Rattle.hub_rows.specs.declared.records.Lease.{Lease}
+use Rattle.hub_rows.specs.declared.records.Share.{Share}
+use Rattle.hub_rows.specs.declared.records.ShareCode.{ShareCode}
+use Rattle.hub_rows.specs.declared.records.OAuthClient.{OAuthClient}
+use Rattle.hub_rows.specs.declared.records.OAuthCode.{OAuthCode}
+use Rattle.hub_rows.specs.declared.records.Next.{Next}
+use Rattle.hub_rows.specs.ShareOrder.{share_cmp}
 
 pub record State : Type 0 where
   -- under names, in the order of their bytes

@@ -7,10 +7,11 @@ ghost use Rattle.std.specs.Ordering.{nat_cmp};
 ghost use Rattle.hub_kit.specs.KeyOrder.{name_cmp};
 ghost use Rattle.keyed_rows.specs.Rows.{map_of};
 ghost use Rattle.hub_tables.specs.Hashes.{row_with, FitsHash, IsIndexed};
-ghost use Rattle.hub_tables.specs.Puts.{IsAnswerIn};
+ghost use Rattle.keyed_rows.specs.Puts.{IsAnswerIn};
 
-use crate::keyed::{self, Keyed};
 use hub_kit::text::Text;
+use hub_rows::records::{ShareCode, Token};
+use keyed_rows::keyed::{self, Keyed};
 use keyed_rows::{PutError, Room};
 use std::alloc::{AllocError, Global};
 use std::collections::BTreeMap;
@@ -68,6 +69,27 @@ pub(crate) fn put_hashed<R: Hashed>(
     Err(PutError::Memory)
 }
 
+/// Sets a row and its id, whatever the number of rows.
+pub(crate) fn set_hashed<R: Hashed>(
+    alloc: Global,
+    rows: &mut BTreeMap<u64, R>,
+    ids: &mut BTreeMap<Text, u64>,
+    value: R,
+) -> Result<(), AllocError>
+    requires indexed { IsIndexed R.hash_of (map_of nat_cmp rows.old) (map_of name_cmp ids.old) }
+    requires fits { FitsHash R.key_of R.hash_of (map_of nat_cmp rows.old) value }
+    ensures ok { OnOk result (map_of nat_cmp rows.new ≡ map.insert (map_of nat_cmp rows.old) (R.key_of value) value) }
+    ensures err { OnErr result (map_of nat_cmp rows.new ≡ map_of nat_cmp rows.old) }
+    ensures memory { OnErr result (map.contains_key (map_of nat_cmp rows.old) (R.key_of value) ≡ false) }
+    ensures ordered { IsOrdered nat_cmp rows.new }
+    ensures indexed { IsIndexed R.hash_of (map_of nat_cmp rows.new) (map_of name_cmp ids.new) }
+{
+    match put_hashed(alloc, rows, ids, value, None) {
+        Ok(()) => Ok(()),
+        Err(_) => Err(AllocError),
+    }
+}
+
 /// Puts an id under a hash, unless there was no memory for the hash or is none for the entry.
 fn add_hash(ids: &mut BTreeMap<Text, u64>, hash: Result<Text, AllocError>, id: u64) -> bool
     ensures ok { IsTrue result → IsOkAnd hash (λ h. map_of name_cmp ids.new ≡ map.insert (map_of name_cmp ids.old) h id) }
@@ -97,5 +119,21 @@ pub(crate) fn remove_hashed<R: Hashed>(
             true
         }
         None => false,
+    }
+}
+
+impl Hashed for Token {
+    ghost hash_of = { λ row. row.hash };
+
+    fn hash(&self) -> &Text {
+        &self.hash
+    }
+}
+
+impl Hashed for ShareCode {
+    ghost hash_of = { λ row. row.hash };
+
+    fn hash(&self) -> &Text {
+        &self.hash
     }
 }

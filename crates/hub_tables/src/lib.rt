@@ -3,16 +3,8 @@
 //! one map. The rights of owners, the tokens, the shares and the machine of the hub stand on it.
 #![tactic(auto)]
 
-pub mod changes;
 mod hashed;
-mod keyed;
-pub mod keys;
-pub mod limits;
-pub mod records;
-mod row_keys;
 pub mod tables;
-#[cfg(test)]
-mod tests;
 mod trees;
 
 pub use keyed_rows::PutError;

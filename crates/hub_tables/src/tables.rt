@@ -1,6 +1,7 @@
 //! The tables: all rows of the hub, its limits and its custom scopes.
 ghost use Rattle.std.specs.Prelude.{◌≡◌};
 ghost use Rattle.std.specs.FinMap as map;
+ghost use Rattle.hub_tables.specs.Own.{AreOwn};
 
 mod grants;
 mod members;
@@ -8,8 +9,8 @@ mod people;
 mod servers;
 mod tokens;
 
-use crate::limits::Limits;
 use crate::trees::Trees;
+use hub_rows::limits::Limits;
 use scope_names::table::ScopeTable;
 use std::alloc::Global;
 use std::marker::Model;
@@ -49,6 +50,19 @@ impl Tables {
             scopes,
             alloc,
         }
+    }
+
+    /// Each row stands under its own key.
+    pub fn own_keys(&self)
+        ensures { AreOwn self.now }
+    {
+        let _read: Limits = self.limits;
+    }
+
+    pub fn limits(&self) -> Limits
+        ensures { result ≡ self.now.limits }
+    {
+        self.limits
     }
 
     /// The custom scopes of the hub.

@@ -1,14 +1,14 @@
 //! The trees behind the tables.
 ghost use Rattle.hub_tables.specs.Empty.{AreEmpty};
 
-use crate::keys::ShareKey;
-use crate::records::{
-    Group, Lease, Next, OAuthClient, OAuthCode, Role, ServerRow, Service, Share, ShareCode, Token,
-    User,
-};
 use hub_kit::names::{GroupName, RoleName, ServerKey, ServiceName, UserName};
 use hub_kit::target::Target;
 use hub_kit::text::Text;
+use hub_rows::keys::ShareKey;
+use hub_rows::records::{
+    Group, Lease, Next, OAuthClient, OAuthCode, Role, ServerRow, Service, Share, ShareCode, Token,
+    User,
+};
 use std::alloc::Global;
 use std::collections::BTreeMap;
 

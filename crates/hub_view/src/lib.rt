@@ -1,12 +1,31 @@
-//! Bodies of replies: JSON as plain values, and its text.
-//! The contract of `body_text` carries it: the text is exactly that of the body's tokens. The machine answers bodies, and
-//! the interface writes them.
+//! Bodies of replies: JSON as plain values, its text, and what is shown of each object and of a list in pages.
+//! `user_body` and its kin carry it: a field stands in the body exactly where the grant admits its action on the object; and the
+//! text that `body_text` gives is exactly that of the body's tokens. The machine answers bodies, and the interface writes them.
 #![tactic(auto)]
 
 mod body;
+mod facts;
+mod groups;
+mod identity;
+mod listing;
 mod members;
+mod moments;
+mod pages;
+mod parts;
+mod records;
+mod servers;
 mod text;
+mod users;
 
 pub use body::Body;
+pub use facts::{ServerFacts, UserFacts};
+pub use groups::{group_body, service_body};
+pub use identity::{service_identity, user_identity};
+pub use listing::Listing;
 pub use members::{add_member, line, lines, message_body};
+pub use moments::moment_text;
+pub use pages::{Page, page_body};
+pub use records::{code_body, new_code_body, new_token_body, role_body, share_body, token_body};
+pub use servers::is_live;
 pub use text::body_text;
+pub use users::user_body;

@@ -113,7 +113,7 @@ tied Greater h = cc
 same_some : {X : Type 0} {x y : X} → Some x ≡ Some y → x ≡ y
 same_some h = cc
 
-clash : (b : Bool) → b ≡ true → b ≡ false → ⊥
+pub clash : (b : Bool) → b ≡ true → b ≡ false → ⊥
 clash b h k = cc
 
 pub put_and_removed : {K X : Type 0} {R : K → K → Ordering} (o : IsTotalOrder R) (exact : IsAntisymmetric R) (m : FinMap R X) (k : K) (v : X)
@@ -241,11 +241,11 @@ lent_row o m k x at = get_row o m k ∙ sym at
 
 -- ---- a test of each key
 
-or_again : (a b : Bool) → (a || b) ≡ (a || (a || b))
+pub or_again : (a b : Bool) → (a || b) ≡ (a || (a || b))
 or_again true b = refl
 or_again false b = refl
 
-or_over : (a b c : Bool) → (a || (b || c)) ≡ (b || (a || c))
+pub or_over : (a b c : Bool) → (a || (b || c)) ≡ (b || (a || c))
 or_over true true c = refl
 or_over true false c = refl
 or_over false b c = refl

@@ -1,7 +1,13 @@
-//! Tests of scopes and of the life of servers: what no clause can say, with values from outside.
+//! Tests of scopes, tables, rights and rules: what no clause can say, with values from outside.
 //! A crate of their own, since a crate that has tests is proved twice. Nothing stands above it.
 #![tactic(auto)]
 
+#[cfg(test)]
+mod of_hub_tables;
+#[cfg(test)]
+mod of_hub_view;
+#[cfg(test)]
+mod of_keyed_rows;
 #[cfg(test)]
 mod of_scope_expand;
 #[cfg(test)]

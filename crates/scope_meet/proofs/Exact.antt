@@ -1,6 +1,7 @@
 -- Two filters meet in what both admit.
-use Rattle.std.proofs.Common.{◌≡◌, ℕ, Bool, true, false, ◌&&◌, ◌||◌, cond, List, [], ◌∷◌, map, refl, sym, ap, ◌∙◌, ◌⊎◌, inl, inr, ◌++◌}
-use Rattle.std.specs.List.{list_any, filter, flat_map}
+use Rattle.std.proofs.Common.{◌≡◌, ℕ, Bool, true, false, ◌&&◌, ◌||◌, cond, List, [], ◌∷◌, refl, sym, ap, ◌∙◌, ◌⊎◌, inl, inr}
+use Rattle.std.specs.List.{list_any, flat_map}
+use Rattle.std.proofs.lemmas.List.Folds.{list_any-append}
 use Rattle.std.specs.Ordering.{nat_cmp, eq_by_cmp, is_eq}
 use Rattle.std.specs.declared.cmp.Ordering.TheVariants.{Less, Equal, Greater}
 use Rattle.std.specs.Cmp.Lexicographic.{slice_cmp, nat_list_eq_equiv, texts_ties}
@@ -12,10 +13,10 @@ use Rattle.scope_filters.specs.declared.filter.Filter.{Filter}
 use Rattle.scope_filters.specs.declared.filter.Filter.TheVariants as Fi
 use Rattle.scope_filters.specs.Admits.{reads_names, admits, any_admits}
 use Rattle.scope_filters.specs.Contexts.{Context, same, is_member}
-use Rattle.scope_meet.specs.Meets.{within, common, meet_of, meets}
+use Rattle.scope_meet.specs.Meets.{within, common, meet_of, meets, is_group}
 
 -- ---- names
-tied : (a b : List ℕ) → eq_by_cmp (slice_cmp nat_cmp) a b ≡ true → a ≡ b
+pub tied : (a b : List ℕ) → eq_by_cmp (slice_cmp nat_cmp) a b ≡ true → a ≡ b
 tied a b h = elim (slice_cmp nat_cmp a b) as (λ r. slice_cmp nat_cmp a b ≡ r → is_eq r ≡ true → a ≡ b) [
   | Less ↦ λ e k. absurd (cc)
   | Equal ↦ λ e k. slice_cmp-IsAntisymmetric nat_cmp-IsAntisymmetric a b e
@@ -42,6 +43,15 @@ right false b h = cc
 pub both_true : (a b : Bool) → a ≡ true → b ≡ true → (a && b) ≡ true
 both_true true b h k = k
 both_true false b h k = cc
+
+pub exactly : (b x y : Bool) → (b ≡ true → (x ≡ true) × (y ≡ true)) → (x ≡ true → y ≡ true → b ≡ true) → b ≡ (x && y)
+exactly true x y to from = sym (both_true x y (to refl).0 (to refl).1)
+exactly false true true to from = from refl refl
+exactly false true false to from = refl
+exactly false false y to from = refl
+
+abbrev pub are_groups : Filter → Filter → Bool
+are_groups f g = is_group f && is_group g
 
 -- ---- what is within admits no more
 module _ (a : Action) (m : Context) where
@@ -84,72 +94,42 @@ module _ (a : Action) (m : Context) where
   owner_admits true u v h k = rw k refl
   owner_admits false u v h k = cc
 
-  -- the users who pass a test, as filters
-  any_users : (x : Object) (v : List ℕ) → ((u : List ℕ) → admits a m (Fi.User u) x ≡ same u v) → (p : List ℕ → Bool) (us : List (List ℕ))
-      → any_admits a m (map Fi.User (filter p us)) x ≡ list_any (λ u. p u && same u v) us
-  any_users x v is p [] = refl
-  any_users x v is p (u ∷ us) = elim (p u) as (λ b. any_admits a m (map Fi.User (cond b (u ∷ filter p us) (filter p us))) x ≡ ((b && same u v) || list_any (λ u. p u && same u v) us)) [
-    | true ↦ rw (is u, any_users x v is p us) refl
-    | false ↦ any_users x v is p us
-  ]
-
-step : (pu pv s s' any rest : Bool) → s' ≡ s → (s ≡ true → pu ≡ pv) → rest ≡ (any && pv) → ((pu && s) || rest) ≡ ((s' || any) && pv)
-step pu true true s' any rest e h r = rw (h refl, e) refl
-step pu false true s' true rest e h r = rw (h refl, e, r) refl
-step pu false true s' false rest e h r = rw (h refl, e, r) refl
-step true pv false s' any rest e h r = rw (e, r) refl
-step false pv false s' any rest e h r = rw (e, r) refl
-
--- of those who pass a test, v is one exactly if v is there and passes
-one_passes : (p : List ℕ → Bool) (v : List ℕ) (us : List (List ℕ)) → list_any (λ u. p u && same u v) us ≡ (list_any (same v) us && p v)
-one_passes p v [] = refl
-one_passes p v (u ∷ us) = step (p u) (p v) (same u v) (same v u) _ _ (nat_list_eq_equiv.symm v u) (λ h. ap p (same_is u v h)) (one_passes p v us)
-
-module _ (a : Action) (m : Context) where
-  pub in_both : (g h : List ℕ) (x : Object) (v : List ℕ) → ((u : List ℕ) → admits a m (Fi.User u) x ≡ same u v)
-      → any_admits a m (common a m (Fi.Group g) (Fi.Group h)) x ≡ (is_member m v g && is_member m v h)
-  in_both g h x v is = any_users a m x v is (λ u. is_member m u h) (m g) ∙ one_passes (λ u. is_member m u h) v (m g)
-
-  pub both : (f g : Filter) (x : Object) → admits a m f x ≡ true → admits a m g x ≡ true → (within a m f g ≡ true) ⊎ ((within a m g f ≡ true) ⊎ (any_admits a m (common a m f g) x ≡ true))
+  pub both : (f g : Filter) (x : Object) → admits a m f x ≡ true → admits a m g x ≡ true → (within a m f g ≡ true) ⊎ ((within a m g f ≡ true) ⊎ ((any_admits a m (common a f g) x ≡ true) ⊎ (are_groups f g ≡ true)))
   both f Fi.All x h k = inl refl
   both Fi.All g x h k = inr (inl refl)
-  both (Fi.User u) (Fi.User w) (Ob.User v) h k = inl (joined a m u w v h k)
-  both (Fi.User u) (Fi.User w) (Ob.Server l) h k = inl (joined a m u w l.user h k)
-  both (Fi.User u) (Fi.Group g) (Ob.User v) h k = inl (moved_back a m (λ n. is_member m n g) u v h k)
-  both (Fi.User u) (Fi.Group g) (Ob.Server l) h k = inl (moved_back a m (λ n. is_member m n g) u l.user h k)
-  both (Fi.Group g) (Fi.User u) (Ob.User v) h k = inr (inl (moved_back a m (λ n. is_member m n g) u v k h))
-  both (Fi.Group g) (Fi.User u) (Ob.Server l) h k = inr (inl (moved_back a m (λ n. is_member m n g) u l.user k h))
-  both (Fi.User u) (Fi.Server l) (Ob.User v) h k = inr (inl (joined a m l.user u v (right (reads_names a) _ k) h))
-  both (Fi.User u) (Fi.Server l) (Ob.Server n) h k = inr (inl (joined a m l.user u n.user (left (same l.user n.user) _ k) h))
-  both (Fi.Server l) (Fi.User u) (Ob.User v) h k = inl (joined a m l.user u v (right (reads_names a) _ h) k)
-  both (Fi.Server l) (Fi.User u) (Ob.Server n) h k = inl (joined a m l.user u n.user (left (same l.user n.user) _ h) k)
-  both (Fi.User u) (Fi.OwnerOf w) (Ob.User v) h k = inr (inl (joined a m w u v k h))
-  both (Fi.OwnerOf w) (Fi.User u) (Ob.User v) h k = inl (joined a m w u v h k)
-  both (Fi.Group g) (Fi.Group n) (Ob.Group o) h k = inl (joined a m g n o h k)
-  both (Fi.Group g) (Fi.Group n) (Ob.User u) h k = inr (inr (in_both g n (Ob.User u) u (λ _. refl) ∙ both_true (is_member m u g) _ h k))
-  both (Fi.Group g) (Fi.Group n) (Ob.Server l) h k = inr (inr (in_both g n (Ob.Server l) l.user (λ _. refl) ∙ both_true (is_member m l.user g) _ h k))
-  both (Fi.Group g) (Fi.Server l) (Ob.User v) h k = inr (inl (moved_back a m (λ n. is_member m n g) l.user v (right (reads_names a) _ k) h))
-  both (Fi.Group g) (Fi.Server l) (Ob.Server n) h k = inr (inl (moved_back a m (λ p. is_member m p g) l.user n.user (left (same l.user n.user) _ k) h))
-  both (Fi.Server l) (Fi.Group g) (Ob.User v) h k = inl (moved_back a m (λ n. is_member m n g) l.user v (right (reads_names a) _ h) k)
-  both (Fi.Server l) (Fi.Group g) (Ob.Server n) h k = inl (moved_back a m (λ p. is_member m p g) l.user n.user (left (same l.user n.user) _ h) k)
-  both (Fi.Group g) (Fi.OwnerOf w) (Ob.User v) h k = inr (inl (moved_back a m (λ n. is_member m n g) w v k h))
-  both (Fi.OwnerOf w) (Fi.Group g) (Ob.User v) h k = inl (moved_back a m (λ n. is_member m n g) w v h k)
-  both (Fi.Server l) (Fi.Server n) (Ob.User v) h k = inr (inr (owner_admits a m _ l.user v
-      (both_true (reads_names a) _ (left (reads_names a) _ h) (joined a m l.user n.user v (right (reads_names a) _ h) (right (reads_names a) _ k))) (right (reads_names a) _ h)))
+  both (Fi.User u) (Fi.User w) (Ob.User v) h k = inl (joined u w v h k)
+  both (Fi.User u) (Fi.User w) (Ob.Server l) h k = inl (joined u w l.user h k)
+  both (Fi.User u) (Fi.Group g) (Ob.User v) h k = inl (moved_back (λ n. is_member m n g) u v h k)
+  both (Fi.User u) (Fi.Group g) (Ob.Server l) h k = inl (moved_back (λ n. is_member m n g) u l.user h k)
+  both (Fi.Group g) (Fi.User u) (Ob.User v) h k = inr (inl (moved_back (λ n. is_member m n g) u v k h))
+  both (Fi.Group g) (Fi.User u) (Ob.Server l) h k = inr (inl (moved_back (λ n. is_member m n g) u l.user k h))
+  both (Fi.User u) (Fi.Server l) (Ob.User v) h k = inr (inl (joined l.user u v (right (reads_names a) _ k) h))
+  both (Fi.User u) (Fi.Server l) (Ob.Server n) h k = inr (inl (joined l.user u n.user (left (same l.user n.user) _ k) h))
+  both (Fi.Server l) (Fi.User u) (Ob.User v) h k = inl (joined l.user u v (right (reads_names a) _ h) k)
+  both (Fi.Server l) (Fi.User u) (Ob.Server n) h k = inl (joined l.user u n.user (left (same l.user n.user) _ h) k)
+  both (Fi.User u) (Fi.OwnerOf w) (Ob.User v) h k = inr (inl (joined w u v k h))
+  both (Fi.OwnerOf w) (Fi.User u) (Ob.User v) h k = inl (joined w u v h k)
+  both (Fi.Group g) (Fi.Group n) (Ob.Group o) h k = inl (joined g n o h k)
+  both (Fi.Group g) (Fi.Group n) (Ob.User u) h k = inr (inr (inr refl))
+  both (Fi.Group g) (Fi.Group n) (Ob.Server l) h k = inr (inr (inr refl))
+  both (Fi.Group g) (Fi.Server l) (Ob.User v) h k = inr (inl (moved_back (λ n. is_member m n g) l.user v (right (reads_names a) _ k) h))
+  both (Fi.Group g) (Fi.Server l) (Ob.Server n) h k = inr (inl (moved_back (λ p. is_member m p g) l.user n.user (left (same l.user n.user) _ k) h))
+  both (Fi.Server l) (Fi.Group g) (Ob.User v) h k = inl (moved_back (λ n. is_member m n g) l.user v (right (reads_names a) _ h) k)
+  both (Fi.Server l) (Fi.Group g) (Ob.Server n) h k = inl (moved_back (λ p. is_member m p g) l.user n.user (left (same l.user n.user) _ h) k)
+  both (Fi.Group g) (Fi.OwnerOf w) (Ob.User v) h k = inr (inl (moved_back (λ n. is_member m n g) w v k h))
+  both (Fi.OwnerOf w) (Fi.Group g) (Ob.User v) h k = inl (moved_back (λ n. is_member m n g) w v h k)
+  both (Fi.Server l) (Fi.Server n) (Ob.User v) h k = inr (inr (inl (owner_admits _ l.user v
+      (both_true (reads_names a) _ (left (reads_names a) _ h) (joined l.user n.user v (right (reads_names a) _ h) (right (reads_names a) _ k))) (right (reads_names a) _ h))))
   both (Fi.Server l) (Fi.Server n) (Ob.Server o) h k = inl (both_true (same l.user n.user) _
-      (joined a m l.user n.user o.user (left (same l.user o.user) _ h) (left (same n.user o.user) _ k))
-      (joined a m l.server n.server o.server (right (same l.user o.user) _ h) (right (same n.user o.user) _ k)))
-  both (Fi.Server l) (Fi.OwnerOf w) (Ob.User v) h k = inr (inl (both_true (reads_names a) _ (left (reads_names a) _ h) (joined a m w l.user v k (right (reads_names a) _ h))))
-  both (Fi.OwnerOf w) (Fi.Server l) (Ob.User v) h k = inl (both_true (reads_names a) _ (left (reads_names a) _ k) (joined a m w l.user v h (right (reads_names a) _ k)))
-  both (Fi.Service v) (Fi.Service w) (Ob.Service o) h k = inl (joined a m v w o h k)
-  both (Fi.OwnerOf u) (Fi.OwnerOf w) (Ob.User v) h k = inl (joined a m u w v h k)
+      (joined l.user n.user o.user (left (same l.user o.user) _ h) (left (same n.user o.user) _ k))
+      (joined l.server n.server o.server (right (same l.user o.user) _ h) (right (same n.user o.user) _ k)))
+  both (Fi.Server l) (Fi.OwnerOf w) (Ob.User v) h k = inr (inl (both_true (reads_names a) _ (left (reads_names a) _ h) (joined w l.user v k (right (reads_names a) _ h))))
+  both (Fi.OwnerOf w) (Fi.Server l) (Ob.User v) h k = inl (both_true (reads_names a) _ (left (reads_names a) _ k) (joined w l.user v h (right (reads_names a) _ k)))
+  both (Fi.Service v) (Fi.Service w) (Ob.Service o) h k = inl (joined v w o h k)
+  both (Fi.OwnerOf u) (Fi.OwnerOf w) (Ob.User v) h k = inl (joined u w v h k)
   both (Fi.Service v) g Ob.Hub h k = cc
   both f (Fi.Service v) Ob.Hub h k = cc
   both _ _ _ h k = cc
-
-  no_user : (x : Object) → ((u : List ℕ) → admits a m (Fi.User u) x ≡ false) → (us : List (List ℕ)) → any_admits a m (map Fi.User us) x ≡ true → ⊥
-  no_user x none [] h = cc
-  no_user x none (u ∷ us) h = no_user x none us (sym (ap (λ b. b || any_admits a m (map Fi.User us) x) (none u)) ∙ h)
 
   one_or_none : (b : Bool) → (b || false) ≡ true → b ≡ true
   one_or_none true h = refl
@@ -160,51 +140,43 @@ module _ (a : Action) (m : Context) where
   owner_only false u x h = cc
 
   -- what is in common both admit
-  pub common_sound : (f g : Filter) (x : Object) → any_admits a m (common a m f g) x ≡ true → (admits a m f x ≡ true) × (admits a m g x ≡ true)
-  common_sound (Fi.Group g) (Fi.Group h) (Ob.User v) e = let k = sym (in_both g h (Ob.User v) v (λ _. refl)) ∙ e in (left (is_member m v g) _ k, right (is_member m v g) _ k)
-  common_sound (Fi.Group g) (Fi.Group h) (Ob.Server l) e = let k = sym (in_both g h (Ob.Server l) l.user (λ _. refl)) ∙ e in (left (is_member m l.user g) _ k, right (is_member m l.user g) _ k)
-  common_sound (Fi.Group g) (Fi.Group h) Ob.Hub e = absurd (no_user Ob.Hub (λ u. refl) (filter (λ u. is_member m u h) (m g)) e)
-  common_sound (Fi.Group g) (Fi.Group h) (Ob.Group o) e = absurd (no_user (Ob.Group o) (λ u. refl) (filter (λ u. is_member m u h) (m g)) e)
-  common_sound (Fi.Group g) (Fi.Group h) (Ob.Service o) e = absurd (no_user (Ob.Service o) (λ u. refl) (filter (λ u. is_member m u h) (m g)) e)
+  pub common_sound : (f g : Filter) (x : Object) → any_admits a m (common a f g) x ≡ true → (admits a m f x ≡ true) × (admits a m g x ≡ true)
   common_sound (Fi.Server l) (Fi.Server n) (Ob.User v) e =
       let k = owner_only _ l.user (Ob.User v) e in
-      (both_true (reads_names a) _ (left (reads_names a) _ k.0) k.1, both_true (reads_names a) _ (left (reads_names a) _ k.0) (moved a m (λ p. same p v) l.user n.user (right (reads_names a) _ k.0) k.1))
+      (both_true (reads_names a) _ (left (reads_names a) _ k.0) k.1, both_true (reads_names a) _ (left (reads_names a) _ k.0) (moved (λ p. same p v) l.user n.user (right (reads_names a) _ k.0) k.1))
   common_sound (Fi.Server l) (Fi.Server n) Ob.Hub e = let k = (owner_only _ l.user Ob.Hub e).1 in cc
   common_sound (Fi.Server l) (Fi.Server n) (Ob.Group o) e = let k = (owner_only _ l.user (Ob.Group o) e).1 in cc
   common_sound (Fi.Server l) (Fi.Server n) (Ob.Server o) e = let k = (owner_only _ l.user (Ob.Server o) e).1 in cc
   common_sound (Fi.Server l) (Fi.Server n) (Ob.Service o) e = let k = (owner_only _ l.user (Ob.Service o) e).1 in cc
   common_sound _ _ _ e = cc
 
-  chosen : (b c : Bool) (common : List Filter) (f g : Filter) (x : Object) → (b ≡ true) ⊎ ((c ≡ true) ⊎ (any_admits a m common x ≡ true)) → admits a m f x ≡ true → admits a m g x ≡ true
-      → any_admits a m (cond b (f ∷ []) (cond c (g ∷ []) common)) x ≡ true
-  chosen true c common f g x o h k = rw h refl
-  chosen false true common f g x o h k = rw k refl
-  chosen false false common f g x (inl o) h k = cc
-  chosen false false common f g x (inr (inl o)) h k = cc
-  chosen false false common f g x (inr (inr o)) h k = o
+  chosen : (b c both : Bool) (common : List Filter) (f g : Filter) (x : Object) → (b ≡ true) ⊎ ((c ≡ true) ⊎ ((any_admits a m common x ≡ true) ⊎ (both ≡ true))) → both ≡ false
+      → admits a m f x ≡ true → admits a m g x ≡ true → any_admits a m (cond b (f ∷ []) (cond c (g ∷ []) common)) x ≡ true
+  chosen true c both common f g x o e h k = rw h refl
+  chosen false true both common f g x o e h k = rw k refl
+  chosen false false both common f g x (inl o) e h k = cc
+  chosen false false both common f g x (inr (inl o)) e h k = cc
+  chosen false false both common f g x (inr (inr (inl o))) e h k = o
+  chosen false false both common f g x (inr (inr (inr o))) e h k = cc
 
   -- the meet admits what both admit
-  pub meet_admits : (f g : Filter) (x : Object) → admits a m f x ≡ true → admits a m g x ≡ true → any_admits a m (meet_of a m f g) x ≡ true
-  meet_admits f g x h k = chosen (within a m f g) (within a m g f) (common a m f g) f g x (both f g x h k) h k
+  meet_admits : (f g : Filter) (x : Object) → are_groups f g ≡ false → admits a m f x ≡ true → admits a m g x ≡ true → any_admits a m (meet_of a m f g) x ≡ true
+  meet_admits f g x e h k = chosen (within a m f g) (within a m g f) (are_groups f g) (common a f g) f g x (both f g x h k) e h k
 
-  pub meet_only : (f g : Filter) (x : Object) → any_admits a m (meet_of a m f g) x ≡ true → (admits a m f x ≡ true) × (admits a m g x ≡ true)
-  meet_only f g x e = elim (within a m f g) as (λ b. within a m f g ≡ b → any_admits a m (cond b (f ∷ []) (cond (within a m g f) (g ∷ []) (common a m f g))) x ≡ true → (admits a m f x ≡ true) × (admits a m g x ≡ true)) [
-    | true ↦ λ w e. let k = one_or_none (admits a m f x) e in (k, within_sound a m f g x w k)
-    | false ↦ λ _ e. elim (within a m g f) as (λ b. within a m g f ≡ b → any_admits a m (cond b (g ∷ []) (common a m f g)) x ≡ true → (admits a m f x ≡ true) × (admits a m g x ≡ true)) [
-      | true ↦ λ w e. let k = one_or_none (admits a m g x) e in (within_sound a m g f x w k, k)
+  meet_only : (f g : Filter) (x : Object) → any_admits a m (meet_of a m f g) x ≡ true → (admits a m f x ≡ true) × (admits a m g x ≡ true)
+  meet_only f g x e = elim (within a m f g) as (λ b. within a m f g ≡ b → any_admits a m (cond b (f ∷ []) (cond (within a m g f) (g ∷ []) (common a f g))) x ≡ true → (admits a m f x ≡ true) × (admits a m g x ≡ true)) [
+    | true ↦ λ w e. let k = one_or_none (admits a m f x) e in (k, within_sound f g x w k)
+    | false ↦ λ _ e. elim (within a m g f) as (λ b. within a m g f ≡ b → any_admits a m (cond b (g ∷ []) (common a f g)) x ≡ true → (admits a m f x ≡ true) × (admits a m g x ≡ true)) [
+      | true ↦ λ w e. let k = one_or_none (admits a m g x) e in (within_sound g f x w k, k)
       | false ↦ λ _ e. common_sound f g x e
     ] refl e
   ] refl e
 
+  -- exactly
+  pair_met : (f g : Filter) (x : Object) → are_groups f g ≡ false → any_admits a m (meet_of a m f g) x ≡ (admits a m f x && admits a m g x)
+  pair_met f g x e = exactly (any_admits a m (meet_of a m f g) x) (admits a m f x) (admits a m g x) (meet_only f g x) (meet_admits f g x e)
+
 -- ---- lists
-or_assoc : (a b c : Bool) → ((a || b) || c) ≡ (a || (b || c))
-or_assoc true b c = refl
-or_assoc false b c = refl
-
-pub any_append : {X : Type 0} (p : X → Bool) (xs ys : List X) → list_any p (xs ++ ys) ≡ (list_any p xs || list_any p ys)
-any_append p [] ys = refl
-any_append p (x ∷ xs) ys = ap (λ b. p x || b) (any_append p xs ys) ∙ sym (or_assoc (p x) (list_any p xs) (list_any p ys))
-
 pub or_cases : (a b : Bool) → (a || b) ≡ true → (a ≡ true) ⊎ (b ≡ true)
 or_cases true b h = inl refl
 or_cases false b h = inr h
@@ -217,37 +189,55 @@ pub or_right : (a b : Bool) → b ≡ true → (a || b) ≡ true
 or_right true b h = refl
 or_right false b h = h
 
+none_left : (a b c : Bool) → (a && (b || c)) ≡ false → (a && b) ≡ false
+none_left true true c h = cc
+none_left true false c h = refl
+none_left false b c h = refl
+
+none_right : (a b c : Bool) → (a && (b || c)) ≡ false → (a && c) ≡ false
+none_right true true c h = cc
+none_right true false c h = h
+none_right false b c h = refl
+
+none_first : (a b c : Bool) → ((a || b) && c) ≡ false → (a && c) ≡ false
+none_first true b c h = h
+none_first false b c h = refl
+
+none_second : (a b c : Bool) → ((a || b) && c) ≡ false → (b && c) ≡ false
+none_second true true c h = h
+none_second true false c h = refl
+none_second false b c h = h
+
+and_none : (a : Bool) → false ≡ (a && false)
+and_none true = refl
+and_none false = refl
+
+and_or : (a b c : Bool) → ((a && b) || (a && c)) ≡ (a && (b || c))
+and_or true b c = refl
+and_or false b c = refl
+
+or_and : (a b c : Bool) → ((a && c) || (b && c)) ≡ ((a || b) && c)
+or_and true true true = refl
+or_and true true false = refl
+or_and true false true = refl
+or_and true false false = refl
+or_and false b c = refl
+
 module _ (a : Action) (m : Context) where
-  one_admits : (f : Filter) (gs : List Filter) (x : Object) → admits a m f x ≡ true → any_admits a m gs x ≡ true → any_admits a m (flat_map (meet_of a m f) gs) x ≡ true
-  one_admits f [] x h k = cc
-  one_admits f (g ∷ gs) x h k =
-      any_append (λ f. admits a m f x) (meet_of a m f g) (flat_map (meet_of a m f) gs)
-      ∙ elim (or_cases (admits a m g x) _ k) as (λ _. (any_admits a m (meet_of a m f g) x || any_admits a m (flat_map (meet_of a m f) gs) x) ≡ true) [
-        | inl k ↦ or_left _ _ (meet_admits a m f g x h k)
-        | inr k ↦ or_right _ _ (one_admits f gs x h k)
-      ]
+  one_met : (f : Filter) (gs : List Filter) (x : Object) → (is_group f && list_any is_group gs) ≡ false
+      → any_admits a m (flat_map (meet_of a m f) gs) x ≡ (admits a m f x && any_admits a m gs x)
+  one_met f [] x e = and_none (admits a m f x)
+  one_met f (g ∷ gs) x e =
+      list_any-append (λ f. admits a m f x) (meet_of a m f g) (flat_map (meet_of a m f) gs)
+      ∙ ap (λ b. b || any_admits a m (flat_map (meet_of a m f) gs) x) (pair_met a m f g x (none_left (is_group f) (is_group g) (list_any is_group gs) e))
+      ∙ ap (λ b. (admits a m f x && admits a m g x) || b) (one_met f gs x (none_right (is_group f) (is_group g) (list_any is_group gs) e))
+      ∙ and_or (admits a m f x) (admits a m g x) (any_admits a m gs x)
 
-  one_only : (f : Filter) (gs : List Filter) (x : Object) → any_admits a m (flat_map (meet_of a m f) gs) x ≡ true → (admits a m f x ≡ true) × (any_admits a m gs x ≡ true)
-  one_only f [] x h = cc
-  one_only f (g ∷ gs) x h =
-      elim (or_cases (any_admits a m (meet_of a m f g) x) (any_admits a m (flat_map (meet_of a m f) gs) x) (sym (any_append (λ f. admits a m f x) (meet_of a m f g) (flat_map (meet_of a m f) gs)) ∙ h)) as (λ _. (admits a m f x ≡ true) × (any_admits a m (g ∷ gs) x ≡ true)) [
-        | inl h ↦ let k = meet_only a m f g x h in (k.0, or_left _ _ k.1)
-        | inr h ↦ let k = one_only f gs x h in (k.0, or_right _ _ k.1)
-      ]
-
-  pub all_admit : (fs gs : List Filter) (x : Object) → any_admits a m fs x ≡ true → any_admits a m gs x ≡ true → any_admits a m (meets a m fs gs) x ≡ true
-  all_admit [] gs x h k = cc
-  all_admit (f ∷ fs) gs x h k =
-      any_append (λ f. admits a m f x) (flat_map (meet_of a m f) gs) (meets a m fs gs)
-      ∙ elim (or_cases (admits a m f x) _ h) as (λ _. (any_admits a m (flat_map (meet_of a m f) gs) x || any_admits a m (meets a m fs gs) x) ≡ true) [
-        | inl h ↦ or_left _ _ (one_admits f gs x h k)
-        | inr h ↦ or_right _ _ (all_admit fs gs x h k)
-      ]
-
-  pub all_only : (fs gs : List Filter) (x : Object) → any_admits a m (meets a m fs gs) x ≡ true → (any_admits a m fs x ≡ true) × (any_admits a m gs x ≡ true)
-  all_only [] gs x h = cc
-  all_only (f ∷ fs) gs x h =
-      elim (or_cases (any_admits a m (flat_map (meet_of a m f) gs) x) (any_admits a m (meets a m fs gs) x) (sym (any_append (λ f. admits a m f x) (flat_map (meet_of a m f) gs) (meets a m fs gs)) ∙ h)) as (λ _. (any_admits a m (f ∷ fs) x ≡ true) × (any_admits a m gs x ≡ true)) [
-        | inl h ↦ let k = one_only f gs x h in (or_left _ _ k.0, k.1)
-        | inr h ↦ let k = all_only fs gs x h in (or_right _ _ k.0, k.1)
-      ]
+  -- the meets of two lists, of which one at most has groups
+  pub all_met : (fs gs : List Filter) (x : Object) → (list_any is_group fs && list_any is_group gs) ≡ false → any_admits a m (meets a m fs gs) x ≡ (any_admits a m fs x && any_admits a m gs x)
+  all_met [] gs x e = refl
+  all_met (f ∷ fs) gs x e =
+      list_any-append (λ f. admits a m f x) (flat_map (meet_of a m f) gs) (meets a m fs gs)
+      ∙ ap (λ b. b || any_admits a m (meets a m fs gs) x) (one_met f gs x (none_first (is_group f) (list_any is_group fs) (list_any is_group gs) e))
+      ∙ ap (λ b. (admits a m f x && any_admits a m gs x) || b) (all_met fs gs x (none_second (is_group f) (list_any is_group fs) (list_any is_group gs) e))
+      ∙ or_and (admits a m f x) (any_admits a m fs x) (any_admits a m gs x)

@@ -3,6 +3,7 @@ pub mod Exact
 pub mod Fresh
 pub mod GrantMeets
 pub mod Least
+pub mod NamesMet
 pub mod Rows
 pub mod TextCompare
 pub mod Witnesses

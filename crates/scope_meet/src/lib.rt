@@ -4,6 +4,7 @@
 #![tactic(auto)]
 
 pub mod asks;
+pub mod groups;
 pub mod inside;
 pub mod meets;
 pub mod text_order;

@@ -1,18 +1,20 @@
 //! The meet of two grants.
-ghost use Rattle.std.specs.Prelude.{◌≡◌, Bool, ◌&&◌, ◌||◌, ◌++◌, OnOk, IfOk};
-ghost use Rattle.std.specs.List.{flat_map, list_any};
+ghost use Rattle.std.specs.Prelude.{◌≡◌, Bool, ◌&&◌, ◌||◌, ◌++◌, not, OnOk, IfOk};
+ghost use Rattle.std.specs.List.{filter, flat_map, list_any};
 ghost use Rattle.std.specs.FinMap as map;
 ghost use Rattle.scope_names.specs.declared.action.Action.{Action};
 ghost use Rattle.scope_names.specs.ActionOrder.{same_action};
 ghost use Rattle.scope_filters.specs.declared.filter.Filter.{Filter};
 ghost use Rattle.scope_filters.specs.declared.object.Object.{Object};
-ghost use Rattle.scope_filters.specs.Grants.{grant_admits, filters_at};
+ghost use Rattle.scope_filters.specs.Admits.{any_admits};
+ghost use Rattle.scope_filters.specs.Grants.{grant_admits};
 ghost use Rattle.scope_expand.specs.Passes.{passes};
-ghost use Rattle.scope_meet.specs.Meets.{meet_of, common, users_in_both, IsMeet};
+ghost use Rattle.scope_meet.specs.declared.meets.Parts.{Parts};
+ghost use Rattle.scope_meet.specs.Meets.{meet_of, common, groups_of, others_of, pairs_met, AreGroupMeets, IsMetUnder};
 ghost use Rattle.scope_meet.specs.Meets as spec;
 
+use crate::groups::GroupMeets;
 use crate::within::{is_within, reads_names};
-use hub_kit::names::GroupName;
 use scope_filters::filter::Filter;
 use scope_filters::grant::{Filters, Grant};
 use scope_filters::members::Members;
@@ -20,6 +22,7 @@ use scope_names::action::Action;
 use std::alloc::{AllocError, Global};
 
 /// A grant that admits an action on an object exactly where both grants do, among the members that the groups have now.
+/// Where both have groups, it looks at the members of the groups that one of them alone has.
 pub fn meet<M: Members>(
     alloc: Global,
     a: &Grant,
@@ -29,20 +32,10 @@ pub fn meet<M: Members>(
     ensures { IfOk result (λ both. (action : Action) (x : Object) → grant_admits (M.context members.now) both action x
         ≡ (grant_admits (M.context members.now) a.now action x && grant_admits (M.context members.now) b.now action x)) }
 {
-    meet_all(alloc, a, b, members)
-}
-
-fn meet_all<M: Members>(
-    alloc: Global,
-    a: &Grant,
-    b: &Grant,
-    members: &M,
-) -> Result<Grant, AllocError>
-    ensures { IfOk result (λ both. IsMeet (M.context members.now) a.now b.now both) }
-{
     let mut both = Grant::new(alloc);
+    let mut groups = GroupMeets::none(alloc);
     for (action, filters) in a.iter() {
-        add_meets(alloc, &mut both, action, filters, b, members)?;
+        add_meets(alloc, &mut both, &mut groups, action, filters, b, members)?;
     }
     Ok(both)
 }
@@ -51,21 +44,44 @@ fn meet_all<M: Members>(
 fn add_meets<M: Members>(
     alloc: Global,
     both: &mut Grant,
+    groups: &mut GroupMeets,
     action: &Action,
     filters: &Filters,
     b: &Grant,
     members: &M,
 ) -> Result<(), AllocError>
-    ensures { OnOk result ((p : Filter → Bool) (a : Action) → passes p both.new a
-        ≡ (passes p both.old a || (same_action a action.now && list_any p (spec.meets action.now (M.context members.now) (map.keys filters.now) (filters_at b.now action.now))))) }
+    requires { AreGroupMeets (M.context members.now) groups.old.ours.items groups.old.theirs.items groups.old.met.items }
+    ensures kept { AreGroupMeets (M.context members.now) groups.new.ours.items groups.new.theirs.items groups.new.met.items }
+    ensures met { OnOk result (IsMetUnder (M.context members.now) action.now (map.keys filters.now) b.now both.old both.new) }
 {
     match b.at(action) {
         None => Ok(()),
-        Some(others) => {
-            let met = meets_of(alloc, action, filters, others, members)?;
-            add_under(both, action, &met)
-        }
+        Some(others) => add_met(alloc, both, groups, action, filters, others, members),
     }
+}
+
+/// Adds what filters under an action have in common with others.
+fn add_met<M: Members>(
+    alloc: Global,
+    both: &mut Grant,
+    groups: &mut GroupMeets,
+    action: &Action,
+    filters: &Filters,
+    others: &Filters,
+    members: &M,
+) -> Result<(), AllocError>
+    requires { AreGroupMeets (M.context members.now) groups.old.ours.items groups.old.theirs.items groups.old.met.items }
+    ensures kept { AreGroupMeets (M.context members.now) groups.new.ours.items groups.new.theirs.items groups.new.met.items }
+    ensures met { OnOk result ((a : Action) (x : Object) → grant_admits (M.context members.now) both.new a x
+        ≡ (grant_admits (M.context members.now) both.old a x || (same_action a action.now && (any_admits action.now (M.context members.now) (map.keys filters.now) x && any_admits action.now (M.context members.now) (map.keys others.now) x)))) }
+{
+    let ours = split(alloc, filters)?;
+    let theirs = split(alloc, others)?;
+    let met = pairs_met(alloc, action, &ours, &theirs, members)?;
+    add_under(both, action, &met)?;
+    groups.find(alloc, ours.groups, theirs.groups, members)?;
+    add_under(both, action, &groups.met)?;
+    Ok(())
 }
 
 /// Adds filters under an action.
@@ -78,39 +94,84 @@ fn add_under(both: &mut Grant, action: &Action, filters: &[Filter]) -> Result<()
     Ok(())
 }
 
-/// Filters that admit exactly what both sets of filters admit.
-fn meets_of<M: Members>(
+/// Filters, the groups apart from the others.
+#[derive(Drop)]
+struct Parts {
+    groups: Vec<Filter>,
+    others: Vec<Filter>,
+}
+
+fn split(alloc: Global, filters: &Filters) -> Result<Parts, AllocError>
+    ensures groups { IfOk result (λ parts. parts.groups.items ≡ groups_of (map.keys filters.now)) }
+    ensures others { IfOk result (λ parts. parts.others.items ≡ others_of (map.keys filters.now)) }
+{
+    let mut groups = Vec::new(alloc);
+    let mut others = Vec::new(alloc);
+    for filter in filters.iter() {
+        if is_group(filter) {
+            groups.push(*filter)?;
+        } else {
+            others.push(*filter)?;
+        }
+    }
+    Ok(Parts { groups, others })
+}
+
+fn is_group(filter: &Filter) -> bool
+    ensures { result ≡ spec.is_group filter.now }
+{
+    matches!(filter, Filter::Group(_))
+}
+
+/// Filters that admit exactly what two filters of both sides admit that aren't both groups.
+fn pairs_met<M: Members>(
     alloc: Global,
     action: &Action,
-    filters: &Filters,
-    others: &Filters,
+    ours: &Parts,
+    theirs: &Parts,
     members: &M,
 ) -> Result<Vec<Filter>, AllocError>
-    ensures { IfOk result (λ met. met.items ≡ spec.meets action.now (M.context members.now) (map.keys filters.now) (map.keys others.now)) }
+    ensures { IfOk result (λ met. met.items ≡ spec.pairs_met action.now (M.context members.now) ours.now.groups.items ours.now.others.items theirs.now.groups.items theirs.now.others.items) }
 {
     let mut met = Vec::new(alloc);
-    for filter in filters.iter() {
-        push_meets(&mut met, action, filter, others, members)?;
-    }
+    push_each(&mut met, action, &ours.others, &theirs.others, members)?;
+    push_each(&mut met, action, &ours.groups, &theirs.others, members)?;
+    push_each(&mut met, action, &ours.others, &theirs.groups, members)?;
     Ok(met)
+}
+
+/// Appends filters that admit exactly what a filter of the one list and a filter of the other admit.
+fn push_each<M: Members>(
+    met: &mut Vec<Filter>,
+    action: &Action,
+    filters: &[Filter],
+    others: &[Filter],
+    members: &M,
+) -> Result<(), AllocError>
+    ensures { OnOk result (met.new.items ≡ met.old.items ++ spec.meets action.now (M.context members.now) filters.now others.now) }
+{
+    for f in filters {
+        push_meets(met, action, f, others, members)?;
+    }
+    Ok(())
 }
 
 fn push_meets<M: Members>(
     met: &mut Vec<Filter>,
     action: &Action,
     f: &Filter,
-    others: &Filters,
+    others: &[Filter],
     members: &M,
 ) -> Result<(), AllocError>
-    ensures { OnOk result (met.new.items ≡ met.old.items ++ flat_map (meet_of action.now (M.context members.now) f.now) (map.keys others.now)) }
+    ensures { OnOk result (met.new.items ≡ met.old.items ++ flat_map (meet_of action.now (M.context members.now) f.now) others.now) }
 {
-    for g in others.iter() {
+    for g in others {
         push_meet(met, action, f, g, members)?;
     }
     Ok(())
 }
 
-/// Appends filters that admit exactly what two filters both admit.
+/// Appends filters that admit exactly what two filters both admit, of which one at most is a group.
 fn push_meet<M: Members>(
     met: &mut Vec<Filter>,
     action: &Action,
@@ -128,23 +189,18 @@ fn push_meet<M: Members>(
         met.push(*g)?;
         return Ok(());
     }
-    push_common(met, action, f, g, members)
+    push_common(met, action, f, g)
 }
 
-fn push_common<M: Members>(
+fn push_common(
     met: &mut Vec<Filter>,
     action: &Action,
     f: &Filter,
     g: &Filter,
-    members: &M,
 ) -> Result<(), AllocError>
-    ensures { OnOk result (met.new.items ≡ met.old.items ++ common action.now (M.context members.now) f.now g.now) }
+    ensures { OnOk result (met.new.items ≡ met.old.items ++ common action.now f.now g.now) }
 {
     match f {
-        Filter::Group(first) => match g {
-            Filter::Group(second) => push_users(met, first, second, members),
-            _ => Ok(()),
-        },
         Filter::Server(k) => match g {
             Filter::Server(l) => {
                 if reads_names(action) && k.user == l.user {
@@ -156,21 +212,4 @@ fn push_common<M: Members>(
         },
         _ => Ok(()),
     }
-}
-
-/// Appends the users who are in both groups.
-fn push_users<M: Members>(
-    met: &mut Vec<Filter>,
-    first: &GroupName,
-    second: &GroupName,
-    members: &M,
-) -> Result<(), AllocError>
-    ensures { OnOk result (met.new.items ≡ met.old.items ++ users_in_both (M.context members.now) first.now second.now) }
-{
-    for user in members.members(first) {
-        if members.is_member(user, second) {
-            met.push(Filter::User(*user))?;
-        }
-    }
-    Ok(())
 }

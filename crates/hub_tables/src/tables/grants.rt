@@ -1,18 +1,18 @@
 //! Shares, and the clients and codes of OAuth.
-ghost use Rattle.std.specs.Prelude.{◌≡◌, OnOk, OnErr, IfSome};
+ghost use Rattle.std.specs.Prelude.{◌≡◌, false, OnOk, OnErr, IfSome};
 ghost use Rattle.std.specs.Option.{option_copied};
 ghost use Rattle.std.specs.FinMap as map;
 ghost use Rattle.std.specs.Map.Iter.{ShowsInOrder, deref};
 ghost use Rattle.keyed_rows.specs.Rows.{OwnKeys};
-ghost use Rattle.hub_tables.specs.Puts.{IsAnswer};
+ghost use Rattle.keyed_rows.specs.Puts.{IsAnswer};
 
-use crate::keyed;
-use crate::keys::{Recipient, ShareKey};
-use crate::records::{OAuthClient, OAuthCode, Share};
 use crate::tables::Tables;
 use hub_kit::names::ServerKey;
 use hub_kit::text::Text;
-use keyed_rows::{PutError, Room};
+use hub_rows::keys::{Recipient, ShareKey};
+use hub_rows::records::{OAuthClient, OAuthCode, Share};
+use keyed_rows::{PutError, Room, keyed};
+use std::alloc::AllocError;
 use std::collections::btree_map::Values;
 
 /// The greatest number of clients of OAuth.
@@ -43,6 +43,22 @@ impl Tables {
             leaving,
         };
         keyed::put(self.alloc, &mut self.trees.shares, value, Some(room))
+    }
+
+    /// Sets the row of a share, whatever the number of rows. Memory is wanting at a new key alone.
+    pub fn set_share(&mut self, value: Share) -> Result<(), AllocError>
+        ensures ok { OnOk result (self.new ≡ record self.old { shares = map.insert self.old.shares value.key value }) }
+        ensures err { OnErr result (self.new ≡ self.old) }
+        ensures memory { OnErr result (map.contains_key self.old.shares value.key ≡ false) }
+    {
+        keyed::set(self.alloc, &mut self.trees.shares, value)
+    }
+
+    /// The number of the rows of shares.
+    pub fn count_of_shares(&self) -> usize
+        ensures { result ≡ map.len self.now.shares }
+    {
+        keyed_rows::count(&self.trees.shares)
     }
 
     /// Takes the row of a share out, and tells whether it was there. Takes no memory.
@@ -88,6 +104,22 @@ impl Tables {
         keyed::put(self.alloc, &mut self.trees.clients, value, Some(room))
     }
 
+    /// Sets the row of a client, whatever the number of rows. Memory is wanting at a new key alone.
+    pub fn set_client(&mut self, value: OAuthClient) -> Result<(), AllocError>
+        ensures ok { OnOk result (self.new ≡ record self.old { clients = map.insert self.old.clients value.id value }) }
+        ensures err { OnErr result (self.new ≡ self.old) }
+        ensures memory { OnErr result (map.contains_key self.old.clients value.id ≡ false) }
+    {
+        keyed::set(self.alloc, &mut self.trees.clients, value)
+    }
+
+    /// The number of the rows of clients.
+    pub fn count_of_clients(&self) -> usize
+        ensures { result ≡ map.len self.now.clients }
+    {
+        keyed_rows::count(&self.trees.clients)
+    }
+
     /// Takes the row of a client out, and tells whether it was there. Takes no memory.
     pub fn remove_client(&mut self, key: &Text) -> bool
         ensures there { result ≡ map.contains_key self.old.clients key.now }
@@ -125,6 +157,22 @@ impl Tables {
             leaving,
         };
         keyed::put(self.alloc, &mut self.trees.grant_codes, value, Some(room))
+    }
+
+    /// Sets the row of a code of OAuth, whatever the number of rows. Memory is wanting at a new key alone.
+    pub fn set_grant_code(&mut self, value: OAuthCode) -> Result<(), AllocError>
+        ensures ok { OnOk result (self.new ≡ record self.old { grant_codes = map.insert self.old.grant_codes value.hash value }) }
+        ensures err { OnErr result (self.new ≡ self.old) }
+        ensures memory { OnErr result (map.contains_key self.old.grant_codes value.hash ≡ false) }
+    {
+        keyed::set(self.alloc, &mut self.trees.grant_codes, value)
+    }
+
+    /// The number of the rows of the codes of OAuth.
+    pub fn count_of_grant_codes(&self) -> usize
+        ensures { result ≡ map.len self.now.grant_codes }
+    {
+        keyed_rows::count(&self.trees.grant_codes)
     }
 
     /// Takes the row of a code of OAuth out, and tells whether it was there. Takes no memory.

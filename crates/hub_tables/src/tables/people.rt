@@ -1,17 +1,17 @@
 //! Users, groups, services and roles.
-ghost use Rattle.std.specs.Prelude.{◌≡◌, OnOk, OnErr, IfSome};
+ghost use Rattle.std.specs.Prelude.{◌≡◌, false, OnOk, OnErr, IfSome};
 ghost use Rattle.std.specs.Option.{option_copied};
 ghost use Rattle.std.specs.FinMap as map;
 ghost use Rattle.std.specs.Map.Iter.{ShowsInOrder, deref};
 ghost use Rattle.keyed_rows.specs.Rows.{OwnKeys};
-ghost use Rattle.hub_tables.specs.Puts.{IsAnswer};
+ghost use Rattle.keyed_rows.specs.Puts.{IsAnswer};
 
-use crate::keyed;
-use crate::records::{Group, Role, Service, User};
 use crate::tables::Tables;
 use hub_kit::moment::Moment;
 use hub_kit::names::{GroupName, RoleName, ServiceName, UserName};
-use keyed_rows::{PutError, Room};
+use hub_rows::records::{Group, Role, Service, User};
+use keyed_rows::{PutError, Room, keyed};
+use std::alloc::AllocError;
 use std::collections::btree_map::Values;
 
 impl Tables {
@@ -37,6 +37,24 @@ impl Tables {
         // The check proves no call that moves a row of plain fields, unless their types are named beside it.
         let _named: Option<Moment> = value.last_activity;
         keyed::put(self.alloc, &mut self.trees.users, value, Some(room))
+    }
+
+    /// Sets the row of a user, whatever the number of rows. Memory is wanting at a new key alone.
+    pub fn set_user(&mut self, value: User) -> Result<(), AllocError>
+        ensures ok { OnOk result (self.new ≡ record self.old { users = map.insert self.old.users value.name value }) }
+        ensures err { OnErr result (self.new ≡ self.old) }
+        ensures memory { OnErr result (map.contains_key self.old.users value.name ≡ false) }
+    {
+        // The check proves no call that moves a row of plain fields, unless their types are named beside it.
+        let _named: Option<Moment> = value.last_activity;
+        keyed::set(self.alloc, &mut self.trees.users, value)
+    }
+
+    /// The number of the rows of users.
+    pub fn count_of_users(&self) -> usize
+        ensures { result ≡ map.len self.now.users }
+    {
+        keyed_rows::count(&self.trees.users)
     }
 
     /// Takes the row of a user out, and tells whether it was there. Takes no memory.
@@ -78,6 +96,22 @@ impl Tables {
         keyed::put(self.alloc, &mut self.trees.groups, value, Some(room))
     }
 
+    /// Sets the row of a group, whatever the number of rows. Memory is wanting at a new key alone.
+    pub fn set_group(&mut self, value: Group) -> Result<(), AllocError>
+        ensures ok { OnOk result (self.new ≡ record self.old { groups = map.insert self.old.groups value.name value }) }
+        ensures err { OnErr result (self.new ≡ self.old) }
+        ensures memory { OnErr result (map.contains_key self.old.groups value.name ≡ false) }
+    {
+        keyed::set(self.alloc, &mut self.trees.groups, value)
+    }
+
+    /// The number of the rows of groups.
+    pub fn count_of_groups(&self) -> usize
+        ensures { result ≡ map.len self.now.groups }
+    {
+        keyed_rows::count(&self.trees.groups)
+    }
+
     /// Takes the row of a group out, and tells whether it was there. Takes no memory.
     pub fn remove_group(&mut self, key: &GroupName) -> bool
         ensures there { result ≡ map.contains_key self.old.groups key.now }
@@ -117,6 +151,22 @@ impl Tables {
         keyed::put(self.alloc, &mut self.trees.services, value, Some(room))
     }
 
+    /// Sets the row of a service, whatever the number of rows. Memory is wanting at a new key alone.
+    pub fn set_service(&mut self, value: Service) -> Result<(), AllocError>
+        ensures ok { OnOk result (self.new ≡ record self.old { services = map.insert self.old.services value.name value }) }
+        ensures err { OnErr result (self.new ≡ self.old) }
+        ensures memory { OnErr result (map.contains_key self.old.services value.name ≡ false) }
+    {
+        keyed::set(self.alloc, &mut self.trees.services, value)
+    }
+
+    /// The number of the rows of services.
+    pub fn count_of_services(&self) -> usize
+        ensures { result ≡ map.len self.now.services }
+    {
+        keyed_rows::count(&self.trees.services)
+    }
+
     /// Takes the row of a service out, and tells whether it was there. Takes no memory.
     pub fn remove_service(&mut self, key: &ServiceName) -> bool
         ensures there { result ≡ map.contains_key self.old.services key.now }
@@ -154,6 +204,22 @@ impl Tables {
             leaving,
         };
         keyed::put(self.alloc, &mut self.trees.roles, value, Some(room))
+    }
+
+    /// Sets the row of a role, whatever the number of rows. Memory is wanting at a new key alone.
+    pub fn set_role(&mut self, value: Role) -> Result<(), AllocError>
+        ensures ok { OnOk result (self.new ≡ record self.old { roles = map.insert self.old.roles value.name value }) }
+        ensures err { OnErr result (self.new ≡ self.old) }
+        ensures memory { OnErr result (map.contains_key self.old.roles value.name ≡ false) }
+    {
+        keyed::set(self.alloc, &mut self.trees.roles, value)
+    }
+
+    /// The number of the rows of roles.
+    pub fn count_of_roles(&self) -> usize
+        ensures { result ≡ map.len self.now.roles }
+    {
+        keyed_rows::count(&self.trees.roles)
     }
 
     /// Takes the row of a role out, and tells whether it was there. Takes no memory.

@@ -1,19 +1,19 @@
 //! Servers, leases and the next numbers, which have no limit of rows.
-ghost use Rattle.std.specs.Prelude.{◌≡◌, OnOk, OnErr, IfSome};
+ghost use Rattle.std.specs.Prelude.{◌≡◌, false, OnOk, OnErr, IfSome};
 ghost use Rattle.std.specs.Option.{option_copied};
 ghost use Rattle.std.specs.FinMap as map;
 ghost use Rattle.std.specs.Map.Iter.{ShowsInOrder, deref};
 ghost use Rattle.keyed_rows.specs.Rows.{OwnKeys};
-ghost use Rattle.hub_tables.specs.Puts.{IsFreeAnswer};
+ghost use Rattle.keyed_rows.specs.Puts.{IsFreeAnswer};
 
-use crate::keyed;
-use crate::records::{Lease, Next, ServerRow};
 use crate::tables::Tables;
 use hub_kit::moment::Moment;
 use hub_kit::names::ServerKey;
 use hub_kit::target::Target;
 use hub_kit::text::Text;
-use keyed_rows::PutError;
+use hub_rows::records::{Lease, Next, ServerRow};
+use keyed_rows::{PutError, keyed};
+use std::alloc::AllocError;
 use std::collections::btree_map::Values;
 
 impl Tables {
@@ -34,6 +34,17 @@ impl Tables {
         // The check proves no call that moves a row of plain fields, unless their types are named beside it.
         let _named: Option<Moment> = value.last_activity;
         keyed::put(self.alloc, &mut self.trees.servers, value, None)
+    }
+
+    /// Sets the row of a server. Memory is wanting at a new key alone.
+    pub fn set_server(&mut self, value: ServerRow) -> Result<(), AllocError>
+        ensures ok { OnOk result (self.new ≡ record self.old { servers = map.insert self.old.servers value.key value }) }
+        ensures err { OnErr result (self.new ≡ self.old) }
+        ensures memory { OnErr result (map.contains_key self.old.servers value.key ≡ false) }
+    {
+        // The check proves no call that moves a row of plain fields, unless their types are named beside it.
+        let _named: Option<Moment> = value.last_activity;
+        keyed::set(self.alloc, &mut self.trees.servers, value)
     }
 
     /// Takes the row of a server out, and tells whether it was there. Takes no memory.
@@ -70,6 +81,15 @@ impl Tables {
         keyed::put(self.alloc, &mut self.trees.leases, value, None)
     }
 
+    /// Sets the row of a lease. Memory is wanting at a new key alone.
+    pub fn set_lease(&mut self, value: Lease) -> Result<(), AllocError>
+        ensures ok { OnOk result (self.new ≡ record self.old { leases = map.insert self.old.leases value.target value }) }
+        ensures err { OnErr result (self.new ≡ self.old) }
+        ensures memory { OnErr result (map.contains_key self.old.leases value.target ≡ false) }
+    {
+        keyed::set(self.alloc, &mut self.trees.leases, value)
+    }
+
     /// Takes the row of a lease out, and tells whether it was there. Takes no memory.
     pub fn remove_lease(&mut self, key: &Target) -> bool
         ensures there { result ≡ map.contains_key self.old.leases key.now }
@@ -102,6 +122,15 @@ impl Tables {
         ensures err { OnErr result (self.new ≡ self.old) }
     {
         keyed::put(self.alloc, &mut self.trees.nexts, value, None)
+    }
+
+    /// Sets the row of the next number of a kind of numbers. Memory is wanting at a new key alone.
+    pub fn set_next(&mut self, value: Next) -> Result<(), AllocError>
+        ensures ok { OnOk result (self.new ≡ record self.old { nexts = map.insert self.old.nexts value.name value }) }
+        ensures err { OnErr result (self.new ≡ self.old) }
+        ensures memory { OnErr result (map.contains_key self.old.nexts value.name ≡ false) }
+    {
+        keyed::set(self.alloc, &mut self.trees.nexts, value)
     }
 
     /// Takes the row of the next number of a kind out, and tells whether it was there. Takes no memory.

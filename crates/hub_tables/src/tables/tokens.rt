@@ -1,17 +1,18 @@
 //! Tokens and share codes, which stand under ids and are found by hashes.
-ghost use Rattle.std.specs.Prelude.{◌≡◌, OnOk, OnErr, IfSome};
-ghost use Rattle.std.specs.Option.{option_copied};
+ghost use Rattle.std.specs.Prelude.{◌≡◌, false, not, ◌||◌, IsTrue, OnOk, OnErr, IfSome};
+ghost use Rattle.std.specs.Option.{option_copied, is_some};
 ghost use Rattle.std.specs.FinMap as map;
 ghost use Rattle.std.specs.Map.Iter.{ShowsInOrder, deref};
 ghost use Rattle.keyed_rows.specs.Rows.{OwnKeys};
-ghost use Rattle.hub_tables.specs.Puts.{IsAnswer};
-ghost use Rattle.hub_tables.specs.Hashes.{row_with, FitsHash};
+ghost use Rattle.keyed_rows.specs.Puts.{IsAnswer};
+ghost use Rattle.hub_tables.specs.Hashes.{row_with, FitsHash, FitsToken};
 
 use crate::hashed;
-use crate::records::{ShareCode, Token};
 use crate::tables::Tables;
 use hub_kit::text::Text;
+use hub_rows::records::{ShareCode, Token};
 use keyed_rows::{PutError, Room};
+use std::alloc::AllocError;
 use std::collections::btree_map::Values;
 
 impl Tables {
@@ -30,9 +31,9 @@ impl Tables {
         hashed::row_of_hash(&self.trees.tokens, &self.trees.token_ids, hash)
     }
 
-    /// Sets the row of a token. No other row has its hash, and a kept row of its id has the same.
+    /// Sets the row of a token. No other row has its hash, and a kept row of its id has the same hash and owner.
     pub fn put_token(&mut self, value: Token, leaving: u32) -> Result<(), PutError>
-        requires { FitsHash (λ row. row.id) (λ row. row.hash) self.old.tokens value }
+        requires { FitsToken self.old.tokens value }
         ensures answer { IsAnswer 5 self.old.limits.tokens self.old.tokens value.id leaving result }
         ensures ok { OnOk result (self.new ≡ record self.old { tokens = map.insert self.old.tokens value.id value }) }
         ensures err { OnErr result (self.new ≡ self.old) }
@@ -51,12 +52,42 @@ impl Tables {
         )
     }
 
+    /// Sets the row of a token, whatever the number of rows. No other row has its hash, and a kept row of its id has the same hash and owner. Memory is wanting at a new key alone.
+    pub fn set_token(&mut self, value: Token) -> Result<(), AllocError>
+        requires { FitsToken self.old.tokens value }
+        ensures ok { OnOk result (self.new ≡ record self.old { tokens = map.insert self.old.tokens value.id value }) }
+        ensures err { OnErr result (self.new ≡ self.old) }
+        ensures memory { OnErr result (map.contains_key self.old.tokens value.id ≡ false) }
+    {
+        hashed::set_hashed(
+            self.alloc,
+            &mut self.trees.tokens,
+            &mut self.trees.token_ids,
+            value,
+        )
+    }
+
+    /// The number of the rows of tokens.
+    pub fn count_of_tokens(&self) -> usize
+        ensures { result ≡ map.len self.now.tokens }
+    {
+        keyed_rows::count(&self.trees.tokens)
+    }
+
     /// Takes the row of a token out, and tells whether it was there. Takes no memory.
     pub fn remove_token(&mut self, id: u64) -> bool
         ensures there { result ≡ map.contains_key self.old.tokens id }
         ensures after { self.new ≡ record self.old { tokens = map.remove self.old.tokens id } }
     {
         hashed::remove_hashed(&mut self.trees.tokens, &mut self.trees.token_ids, id)
+    }
+
+    /// Whether neither the id nor the hash of a token is kept, so that a new one may stand under them.
+    pub fn token_is_new(&self, id: u64, hash: &Text) -> bool
+        ensures value { result ≡ not (map.contains_key self.now.tokens id || is_some (row_with (λ row. row.hash) hash.now self.now.tokens)) }
+        ensures fits { IsTrue result → (row : Token) → row.id ≡ id → row.hash ≡ hash.now → FitsToken self.now.tokens row }
+    {
+        neither(self.token(id).is_some(), self.token_of_hash(hash).is_some())
     }
 
     /// The rows of tokens, in the order of ids.
@@ -104,12 +135,42 @@ impl Tables {
         )
     }
 
+    /// Sets the row of a share code, whatever the number of rows. No other row has its hash, and a kept row of its id has the same. Memory is wanting at a new key alone.
+    pub fn set_code(&mut self, value: ShareCode) -> Result<(), AllocError>
+        requires { FitsHash (λ row. row.id) (λ row. row.hash) self.old.codes value }
+        ensures ok { OnOk result (self.new ≡ record self.old { codes = map.insert self.old.codes value.id value }) }
+        ensures err { OnErr result (self.new ≡ self.old) }
+        ensures memory { OnErr result (map.contains_key self.old.codes value.id ≡ false) }
+    {
+        hashed::set_hashed(
+            self.alloc,
+            &mut self.trees.codes,
+            &mut self.trees.code_ids,
+            value,
+        )
+    }
+
+    /// The number of the rows of share codes.
+    pub fn count_of_codes(&self) -> usize
+        ensures { result ≡ map.len self.now.codes }
+    {
+        keyed_rows::count(&self.trees.codes)
+    }
+
     /// Takes the row of a share code out, and tells whether it was there. Takes no memory.
     pub fn remove_code(&mut self, id: u64) -> bool
         ensures there { result ≡ map.contains_key self.old.codes id }
         ensures after { self.new ≡ record self.old { codes = map.remove self.old.codes id } }
     {
         hashed::remove_hashed(&mut self.trees.codes, &mut self.trees.code_ids, id)
+    }
+
+    /// Whether neither the id nor the hash of a share code is kept, so that a new one may stand under them.
+    pub fn code_is_new(&self, id: u64, hash: &Text) -> bool
+        ensures value { result ≡ not (map.contains_key self.now.codes id || is_some (row_with (λ row. row.hash) hash.now self.now.codes)) }
+        ensures fits { IsTrue result → (row : ShareCode) → row.id ≡ id → row.hash ≡ hash.now → FitsHash (λ row. row.id) (λ row. row.hash) self.now.codes row }
+    {
+        neither(self.code(id).is_some(), self.code_of_hash(hash).is_some())
     }
 
     /// The rows of share codes, in the order of ids.
@@ -120,4 +181,10 @@ impl Tables {
     {
         self.trees.codes.values()
     }
+}
+
+fn neither(one: bool, other: bool) -> bool
+    ensures { result ≡ not (one || other) }
+{
+    !one && !other
 }

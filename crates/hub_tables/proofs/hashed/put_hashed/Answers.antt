@@ -6,7 +6,7 @@ use Rattle.hub_kit.specs.KeyOrder.{name_cmp}
 use Rattle.keyed_rows.specs.Rows.{map_of}
 use Rattle.keyed_rows.proofs.Finite.{kept_row}
 use Rattle.hub_tables.proofs.Indexed.{index_kept_put, index_new_put, index_same, undone}
-use Rattle.hub_tables.proofs.Puts.{memory_after_ok}
+use Rattle.keyed_rows.proofs.Puts.{memory_after_ok}
 use Rattle.hub_tables.proofs.hashed.put_hashed.Goals as goal
 
 pub returns-then-contains_key-clause-indexed : goal.returns-then-contains_key-clause-indexed

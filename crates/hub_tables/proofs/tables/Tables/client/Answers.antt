@@ -1,4 +1,4 @@
-use Rattle.hub_tables.specs.declared.records.OAuthClient.{OAuthClient}
+use Rattle.hub_rows.specs.declared.records.OAuthClient.{OAuthClient}
 use Rattle.hub_tables.specs.Kept.{Clients}
 use Rattle.hub_tables.proofs.Kept.{found}
 use Rattle.hub_tables.proofs.tables.Tables.client.Goals as goal

@@ -1,4 +1,4 @@
-use Rattle.hub_tables.specs.declared.records.ShareCode.{ShareCode}
+use Rattle.hub_rows.specs.declared.records.ShareCode.{ShareCode}
 use Rattle.hub_tables.specs.Kept.{Codes}
 use Rattle.hub_tables.proofs.Kept.{found}
 use Rattle.hub_tables.proofs.tables.Tables.code.Goals as goal

@@ -1,4 +1,4 @@
-use Rattle.hub_tables.specs.declared.records.OAuthCode.{OAuthCode}
+use Rattle.hub_rows.specs.declared.records.OAuthCode.{OAuthCode}
 use Rattle.hub_tables.specs.Kept.{GrantCodes}
 use Rattle.hub_tables.proofs.Kept.{found}
 use Rattle.hub_tables.proofs.tables.Tables.grant_code.Goals as goal

@@ -1,4 +1,4 @@
-use Rattle.hub_tables.specs.declared.records.Group.{Group}
+use Rattle.hub_rows.specs.declared.records.Group.{Group}
 use Rattle.hub_tables.specs.Kept.{Groups}
 use Rattle.hub_tables.proofs.Kept.{found}
 use Rattle.hub_tables.proofs.tables.Tables.group.Goals as goal

@@ -3,7 +3,7 @@ use Rattle.std.specs.FinMap as map
 use Rattle.std.specs.Cmp.Lexicographic.{nat_list_cmp_total}
 use Rattle.keyed_rows.specs.Rows.{OwnKeys}
 use Rattle.keyed_rows.proofs.Finite.{values_row}
-use Rattle.hub_tables.specs.declared.records.Group.{Group}
+use Rattle.hub_rows.specs.declared.records.Group.{Group}
 use Rattle.hub_tables.specs.Kept.{Groups}
 use Rattle.hub_tables.specs.State.{State}
 use Rattle.hub_tables.proofs.tables.Tables.groups.Goals as goal

@@ -1,4 +1,4 @@
-use Rattle.hub_tables.specs.declared.records.Lease.{Lease}
+use Rattle.hub_rows.specs.declared.records.Lease.{Lease}
 use Rattle.hub_tables.specs.Kept.{Leases}
 use Rattle.hub_tables.proofs.Kept.{found}
 use Rattle.hub_tables.proofs.tables.Tables.lease.Goals as goal

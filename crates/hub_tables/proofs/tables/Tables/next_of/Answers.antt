@@ -1,4 +1,4 @@
-use Rattle.hub_tables.specs.declared.records.Next.{Next}
+use Rattle.hub_rows.specs.declared.records.Next.{Next}
 use Rattle.hub_tables.specs.Kept.{Nexts}
 use Rattle.hub_tables.proofs.Kept.{found}
 use Rattle.hub_tables.proofs.tables.Tables.next_of.Goals as goal

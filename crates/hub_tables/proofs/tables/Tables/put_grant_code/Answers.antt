@@ -1,8 +1,8 @@
 use Rattle.std.specs.Cmp.Lexicographic.{nat_list_cmp_total}
 use Rattle.keyed_rows.proofs.Finite.{own_put}
-use Rattle.hub_tables.specs.declared.records.OAuthCode.{OAuthCode}
+use Rattle.hub_rows.specs.declared.records.OAuthCode.{OAuthCode}
 use Rattle.hub_tables.specs.Kept.{GrantCodes}
-use Rattle.hub_tables.specs.ShareOrder.{names_exact}
+use Rattle.hub_rows.specs.ShareOrder.{names_exact}
 use Rattle.hub_tables.proofs.Kept.{grant_codes_kept}
 use Rattle.hub_tables.proofs.tables.Tables.put_grant_code.Goals as goal
 

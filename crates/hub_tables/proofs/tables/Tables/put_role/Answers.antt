@@ -1,8 +1,8 @@
 use Rattle.std.specs.Cmp.Lexicographic.{nat_list_cmp_total}
 use Rattle.keyed_rows.proofs.Finite.{own_put}
-use Rattle.hub_tables.specs.declared.records.Role.{Role}
+use Rattle.hub_rows.specs.declared.records.Role.{Role}
 use Rattle.hub_tables.specs.Kept.{Roles}
-use Rattle.hub_tables.specs.ShareOrder.{names_exact}
+use Rattle.hub_rows.specs.ShareOrder.{names_exact}
 use Rattle.hub_tables.proofs.Kept.{roles_kept}
 use Rattle.hub_tables.proofs.tables.Tables.put_role.Goals as goal
 

@@ -1,8 +1,8 @@
-use Rattle.hub_tables.specs.contracts.keys.ShareKeyOrd.TheImpl.Laws.{total-law}
+use Rattle.hub_rows.specs.contracts.keys.ShareKeyOrd.TheImpl.Laws.{total-law}
 use Rattle.keyed_rows.proofs.Finite.{own_put}
-use Rattle.hub_tables.specs.declared.records.Share.{Share}
+use Rattle.hub_rows.specs.declared.records.Share.{Share}
 use Rattle.hub_tables.specs.Kept.{Shares}
-use Rattle.hub_tables.specs.ShareOrder.{share_exact}
+use Rattle.hub_rows.specs.ShareOrder.{share_exact}
 use Rattle.hub_tables.proofs.Kept.{shares_kept}
 use Rattle.hub_tables.proofs.tables.Tables.put_share.Goals as goal
 

@@ -1,8 +1,11 @@
+use Rattle.std.proofs.Common.{sym, subst}
 use Rattle.std.specs.Cmp.{nat_cmp_total}
 use Rattle.std.specs.FinMap.{nat_cmp-IsAntisymmetric}
 use Rattle.keyed_rows.proofs.Finite.{own_put}
-use Rattle.hub_tables.specs.declared.records.Token.{Token}
+use Rattle.hub_rows.specs.declared.records.Token.{Token}
+use Rattle.hub_tables.specs.Hashes.{FitsHash}
 use Rattle.hub_tables.specs.Kept.{Tokens}
+use Rattle.hub_tables.specs.State.{State}
 use Rattle.hub_tables.proofs.Kept.{tokens_kept}
 use Rattle.hub_tables.proofs.tables.Tables.put_token.Goals as goal
 
@@ -19,3 +22,6 @@ invariant_of-self c =
 
 pub returns-clause-answer : goal.returns-clause-answer
 returns-clause-answer c = rw (← c.self.view_is) c.put_hashed.ensures.answer
+
+pub put_hashed-requires-clause-fits : goal.put_hashed-requires-clause-fits
+put_hashed-requires-clause-fits c = subst (λ (s : State). FitsHash (λ (row : Token). row.id) (λ row. row.hash) s.tokens c.args.value) (sym c.self.view_is) c.requires.hash

@@ -1,8 +1,8 @@
 use Rattle.std.specs.Cmp.Lexicographic.{nat_list_cmp_total}
 use Rattle.keyed_rows.proofs.Finite.{own_removed}
-use Rattle.hub_tables.specs.declared.records.OAuthClient.{OAuthClient}
+use Rattle.hub_rows.specs.declared.records.OAuthClient.{OAuthClient}
 use Rattle.hub_tables.specs.Kept.{Clients}
-use Rattle.hub_tables.specs.ShareOrder.{names_exact}
+use Rattle.hub_rows.specs.ShareOrder.{names_exact}
 use Rattle.hub_tables.proofs.Kept.{clients_kept}
 use Rattle.hub_tables.proofs.tables.Tables.remove_client.Goals as goal
 

@@ -1,7 +1,7 @@
 use Rattle.std.specs.Cmp.{nat_cmp_total}
 use Rattle.std.specs.FinMap.{nat_cmp-IsAntisymmetric}
 use Rattle.keyed_rows.proofs.Finite.{own_removed}
-use Rattle.hub_tables.specs.declared.records.ShareCode.{ShareCode}
+use Rattle.hub_rows.specs.declared.records.ShareCode.{ShareCode}
 use Rattle.hub_tables.specs.Kept.{Codes}
 use Rattle.hub_tables.proofs.Kept.{codes_kept}
 use Rattle.hub_tables.proofs.tables.Tables.remove_code.Goals as goal

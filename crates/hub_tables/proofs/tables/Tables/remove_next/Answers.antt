@@ -1,8 +1,8 @@
 use Rattle.std.specs.Cmp.Lexicographic.{nat_list_cmp_total}
 use Rattle.keyed_rows.proofs.Finite.{own_removed}
-use Rattle.hub_tables.specs.declared.records.Next.{Next}
+use Rattle.hub_rows.specs.declared.records.Next.{Next}
 use Rattle.hub_tables.specs.Kept.{Nexts}
-use Rattle.hub_tables.specs.ShareOrder.{names_exact}
+use Rattle.hub_rows.specs.ShareOrder.{names_exact}
 use Rattle.hub_tables.proofs.Kept.{nexts_kept}
 use Rattle.hub_tables.proofs.tables.Tables.remove_next.Goals as goal
 

@@ -1,6 +1,6 @@
 use Rattle.hub_kit.specs.contracts.names.ServerKeyOrd.TheImpl.Laws.{total-law}
 use Rattle.keyed_rows.proofs.Finite.{own_removed}
-use Rattle.hub_tables.specs.declared.records.ServerRow.{ServerRow}
+use Rattle.hub_rows.specs.declared.records.ServerRow.{ServerRow}
 use Rattle.hub_tables.specs.Kept.{Servers}
 use Rattle.hub_kit.specs.KeyOrder.{key_exact}
 use Rattle.hub_tables.proofs.Kept.{servers_kept}

@@ -1,7 +1,7 @@
 use Rattle.std.specs.Cmp.{nat_cmp_total}
 use Rattle.std.specs.FinMap.{nat_cmp-IsAntisymmetric}
 use Rattle.keyed_rows.proofs.Finite.{own_removed}
-use Rattle.hub_tables.specs.declared.records.Token.{Token}
+use Rattle.hub_rows.specs.declared.records.Token.{Token}
 use Rattle.hub_tables.specs.Kept.{Tokens}
 use Rattle.hub_tables.proofs.Kept.{tokens_kept}
 use Rattle.hub_tables.proofs.tables.Tables.remove_token.Goals as goal

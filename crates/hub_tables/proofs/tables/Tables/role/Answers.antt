@@ -1,4 +1,4 @@
-use Rattle.hub_tables.specs.declared.records.Role.{Role}
+use Rattle.hub_rows.specs.declared.records.Role.{Role}
 use Rattle.hub_tables.specs.Kept.{Roles}
 use Rattle.hub_tables.proofs.Kept.{found}
 use Rattle.hub_tables.proofs.tables.Tables.role.Goals as goal

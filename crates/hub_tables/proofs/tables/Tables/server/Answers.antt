@@ -1,4 +1,4 @@
-use Rattle.hub_tables.specs.declared.records.ServerRow.{ServerRow}
+use Rattle.hub_rows.specs.declared.records.ServerRow.{ServerRow}
 use Rattle.hub_tables.specs.Kept.{Servers}
 use Rattle.hub_tables.proofs.Kept.{found}
 use Rattle.hub_tables.proofs.tables.Tables.server.Goals as goal

@@ -3,7 +3,7 @@ use Rattle.std.specs.FinMap as map
 use Rattle.hub_kit.specs.contracts.names.ServerKeyOrd.TheImpl.Laws.{total-law}
 use Rattle.keyed_rows.specs.Rows.{OwnKeys}
 use Rattle.keyed_rows.proofs.Finite.{values_row}
-use Rattle.hub_tables.specs.declared.records.ServerRow.{ServerRow}
+use Rattle.hub_rows.specs.declared.records.ServerRow.{ServerRow}
 use Rattle.hub_tables.specs.Kept.{Servers}
 use Rattle.hub_tables.specs.State.{State}
 use Rattle.hub_tables.proofs.tables.Tables.servers.Goals as goal

@@ -1,4 +1,4 @@
-use Rattle.hub_tables.specs.declared.records.Service.{Service}
+use Rattle.hub_rows.specs.declared.records.Service.{Service}
 use Rattle.hub_tables.specs.Kept.{Services}
 use Rattle.hub_tables.proofs.Kept.{found}
 use Rattle.hub_tables.proofs.tables.Tables.service.Goals as goal

@@ -1,4 +1,4 @@
-use Rattle.hub_tables.specs.declared.records.Share.{Share}
+use Rattle.hub_rows.specs.declared.records.Share.{Share}
 use Rattle.hub_tables.specs.Kept.{Shares}
 use Rattle.hub_tables.proofs.Kept.{found}
 use Rattle.hub_tables.proofs.tables.Tables.share.Goals as goal

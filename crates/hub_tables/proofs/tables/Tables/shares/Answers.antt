@@ -1,9 +1,9 @@
 use Rattle.std.proofs.Common.{◌∙◌, sym, ap, subst}
 use Rattle.std.specs.FinMap as map
-use Rattle.hub_tables.specs.contracts.keys.ShareKeyOrd.TheImpl.Laws.{total-law}
+use Rattle.hub_rows.specs.contracts.keys.ShareKeyOrd.TheImpl.Laws.{total-law}
 use Rattle.keyed_rows.specs.Rows.{OwnKeys}
 use Rattle.keyed_rows.proofs.Finite.{values_row}
-use Rattle.hub_tables.specs.declared.records.Share.{Share}
+use Rattle.hub_rows.specs.declared.records.Share.{Share}
 use Rattle.hub_tables.specs.Kept.{Shares}
 use Rattle.hub_tables.specs.State.{State}
 use Rattle.hub_tables.proofs.tables.Tables.shares.Goals as goal

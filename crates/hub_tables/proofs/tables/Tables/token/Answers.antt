@@ -1,4 +1,4 @@
-use Rattle.hub_tables.specs.declared.records.Token.{Token}
+use Rattle.hub_rows.specs.declared.records.Token.{Token}
 use Rattle.hub_tables.specs.Kept.{Tokens}
 use Rattle.hub_tables.proofs.Kept.{found}
 use Rattle.hub_tables.proofs.tables.Tables.token.Goals as goal

@@ -1,5 +1,5 @@
 use Rattle.std.proofs.Common.{◌∙◌, ap}
-use Rattle.hub_tables.specs.declared.records.Token.{Token}
+use Rattle.hub_rows.specs.declared.records.Token.{Token}
 use Rattle.hub_tables.specs.Kept.{Tokens}
 use Rattle.hub_tables.specs.Hashes.{row_with}
 use Rattle.hub_tables.specs.State.{State}

@@ -1,4 +1,4 @@
-use Rattle.hub_tables.specs.declared.records.User.{User}
+use Rattle.hub_rows.specs.declared.records.User.{User}
 use Rattle.hub_tables.specs.Kept.{Users}
 use Rattle.hub_tables.proofs.Kept.{found}
 use Rattle.hub_tables.proofs.tables.Tables.user.Goals as goal

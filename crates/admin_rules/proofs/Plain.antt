@@ -1,0 +1,113 @@
+-- None of the changes puts a row that is found by a hash.
+use Rattle.std.proofs.Common.{◌≡◌, ℕ, Bool, true, false, ◌||◌, List, [], ◌∷◌, ◌++◌, map, filter, refl, sym, subst}
+use Rattle.std.specs.List.{list_any}
+use Rattle.std.specs.FinMap.{values}
+use Rattle.hub_rows.specs.declared.records.Token.{Token}
+use Rattle.hub_rows.specs.declared.records.ServerRow.{ServerRow}
+use Rattle.hub_rows.specs.declared.records.Share.{Share}
+use Rattle.hub_rows.specs.declared.records.ShareCode.{ShareCode}
+use Rattle.hub_rows.specs.declared.records.OAuthClient.{OAuthClient}
+use Rattle.hub_rows.specs.declared.records.OAuthCode.{OAuthCode}
+use Rattle.hub_rows.specs.declared.changes.RowChange.{RowChange}
+use Rattle.hub_rows.specs.declared.changes.RowChange.TheVariants.{RemoveUser, RemoveGroup, RemoveService, RemoveToken, RemoveServerRow, RemoveShare, RemoveShareCode, RemoveOAuthClient, RemoveOAuthCode}
+use Rattle.hub_tables.specs.Changes.{puts_hashed}
+use Rattle.hub_tables.specs.State.{State}
+use Rattle.admin_rules.specs.Purges.{changes_of, has_member, without_member, is_held_by_user, without_user, is_token_of_user, is_server_of_user, is_share_of_user, is_code_of_user, is_called, clients_of_user, is_grant_of_user, user_rows, is_held_by_group, without_group, is_share_to_group, group_rows, is_held_by_service, without_service, is_token_of_service, is_client, client_of_service, service_rows}
+use Rattle.admin_rules.specs.Users.{new_user}
+use Rattle.admin_rules.specs.Rules.{ArePlain}
+
+both : (a b : Bool) → a ≡ false → b ≡ false → (a || b) ≡ false
+both true b h k = h
+both false b h k = k
+
+plain-append : (xs ys : List RowChange) → ArePlain xs → ArePlain ys → ArePlain (xs ++ ys)
+plain-append [] ys h k = k
+plain-append (x ∷ xs) ys h k = split (puts_hashed x) (list_any puts_hashed xs) h (plain-append xs ys)
+  where
+    split : (a b : Bool) → (a || b) ≡ false → (b ≡ false → ArePlain ys → ArePlain (xs ++ ys)) → (a || list_any puts_hashed (xs ++ ys)) ≡ false
+    split true b e f = e
+    split false b e f = f e k
+
+plain-map : {X : Type 0} (change : X → RowChange) → ((x : X) → puts_hashed (change x) ≡ false) → (rows : List X) → ArePlain (map change rows)
+plain-map change h [] = refl
+plain-map change h (x ∷ xs) = both (puts_hashed (change x)) (list_any puts_hashed (map change xs)) (h x) (plain-map change h xs)
+
+plain_users : (admin : Bool) (now : ℕ) (names : List (List ℕ)) → ArePlain (map (new_user admin now) names)
+plain_users admin now names = plain-map (new_user admin now) (λ _. refl) names
+
+changed : {X : Type 0} (takes : X → Bool) (change : X → RowChange) → ((x : X) → puts_hashed (change x) ≡ false) → (rows : List X) → ArePlain (changes_of takes change rows)
+changed takes change h rows = plain-map change h (filter takes rows)
+
+three : (a b c : List RowChange) → ArePlain a → ArePlain b → ArePlain c → ArePlain (a ++ b ++ c)
+three a b c pa pb pc = plain-append (a ++ b) c (plain-append a b pa pb) pc
+
+five : (a b c d e : List RowChange) → ArePlain a → ArePlain b → ArePlain c → ArePlain d → ArePlain e → ArePlain (a ++ b ++ c ++ d ++ e)
+five a b c d e pa pb pc pd pe = plain-append (a ++ b ++ c ++ d) e (plain-append (a ++ b ++ c) d (three a b c pa pb pc) pd) pe
+
+plain_user : (s : State) (user : List ℕ) → ArePlain (user_rows s user)
+plain_user s user =
+    let groups : List RowChange = changes_of (has_member user) (without_member user) (values s.groups) in
+    let roles : List RowChange = changes_of (is_held_by_user user) (without_user user) (values s.roles) in
+    let row : List RowChange = RemoveUser user ∷ [] in
+    let of_tokens : Token → RowChange = λ token. RemoveToken token.id in
+    let of_servers : ServerRow → RowChange = λ row. RemoveServerRow row.key in
+    let of_shares : Share → RowChange = λ share. RemoveShare share.key in
+    let of_codes : ShareCode → RowChange = λ code. RemoveShareCode code.id in
+    let of_clients : OAuthClient → RowChange = λ client. RemoveOAuthClient client.id in
+    let of_grants : OAuthCode → RowChange = λ code. RemoveOAuthCode code.hash in
+    let tokens : List RowChange = changes_of (is_token_of_user user) of_tokens (values s.tokens) in
+    let servers : List RowChange = changes_of (is_server_of_user user) of_servers (values s.servers) in
+    let first : List RowChange = groups ++ roles ++ row ++ tokens ++ servers in
+    let shares : List RowChange = changes_of (is_share_of_user user) of_shares (values s.shares) in
+    let codes : List RowChange = changes_of (is_code_of_user user) of_codes (values s.codes) in
+    let clients : List RowChange = changes_of (is_called (clients_of_user user)) of_clients (values s.clients) in
+    let grants : List RowChange = changes_of (is_grant_of_user user) of_grants (values s.grant_codes) in
+    five first shares codes clients grants
+    (five groups roles row tokens servers
+    (changed (has_member user) (without_member user) (λ _. refl) (values s.groups))
+    (changed (is_held_by_user user) (without_user user) (λ _. refl) (values s.roles))
+    refl
+    (changed (is_token_of_user user) of_tokens (λ _. refl) (values s.tokens))
+    (changed (is_server_of_user user) of_servers (λ _. refl) (values s.servers)))
+    (changed (is_share_of_user user) of_shares (λ _. refl) (values s.shares))
+    (changed (is_code_of_user user) of_codes (λ _. refl) (values s.codes))
+    (changed (is_called (clients_of_user user)) of_clients (λ _. refl) (values s.clients))
+    (changed (is_grant_of_user user) of_grants (λ _. refl) (values s.grant_codes))
+
+plain_group : (s : State) (group : List ℕ) → ArePlain (group_rows s group)
+plain_group s group =
+    let of_shares : Share → RowChange = λ share. RemoveShare share.key in
+    let row : List RowChange = RemoveGroup group ∷ [] in
+    three (changes_of (is_held_by_group group) (without_group group) (values s.roles)) row (changes_of (is_share_to_group group) of_shares (values s.shares))
+    (changed (is_held_by_group group) (without_group group) (λ _. refl) (values s.roles))
+    refl
+    (changed (is_share_to_group group) of_shares (λ _. refl) (values s.shares))
+
+plain_service : (s : State) (service : List ℕ) → ArePlain (service_rows s service)
+plain_service s service =
+    let of_tokens : Token → RowChange = λ token. RemoveToken token.id in
+    let of_clients : OAuthClient → RowChange = λ client. RemoveOAuthClient client.id in
+    let roles : List RowChange = changes_of (is_held_by_service service) (without_service service) (values s.roles) in
+    let row : List RowChange = RemoveService service ∷ [] in
+    let tokens : List RowChange = changes_of (is_token_of_service service) of_tokens (values s.tokens) in
+    let clients : List RowChange = changes_of (is_client (client_of_service service)) of_clients (values s.clients) in
+    plain-append (roles ++ row ++ tokens) clients
+    (three roles row tokens
+    (changed (is_held_by_service service) (without_service service) (λ _. refl) (values s.roles))
+    refl
+    (changed (is_token_of_service service) of_tokens (λ _. refl) (values s.tokens)))
+    (changed (is_client (client_of_service service)) of_clients (λ _. refl) (values s.clients))
+
+-- ---- the same of rows that are these
+
+pub users_plain : (admin : Bool) (now : ℕ) (names : List (List ℕ)) (rows : List RowChange) → rows ≡ map (new_user admin now) names → ArePlain rows
+users_plain admin now names rows e = subst ArePlain (sym e) (plain_users admin now names)
+
+pub user_plain : (s : State) (user : List ℕ) (rows : List RowChange) → rows ≡ user_rows s user → ArePlain rows
+user_plain s user rows e = subst ArePlain (sym e) (plain_user s user)
+
+pub group_plain : (s : State) (group : List ℕ) (rows : List RowChange) → rows ≡ group_rows s group → ArePlain rows
+group_plain s group rows e = subst ArePlain (sym e) (plain_group s group)
+
+pub service_plain : (s : State) (service : List ℕ) (rows : List RowChange) → rows ≡ service_rows s service → ArePlain rows
+service_plain s service rows e = subst ArePlain (sym e) (plain_service s service)

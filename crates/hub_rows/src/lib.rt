@@ -1,0 +1,10 @@
+//! The rows of the hub's tables: twelve records, the key of each, the limits of their numbers, and the changes of rows.
+//! `Keyed` of `keyed_rows` carries it: each record stands under a key of its own, and each can be copied.
+//! The tables of `hub_tables` hold these rows, and the keeper writes and reads them.
+#![tactic(auto)]
+
+pub mod changes;
+pub mod keys;
+pub mod limits;
+pub mod records;
+mod row_keys;

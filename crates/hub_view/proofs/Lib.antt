@@ -1,0 +1,3 @@
+mod Calendar
+pub mod Chains
+pub mod PageLaws

@@ -1,0 +1,81 @@
+//! What is shown of a server.
+ghost use Rattle.std.specs.Prelude.{◌≡◌, ◌++◌, OnOk, IfOk};
+ghost use Rattle.hub_view.specs.Body.{body_tokens};
+ghost use Rattle.hub_view.specs.Servers as spec;
+
+use crate::body::Body;
+use crate::facts::ServerFacts;
+use crate::members::{add_member, line};
+use crate::parts::moment_or_null;
+use hub_kit::names::ServerKey;
+use hub_kit::text::Text;
+use server_life::Phase;
+use std::alloc::{AllocError, Global};
+
+/// Whether a server in this phase is live.
+pub fn is_live(phase: Phase) -> bool
+    ensures { result ≡ spec.is_live phase }
+{
+    !matches!(phase, Phase::Stopped)
+}
+
+fn is_ready(phase: Phase) -> bool
+    ensures { result ≡ spec.is_ready phase }
+{
+    matches!(phase, Phase::Ready(_))
+}
+
+/// `spawn` for a server that is starting, `stop` for one that is ending or still has to, else null.
+fn pending(alloc: Global, phase: Phase) -> Result<Body, AllocError>
+    ensures { IfOk result (λ body. body_tokens body ≡ spec.pending phase) }
+{
+    match phase {
+        Phase::Stopped | Phase::Ready(_) => Ok(Body::Null),
+        Phase::Adopting(_) | Phase::Spawning(_) | Phase::Routing(_) => line(alloc, "spawn"),
+        Phase::Unrouting(_) | Phase::Stopping(_) | Phase::Parked(_, _) => line(alloc, "stop"),
+    }
+}
+
+/// Where the server is entered: `/user/U/` for the default server, else `/user/U/S/`.
+fn server_url(alloc: Global, key: &ServerKey) -> Result<Text, AllocError>
+    ensures { IfOk result (λ text. text ≡ spec.server_url key.now) }
+{
+    let mut url = Text::from_str(alloc, "/user/")?;
+    url.push_str(key.user.as_str())?;
+    url.push_str("/")?;
+    push_server(&mut url, key.server.as_str())?;
+    Ok(url)
+}
+
+/// The part of the path behind the user.
+fn push_server(url: &mut Text, server: &str) -> Result<(), AllocError>
+    ensures { OnOk result (url.new ≡ url.old ++ spec.server_path server.now) }
+{
+    if server.is_empty() {
+        return Ok(());
+    }
+    url.push_str(server)?;
+    url.push_str("/")
+}
+
+/// All fields of a server.
+pub fn server_body(alloc: Global, server: &ServerFacts) -> Result<Body, AllocError>
+    ensures { IfOk result (λ body. body_tokens body ≡ spec.server_body server.now) }
+{
+    let mut fields = Vec::new(alloc);
+    let row = &server.row;
+    let phase = server.life.phase;
+    let ready = Body::Truth(is_ready(phase));
+    let last_activity = moment_or_null(alloc, row.last_activity)?;
+    let started = moment_or_null(alloc, row.started)?;
+    let name = line(alloc, row.key.server.as_str())?;
+    let pending = pending(alloc, phase)?;
+    let url = Body::Line(server_url(alloc, &row.key)?);
+    add_member(alloc, &mut fields, true, "last_activity", last_activity)?;
+    add_member(alloc, &mut fields, true, "name", name)?;
+    add_member(alloc, &mut fields, true, "pending", pending)?;
+    add_member(alloc, &mut fields, true, "ready", ready)?;
+    add_member(alloc, &mut fields, true, "started", started)?;
+    add_member(alloc, &mut fields, true, "url", url)?;
+    Ok(Body::Pairs(fields))
+}

@@ -1,0 +1,158 @@
+//! What keeps the entries of the history.
+ghost use Rattle.std.specs.Prelude.{◌≡◌, ◌+◌, ◌<◌, ◌≤◌, ◌^◌, ◌++◌, ◌∷◌, [], ℕ, List, length, Option, Some, None, option_map, OnOk, OnErr, vec_len, vec_capacity, refl};
+ghost use Rattle.keeper.specs.Trails.{told_length, untold_length};
+
+use std::alloc::{AllocError, Global};
+use std::marker::PhantomData;
+
+/// Keeps entries, one behind the other. All the memory is taken by `reserve`, and none by `note`.
+pub trait Trail: Drop {
+    type Entry;
+
+    /// The entries, where they are told.
+    ghost told: { Self → Option (List Self.Entry) };
+
+    /// How many there are.
+    ghost long: { Self → ℕ };
+
+    /// How many more may be noted.
+    ghost spare: { Self → ℕ };
+
+    /// How many entries there are.
+    fn length(&self) -> u64
+        ensures { result ≡ long self.now };
+
+    /// Makes room for at least `n` entries more.
+    fn reserve(&mut self, n: u64) -> Result<(), AllocError>
+        ensures room { OnOk result (n ≤ spare self.new) }
+        ensures kept { spare self.old ≤ spare self.new }
+        ensures same { (told self.new ≡ told self.old) × (long self.new ≡ long self.old) };
+
+    /// Adds an entry behind all others.
+    fn note(&mut self, entry: Self::Entry)
+        requires { 0 < spare self.old }
+        ensures told { told self.new ≡ option_map (λ es. es ++ entry ∷ []) (told self.old) }
+        ensures long { long self.new ≡ long self.old + 1 }
+        ensures spare { spare self.new + 1 ≡ spare self.old };
+
+    /// The entries that are told are as many as there are.
+    ghost counted: { (t : Self) (entries : List Self.Entry) → told t ≡ Some entries → length entries ≡ long t };
+}
+
+/// Keeps the number of entries alone, and tells none of them.
+#[derive(Drop)]
+pub struct CountTrail<E> {
+    count: u64,
+    reserved: u64,
+    of: PhantomData<E>,
+    ghost fits: { count + reserved < 2 ^ 64 },
+}
+
+impl<E: Drop> CountTrail<E> {
+    pub fn new() -> CountTrail<E>
+        ensures long { ⟦<CountTrail<E> as Trail>⟧.long result ≡ 0 }
+        ensures spare { ⟦<CountTrail<E> as Trail>⟧.spare result ≡ 0 }
+    {
+        CountTrail {
+            count: 0,
+            reserved: 0,
+            of: PhantomData,
+        }
+    }
+}
+
+impl<E: Drop> Trail for CountTrail<E> {
+    type Entry = E;
+
+    ghost told = { λ t. None };
+
+    ghost long = { λ t. t.count };
+
+    ghost spare = { λ t. t.reserved };
+
+    ghost counted = { untold_length (λ t. t.count) };
+
+    fn length(&self) -> u64 {
+        self.count
+    }
+
+    fn reserve(&mut self, n: u64) -> Result<(), AllocError> {
+        if n <= self.reserved {
+            return Ok(());
+        }
+        if n > u64::MAX - self.count {
+            return Err(AllocError);
+        }
+        self.reserved = n;
+        Ok(())
+    }
+
+    fn note(&mut self, entry: E) {
+        let _ = entry;
+        self.reserved -= 1;
+        self.count += 1;
+    }
+}
+
+/// Keeps the entries, and tells them.
+#[derive(Drop)]
+pub struct ListTrail<E> {
+    items: Vec<E>,
+    reserved: usize,
+    ghost fits: { vec_len items + reserved ≤ vec_capacity items },
+}
+
+impl<E: Drop> ListTrail<E> {
+    /// No entries, which take no memory.
+    pub fn new(alloc: Global) -> ListTrail<E>
+        ensures told { ⟦<ListTrail<E> as Trail>⟧.told result ≡ Some [] }
+        ensures spare { ⟦<ListTrail<E> as Trail>⟧.spare result ≡ 0 }
+    {
+        ListTrail {
+            items: Vec::new(alloc),
+            reserved: 0,
+        }
+    }
+
+    /// The entries, the first of them first.
+    pub fn entries(&self) -> &[E]
+        ensures { ⟦<ListTrail<E> as Trail>⟧.told self.now ≡ Some result.now }
+    {
+        self.items.as_slice()
+    }
+}
+
+impl<E: Drop> Trail for ListTrail<E> {
+    type Entry = E;
+
+    ghost told = { λ t. Some t.items.items };
+
+    ghost long = { λ t. length t.items.items };
+
+    ghost spare = { λ t. t.reserved };
+
+    ghost counted = { told_length (λ t. t.items.items) };
+
+    fn length(&self) -> u64 {
+        self.items.len() as u64
+    }
+
+    fn reserve(&mut self, n: u64) -> Result<(), AllocError> {
+        let Ok(n) = usize::try_from(n) else {
+            return Err(AllocError);
+        };
+        if n > self.reserved {
+            self.items.reserve(n)?;
+            self.reserved = n;
+        }
+        Ok(())
+    }
+
+    fn note(&mut self, entry: E) {
+        self.reserved -= 1;
+        match self.items.push(entry) {
+            Ok(()) => {}
+            Err(_) => unreachable!(),
+        }
+    }
+}

@@ -1,0 +1,3 @@
+pub mod Lending
+pub mod Looks
+pub mod Rights

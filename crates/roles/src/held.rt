@@ -1,0 +1,224 @@
+//! What an owner holds: roles, shares, and the scopes of both.
+ghost use Rattle.std.specs.Prelude.{◌≡◌, ◌++◌, ◌∷◌, [], map, OnOk, IfOk, if◌then◌else◌};
+ghost use Rattle.std.specs.List.{flat_map, list_any};
+ghost use Rattle.hub_kit.specs.KeyOrder.{name_cmp};
+ghost use Rattle.keyed_rows.specs.Sorted.{is_among};
+ghost use Rattle.scope_names.specs.Actions.{listed};
+ghost use Rattle.scope_filters.specs.Contexts.{is_member};
+ghost use Rattle.hub_tables.specs.Lookups.{is_admin};
+ghost use Rattle.roles.specs.Rights.{context, roles_held, shares_received};
+ghost use Rattle.roles.specs.Rights as spec;
+
+use hub_kit::names::UserName;
+use hub_rows::keys::Recipient;
+use hub_rows::records::{Role, Share};
+use hub_tables::tables::Tables;
+use scope_filters::holder::Owner;
+use scope_filters::members::Members;
+use scope_filters::scope::{RawFilter, RawScope};
+use scope_names::action::Action;
+use std::alloc::{AllocError, Global};
+
+/// The scopes that the owner holds.
+pub(crate) fn scopes_held(
+    alloc: Global,
+    t: &Tables,
+    owner: &Owner,
+) -> Result<Vec<RawScope>, AllocError>
+    ensures { IfOk result (λ scopes. scopes.items ≡ spec.scopes_held t.now owner.now) }
+{
+    let mut scopes = Vec::new(alloc);
+    push_fixed(&mut scopes, t, owner)?;
+    push_roles(&mut scopes, t, owner)?;
+    push_shares(&mut scopes, t, owner)?;
+    Ok(scopes)
+}
+
+/// Appends the scopes of the fixed roles to none.
+fn push_fixed(scopes: &mut Vec<RawScope>, t: &Tables, owner: &Owner) -> Result<(), AllocError>
+    requires { scopes.old.items ≡ [] }
+    ensures { OnOk result (scopes.new.items ≡ spec.fixed_scopes t.now owner.now) }
+{
+    match owner {
+        Owner::User(user) => {
+            push_own(scopes)?;
+            push_admin(scopes, t, user)
+        }
+        Owner::Service(_) => Ok(()),
+    }
+}
+
+/// Appends `self`.
+fn push_own(scopes: &mut Vec<RawScope>) -> Result<(), AllocError>
+    ensures { OnOk result (scopes.new.items ≡ scopes.old.items ++ RawScope.SelfScope ∷ []) }
+{
+    // The check proves no call that hands scopes on, unless the types in them are named beside it.
+    let _action: Option<Action> = None;
+    let _filter: Option<RawFilter> = None;
+    scopes.push(RawScope::SelfScope)?;
+    Ok(())
+}
+
+/// Appends the scopes of the fixed role `admin`, where the user is one.
+fn push_admin(scopes: &mut Vec<RawScope>, t: &Tables, user: &UserName) -> Result<(), AllocError>
+    ensures { OnOk result (scopes.new.items ≡ scopes.old.items ++ (if is_admin t.now user.now then spec.admin_scopes else [])) }
+{
+    if is_admin(t, user) {
+        return push_unfiltered(scopes, &table_actions());
+    }
+    Ok(())
+}
+
+pub(crate) fn is_admin(t: &Tables, user: &UserName) -> bool
+    ensures { result ≡ is_admin t.now user.now }
+{
+    match t.user(user) {
+        Some(row) => row.admin,
+        None => false,
+    }
+}
+
+/// Appends a scope of each action, without filter.
+fn push_unfiltered(scopes: &mut Vec<RawScope>, actions: &[Action]) -> Result<(), AllocError>
+    ensures { OnOk result (scopes.new.items ≡ scopes.old.items ++ map (λ action. RawScope.Plain action RawFilter.Unfiltered) actions.now) }
+{
+    for action in actions {
+        scopes.push(RawScope::Plain {
+            action: *action,
+            filter: RawFilter::Unfiltered,
+        })?;
+    }
+    Ok(())
+}
+
+/// Appends the scopes of the roles that the owner holds.
+fn push_roles(scopes: &mut Vec<RawScope>, t: &Tables, owner: &Owner) -> Result<(), AllocError>
+    ensures { OnOk result (scopes.new.items ≡ scopes.old.items ++ flat_map (λ role. role.scopes) (roles_held t.now owner.now)) }
+{
+    for role in t.roles() {
+        push_role(scopes, t, owner, role)?;
+    }
+    Ok(())
+}
+
+fn push_role(
+    scopes: &mut Vec<RawScope>,
+    t: &Tables,
+    owner: &Owner,
+    role: &Role,
+) -> Result<(), AllocError>
+    ensures { OnOk result (scopes.new.items ≡ scopes.old.items ++ (if spec.holds_role t.now owner.now role.now then role.now.scopes else [])) }
+{
+    if holds_role(t, owner, role) {
+        return scopes.extend_from_slice(role.scopes.as_slice());
+    }
+    Ok(())
+}
+
+/// Whether the role names the owner, or a group that the owner is in.
+pub(crate) fn holds_role(t: &Tables, owner: &Owner, role: &Role) -> bool
+    ensures { result ≡ spec.holds_role t.now owner.now role.now }
+{
+    match owner {
+        Owner::User(user) => role.users.contains(user) || names_group_of(t, role, user),
+        Owner::Service(service) => role.services.contains(service),
+    }
+}
+
+fn names_group_of(t: &Tables, role: &Role, user: &UserName) -> bool
+    ensures { result ≡ list_any (λ g. is_member (context t.now) user.now g) role.now.groups }
+{
+    let groups = role.groups.as_slice();
+    groups.iter().any(|group| t.is_member(user, group))
+}
+
+/// Appends the scopes of the shares that the owner received.
+fn push_shares(scopes: &mut Vec<RawScope>, t: &Tables, owner: &Owner) -> Result<(), AllocError>
+    ensures { OnOk result (scopes.new.items ≡ scopes.old.items ++ flat_map (λ share. share.scopes) (shares_received t.now owner.now)) }
+{
+    for share in t.shares() {
+        push_share(scopes, t, owner, share)?;
+    }
+    Ok(())
+}
+
+fn push_share(
+    scopes: &mut Vec<RawScope>,
+    t: &Tables,
+    owner: &Owner,
+    share: &Share,
+) -> Result<(), AllocError>
+    ensures { OnOk result (scopes.new.items ≡ scopes.old.items ++ (if spec.received t.now owner.now share.now.key.to then share.now.scopes else [])) }
+{
+    if received(t, owner, &share.key.to) {
+        return scopes.extend_from_slice(share.scopes.as_slice());
+    }
+    Ok(())
+}
+
+/// Whether it was shared to the owner, or to a group that the owner is in.
+fn received(t: &Tables, owner: &Owner, to: &Recipient) -> bool
+    ensures { result ≡ spec.received t.now owner.now to.now }
+{
+    match owner {
+        Owner::User(user) => match to {
+            Recipient::User(other) => *user == *other,
+            Recipient::Group(group) => t.is_member(user, group),
+        },
+        Owner::Service(_) => false,
+    }
+}
+
+/// The actions of the table, none of them a custom one.
+#[tactic(auto, unfolding(scope_names::specs::Actions::listed))]
+fn table_actions() -> [Action; 45]
+    ensures { result ≡ listed }
+{
+    [
+        Action::AccessServers,
+        Action::AccessServices,
+        Action::AdminUi,
+        Action::AdminAuthState,
+        Action::AdminGroups,
+        Action::AdminRoles,
+        Action::AdminServerState,
+        Action::AdminServers,
+        Action::AdminServices,
+        Action::AdminUsers,
+        Action::DeleteGroups,
+        Action::DeleteServers,
+        Action::DeleteUsers,
+        Action::Groups,
+        Action::GroupsShares,
+        Action::ListGroups,
+        Action::ListServices,
+        Action::ListUsers,
+        Action::Proxy,
+        Action::ReadGroups,
+        Action::ReadGroupsName,
+        Action::ReadGroupsShares,
+        Action::ReadHub,
+        Action::ReadMetrics,
+        Action::ReadRoles,
+        Action::ReadRolesGroups,
+        Action::ReadRolesServices,
+        Action::ReadRolesUsers,
+        Action::ReadServers,
+        Action::ReadServices,
+        Action::ReadServicesName,
+        Action::ReadShares,
+        Action::ReadTokens,
+        Action::ReadUsers,
+        Action::ReadUsersActivity,
+        Action::ReadUsersGroups,
+        Action::ReadUsersName,
+        Action::ReadUsersShares,
+        Action::Servers,
+        Action::Shares,
+        Action::Shutdown,
+        Action::Tokens,
+        Action::Users,
+        Action::UsersActivity,
+        Action::UsersShares,
+    ]
+}
