@@ -1,15 +1,15 @@
 //! The whole life table against the lines of docs/LIFE.md, and a pool of one.
 use hub_kit::names::{ServerKey, read_key};
 use hub_kit::targets::read_target;
-use server_life::life::LifeEvent::{
+use server_life::LifeEvent::{
     Alive, AskStop, Begin, Dead, EndUnkept, Ended, PollFailed, RouteFailed, Routed, SpawnFailed,
     Spawned, StopFailed, UnrouteFailed, Unrouted,
 };
-use server_life::life::LifeRefusal::{NotNow, OldGeneration, PendingSpawn, PendingStop, Running};
-use server_life::life::Phase::{
+use server_life::LifeRefusal::{NotNow, OldGeneration, PendingSpawn, PendingStop, Running};
+use server_life::Phase::{
     Adopting, Parked, Ready, Routing, Spawning, Stopped, Stopping, Unrouting,
 };
-use server_life::life::Todo::{AddRoute, DeleteRoute, Nothing, Start, StopProgram};
+use server_life::Todo::{AddRoute, DeleteRoute, Nothing, Start, StopProgram};
 use server_life::*;
 use std::test::Fail;
 
