@@ -7,7 +7,7 @@ set -eu
 top=$(cd "$(dirname "$0")/../.." && pwd)
 scratch=${1:-$(mktemp -d /tmp/tables-bench.XXXXXX)}
 bench=$scratch/crates/tables_bench
-below='hub_kit keyed_rows scope_names scope_filters hub_rows hub_tables'
+below='hub_kit keyed_rows row_indexes scope_names scope_filters hub_rows hub_tables'
 mkdir -p "$bench/src"
 cp "$top/HANDLES" "$scratch/HANDLES"
 for crate in $below; do
@@ -154,6 +154,14 @@ fn owned(tables: &Tables, owner: &Owner) -> usize {
     tables.tokens().filter(|row| row.owner == *owner).count()
 }
 
+/// The tokens of an owner, by the index.
+fn found_owned(tables: &Tables, alloc: Global, owner: &Owner) -> usize {
+    match tables.tokens_of(alloc, owner) {
+        Ok(ids) => ids.len(),
+        Err(_) => 0,
+    }
+}
+
 fn nanoseconds(spent: Duration) -> u64 {
     u64::try_from(spent.as_nanos()).unwrap_or(u64::MAX)
 }
@@ -221,7 +229,20 @@ fn time_walk(rt: &HostRuntime, tables: &Tables) -> io::Result<()> {
     let start = Instant::now(rt)?;
     let found = owned(tables, &Owner::User(name));
     let spent = nanoseconds(start.elapsed(rt)?);
-    print_time(rt, "tokens of an owner", spent, 1, found)
+    print_time(rt, "tokens of an owner by a walk", spent, 1, found)
+}
+
+fn time_owner_looks(rt: &HostRuntime, tables: &Tables, users: u32) -> io::Result<()> {
+    let Some(names) = names(rt.alloc(), users) else {
+        return Ok(());
+    };
+    let start = Instant::now(rt)?;
+    let mut found = 0;
+    for name in &names {
+        found = found_owned(tables, rt.alloc(), &Owner::User(*name));
+    }
+    let spent = nanoseconds(start.elapsed(rt)?);
+    print_time(rt, "tokens of an owner by the index", spent, ASKED as u64, found)
 }
 
 fn time_users(rt: &HostRuntime, tables: &mut Tables, users: u32) -> io::Result<()> {
@@ -257,6 +278,7 @@ fn time_tables(rt: &HostRuntime, users: u32) -> io::Result<()> {
     time_tokens(rt, &mut tables, tokens)?;
     time_user_looks(rt, &tables, users)?;
     time_token_looks(rt, &tables, tokens)?;
+    time_owner_looks(rt, &tables, users)?;
     time_walk(rt, &tables)
 }
 

@@ -39,7 +39,7 @@ is_held_by_user user role = is_among name_cmp user role.users
 abbrev pub without_user : List ℕ → Role → RowChange
 without_user user role = PutRole (record role { users = without_keys name_cmp (user ∷ []) role.users })
 
-abbrev is_user : List ℕ → Owner → Bool
+abbrev pub is_user : List ℕ → Owner → Bool
 is_user user (Of.User name) = same name user
 is_user user (Of.Service name) = false
 
@@ -91,7 +91,7 @@ is_held_by_group group role = is_among name_cmp group role.groups
 abbrev pub without_group : List ℕ → Role → RowChange
 without_group group role = PutRole (record role { groups = without_keys name_cmp (group ∷ []) role.groups })
 
-abbrev is_to_group : List ℕ → Recipient → Bool
+abbrev pub is_to_group : List ℕ → Recipient → Bool
 is_to_group group (To.User name) = false
 is_to_group group (To.Group name) = same name group
 
@@ -113,7 +113,7 @@ is_held_by_service service role = is_among name_cmp service role.services
 abbrev pub without_service : List ℕ → Role → RowChange
 without_service service role = PutRole (record role { services = without_keys name_cmp (service ∷ []) role.services })
 
-abbrev is_service : List ℕ → Owner → Bool
+abbrev pub is_service : List ℕ → Owner → Bool
 is_service service (Of.User name) = false
 is_service service (Of.Service name) = same name service
 

@@ -1,13 +1,12 @@
 //! What goes with a group.
 ghost use Rattle.std.specs.Prelude.{◌≡◌, IfOk};
-ghost use Rattle.hub_rows.specs.declared.changes.RowChange.TheVariants.{RemoveShare};
-ghost use Rattle.admin_rules.specs.Purges.{is_held_by_group, without_group, is_share_to_group, group_rows};
+ghost use Rattle.admin_rules.specs.Purges.{is_held_by_group, without_group, group_rows};
 
-use crate::purges::{Purge, purge_rows};
+use crate::purges::{Purge, purge_rows, remove_shares};
 use hub_kit::names::GroupName;
 use hub_rows::changes::RowChange;
 use hub_rows::keys::Recipient;
-use hub_rows::records::{Role, Share};
+use hub_rows::records::Role;
 use hub_tables::tables::Tables;
 use std::alloc::{AllocError, Global};
 
@@ -22,7 +21,8 @@ pub(crate) fn group_rows(
     let mut rows = Vec::new(alloc);
     purge_rows(alloc, &mut rows, group, tables.roles())?;
     rows.push(RowChange::RemoveGroup(*group))?;
-    purge_rows(alloc, &mut rows, group, tables.shares())?;
+    let shares = tables.shares_with(alloc, &Recipient::Group(*group))?;
+    remove_shares(&mut rows, &shares)?;
     Ok(rows)
 }
 
@@ -39,22 +39,5 @@ impl Purge<Role> for GroupName {
         let mut role = role.copy(alloc)?;
         role.groups = role.groups.without(alloc, &[*self])?;
         Ok(RowChange::PutRole(role))
-    }
-}
-
-impl Purge<Share> for GroupName {
-    ghost takes = { is_share_to_group };
-
-    ghost makes = { λ group share. RemoveShare share.key };
-
-    fn is_taken(&self, share: &Share) -> bool {
-        match &share.key.to {
-            Recipient::User(_) => false,
-            Recipient::Group(group) => group == self,
-        }
-    }
-
-    fn change(&self, _alloc: Global, share: &Share) -> Result<RowChange, AllocError> {
-        Ok(RowChange::RemoveShare(share.key))
     }
 }

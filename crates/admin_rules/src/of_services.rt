@@ -1,13 +1,13 @@
 //! What goes with a service.
 ghost use Rattle.std.specs.Prelude.{◌≡◌, IfOk};
-ghost use Rattle.hub_rows.specs.declared.changes.RowChange.TheVariants.{RemoveToken, RemoveOAuthClient};
-ghost use Rattle.admin_rules.specs.Purges.{is_held_by_service, without_service, is_token_of_service, is_client, client_of_service, service_rows};
+ghost use Rattle.hub_rows.specs.declared.changes.RowChange.TheVariants.{RemoveOAuthClient};
+ghost use Rattle.admin_rules.specs.Purges.{is_held_by_service, without_service, is_client, client_of_service, service_rows};
 
-use crate::purges::{Purge, purge_rows};
+use crate::purges::{Purge, purge_rows, remove_tokens};
 use hub_kit::names::ServiceName;
 use hub_kit::text::Text;
 use hub_rows::changes::RowChange;
-use hub_rows::records::{OAuthClient, Role, Token};
+use hub_rows::records::{OAuthClient, Role};
 use hub_tables::tables::Tables;
 use scope_filters::holder::Owner;
 use std::alloc::{AllocError, Global};
@@ -26,7 +26,8 @@ pub(crate) fn service_rows(
     let mut rows = Vec::new(alloc);
     purge_rows(alloc, &mut rows, service, tables.roles())?;
     rows.push(RowChange::RemoveService(*service))?;
-    purge_rows(alloc, &mut rows, service, tables.tokens())?;
+    let ids = tables.tokens_of(alloc, &Owner::Service(*service))?;
+    remove_tokens(&mut rows, &ids)?;
     purge_rows(alloc, &mut rows, &client, tables.clients())?;
     Ok(rows)
 }
@@ -59,23 +60,6 @@ impl Purge<Role> for ServiceName {
         let mut role = role.copy(alloc)?;
         role.services = role.services.without(alloc, &[*self])?;
         Ok(RowChange::PutRole(role))
-    }
-}
-
-impl Purge<Token> for ServiceName {
-    ghost takes = { is_token_of_service };
-
-    ghost makes = { λ service token. RemoveToken token.id };
-
-    fn is_taken(&self, token: &Token) -> bool {
-        match &token.owner {
-            Owner::User(_) => false,
-            Owner::Service(service) => service == self,
-        }
-    }
-
-    fn change(&self, _alloc: Global, token: &Token) -> Result<RowChange, AllocError> {
-        Ok(RowChange::RemoveToken(token.id))
     }
 }
 

@@ -1,15 +1,14 @@
 //! What goes with a user.
 ghost use Rattle.std.specs.Prelude.{◌≡◌, IfOk};
-ghost use Rattle.hub_rows.specs.declared.changes.RowChange.TheVariants.{RemoveToken, RemoveServerRow, RemoveShare, RemoveShareCode, RemoveOAuthClient, RemoveOAuthCode};
-ghost use Rattle.admin_rules.specs.Purges as spec;
-ghost use Rattle.admin_rules.specs.Purges.{has_member, without_member, is_held_by_user, without_user, is_token_of_user, is_server_of_user, is_share_of_user, is_code_of_user, is_called, clients_of_user, is_grant_of_user, user_rows};
+ghost use Rattle.hub_rows.specs.declared.changes.RowChange.TheVariants.{RemoveShareCode, RemoveOAuthClient, RemoveOAuthCode};
+ghost use Rattle.admin_rules.specs.Purges.{has_member, without_member, is_held_by_user, without_user, is_code_of_user, is_called, clients_of_user, is_grant_of_user, user_rows};
 
-use crate::purges::{Purge, purge_rows};
+use crate::purges::{Purge, purge_rows, remove_servers, remove_shares, remove_tokens};
 use hub_kit::names::UserName;
 use hub_kit::text::Text;
 use hub_rows::changes::RowChange;
 use hub_rows::keys::Recipient;
-use hub_rows::records::{Group, OAuthClient, OAuthCode, Role, ServerRow, Share, ShareCode, Token};
+use hub_rows::records::{Group, OAuthClient, OAuthCode, Role, ShareCode};
 use hub_tables::tables::Tables;
 use scope_filters::holder::Owner;
 use std::alloc::{AllocError, Global};
@@ -29,9 +28,12 @@ pub(crate) fn user_rows(
     purge_rows(alloc, &mut rows, user, tables.groups())?;
     purge_rows(alloc, &mut rows, user, tables.roles())?;
     rows.push(RowChange::RemoveUser(*user))?;
-    purge_rows(alloc, &mut rows, user, tables.tokens())?;
-    purge_rows(alloc, &mut rows, user, tables.servers())?;
-    purge_rows(alloc, &mut rows, user, tables.shares())?;
+    let ids = tables.tokens_of(alloc, &Owner::User(*user))?;
+    remove_tokens(&mut rows, &ids)?;
+    let servers = tables.servers_of(alloc, user)?;
+    remove_servers(&mut rows, &servers)?;
+    let shares = tables.shares_with(alloc, &Recipient::User(*user))?;
+    remove_shares(&mut rows, &shares)?;
     purge_rows(alloc, &mut rows, user, tables.codes())?;
     purge_rows(alloc, &mut rows, &clients, tables.clients())?;
     purge_rows(alloc, &mut rows, user, tables.grant_codes())?;
@@ -84,60 +86,6 @@ impl Purge<Role> for UserName {
         let mut role = role.copy(alloc)?;
         role.users = role.users.without(alloc, &[*self])?;
         Ok(RowChange::PutRole(role))
-    }
-}
-
-impl Purge<Token> for UserName {
-    ghost takes = { is_token_of_user };
-
-    ghost makes = { λ user token. RemoveToken token.id };
-
-    fn is_taken(&self, token: &Token) -> bool {
-        match &token.owner {
-            Owner::User(user) => user == self,
-            Owner::Service(_) => false,
-        }
-    }
-
-    fn change(&self, _alloc: Global, token: &Token) -> Result<RowChange, AllocError> {
-        Ok(RowChange::RemoveToken(token.id))
-    }
-}
-
-impl Purge<ServerRow> for UserName {
-    ghost takes = { is_server_of_user };
-
-    ghost makes = { λ user row. RemoveServerRow row.key };
-
-    fn is_taken(&self, row: &ServerRow) -> bool {
-        row.key.user == *self
-    }
-
-    fn change(&self, _alloc: Global, row: &ServerRow) -> Result<RowChange, AllocError> {
-        Ok(RowChange::RemoveServerRow(row.key))
-    }
-}
-
-impl Purge<Share> for UserName {
-    ghost takes = { is_share_of_user };
-
-    ghost makes = { λ user share. RemoveShare share.key };
-
-    fn is_taken(&self, share: &Share) -> bool {
-        share.key.server.user == *self || is_to_user(self, &share.key.to)
-    }
-
-    fn change(&self, _alloc: Global, share: &Share) -> Result<RowChange, AllocError> {
-        Ok(RowChange::RemoveShare(share.key))
-    }
-}
-
-fn is_to_user(user: &UserName, to: &Recipient) -> bool
-    ensures { result ≡ spec.is_to_user user.now to.now }
-{
-    match to {
-        Recipient::User(name) => name == user,
-        Recipient::Group(_) => false,
     }
 }
 

@@ -4,7 +4,7 @@ ghost use Rattle.http_wire.specs.Decimal as spec;
 
 /// What bytes are: a decimal number, one past a `u64`, or no number.
 #[derive(Clone, Copy, Debug, PartialEq, Eq)]
-pub(crate) enum Decimal {
+pub enum Decimal {
     Number(u64),
     Past,
     Other,
@@ -19,7 +19,7 @@ fn push_digit(number: Option<u64>, digit: u8) -> Option<u64>
 }
 
 /// The number that the bytes are, where they are one decimal digit or more.
-pub(crate) fn number_in(bytes: &[u8]) -> Decimal
+pub fn number_in(bytes: &[u8]) -> Decimal
     ensures { result ≡ spec.number_in bytes.now }
 {
     let mut number = Some(0);

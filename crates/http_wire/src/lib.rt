@@ -7,7 +7,7 @@
 pub mod body;
 pub mod buffer;
 mod connection;
-mod decimal;
+pub mod decimal;
 pub mod due;
 pub mod error;
 mod fields;

@@ -1,3 +1,8 @@
-mod Calendar
+pub mod Deciding
+pub mod Done
+pub mod Tied
 pub mod Places
-pub mod StandsLaws
+pub mod Keys
+pub mod Reading
+pub mod Opened
+pub mod Looking

@@ -1,38 +1,103 @@
 -- The answer to an asked call: the first refusal of the frame, else what the call's own definition gives.
-use Rattle.std.specs.Prelude.{ℕ, Bool, false, nat_lt, List, [], ◌∷◌, codes, Option, Some, None}
-use Rattle.hub_view.specs.Json.{line, pairs}
-use Rattle.hub_core.specs.State.{Hub, good_token}
-use Rattle.hub_core.specs.Replies.{Answer, refuses, good, rules, if_so}
-use Rattle.hub_core.specs.Identity.{identity}
-use Rattle.hub_core.specs.declared.refusal.Refusal.TheVariants.{SeenPast, NoValidToken}
-use Rattle.hub_core.specs.declared.rows.Token.{Token}
-use Rattle.hub_core.specs.declared.call.Asked.{Asked}
-use Rattle.hub_core.specs.declared.call.Call.{Call}
-use Rattle.hub_core.specs.declared.call.Call.TheVariants.{C1, C3}
+use Rattle.std.specs.Prelude.{ℕ, Bool, true, false, not, nat_le, nat_lt, List, [], ◌∷◌, Option, Some, None, if◌then◌else◌}
+use Rattle.hub_kit.specs.Hashes.{hash_text}
+use Rattle.scope_names.specs.declared.action.Action.{Action}
+use Rattle.scope_filters.specs.declared.object.Object.{Object}
+use Rattle.hub_rows.specs.declared.records.Token.{Token}
+use Rattle.hub_tables.specs.Hashes.{row_with}
+use Rattle.hub_tables.specs.State.{State}
+use Rattle.hub_view.specs.Fields.{Rights}
+use Rattle.hub_view.specs.declared.pages.Page.{Page}
+use Rattle.hub_machine.specs.State.{Hub}
+use Rattle.hub_machine.specs.Trails.{in_trail}
+use Rattle.hub_machine.specs.Replies.{Answer, refuses, gives, changes, rules, if_so}
+use Rattle.hub_core.specs.Needs.{needs, needs_token, is_there}
+use Rattle.hub_calls.specs.Users.{get_version, get_info, get_identity, get_users, post_users, get_user, post_user, patch_user, delete_user}
+use Rattle.hub_calls.specs.Groups.{get_groups, get_group, post_group, delete_group, join_group, leave_group, get_services, get_service, post_service, delete_service}
+use Rattle.hub_calls.specs.Roles.{get_roles, get_role, role_of, put_role, delete_role}
+use Rattle.hub_core.specs.declared.need.Need.{Need}
+use Rattle.hub_core.specs.declared.need.Need.TheVariants.{GoodToken, Held, On}
+use Rattle.hub_machine.specs.declared.refusal.Refusal.{Refusal}
+use Rattle.hub_machine.specs.declared.refusal.Refusal.TheVariants.{SeenPast, NoValidToken, Needs, NotFound}
+use Rattle.hub_machine.specs.declared.call.Asked.{Asked}
+use Rattle.hub_machine.specs.declared.call.Call.{Call}
+use Rattle.hub_machine.specs.declared.call.Call.TheVariants.{C1, C2, C3, C4, C5, C6, C7, C8, C9, C21, C22, C23, C24, C25, C26, C27, C28, C29, C30, C31, C32, C33, C34}
 
--- ---- the calls, one definition for each
+-- what is decided over all scopes and objects, and not by looking into the tables (see Judged)
+pub record Judgement : Type 0 where
+  -- what the caller may do
+  pub may : Rights
+  -- whether the caller may do what the call needs on some object at all
+  pub is_held : Bool
 
-abbrev pub get_version : Answer
-get_version = good 200 (pairs ((codes "version", line (codes "5.0.0")) ∷ []))
+abbrev page : ℕ → ℕ → Bool → Page
+page offset limit paged = record { offset = offset; limit = limit; paged = paged }
 
-abbrev pub get_identity : Hub → Token → Answer
-get_identity s k = good 200 (identity s.user)
-
--- the rules of the call and its Ok, for the token that it brings
-abbrev pub row : Hub → Token → Call → Answer
-row s k C1 = get_version
-row s k C3 = get_identity s k
+-- the rules of the call in their order, and its Ok: one definition for each call
+abbrev pub row : Hub → Rights → ℕ → Token → Call → Answer
+row s may now k C1 = get_version
+row s may now k C2 = get_info s
+row s may now k (C3 server) = get_identity s may k server
+row s may now k (C4 offset limit paged) = get_users s may (page offset limit paged)
+row s may now k (C5 names admin) = post_users s may now names admin
+row s may now k (C6 u) = get_user s may u
+row s may now k (C7 u) = post_user s may now u
+row s may now k (C8 u admin) = patch_user s may u admin
+row s may now k (C9 u) = delete_user s u
+row s may now k (C21 offset limit paged) = get_groups s may (page offset limit paged)
+row s may now k (C22 g) = get_group s may g
+row s may now k (C23 g users) = post_group s may g users
+row s may now k (C24 g) = delete_group s g
+row s may now k (C25 g users) = join_group s may g users
+row s may now k (C26 g users) = leave_group s may g users
+row s may now k (C27 offset limit paged) = get_services s may (page offset limit paged)
+row s may now k (C28 v) = get_service s may v
+row s may now k (C29 v) = post_service s may v
+row s may now k (C30 v) = delete_service s v
+row s may now k (C31 offset limit paged) = get_roles s (page offset limit paged)
+row s may now k (C32 r) = get_role s r
+row s may now k (C33 r scopes users groups services) = put_role s (role_of r scopes users groups services)
+row s may now k (C34 r) = delete_role s r
 
 -- ---- the frame
 
-abbrev pub by_token : Hub → Call → Option Token → Answer
-by_token s call None = refuses NoValidToken
-by_token s call (Some k) = row s k call
+-- the action is held, and allowed on the object
+abbrev pub action_rules : Judgement → Need → List (Option Refusal)
+action_rules j GoodToken = []
+action_rules j (Held a) = if_so (not j.is_held) (Needs a) ∷ []
+action_rules j (On a x) = if_so (not j.is_held) (Needs a) ∷ if_so (not (j.may a x)) NotFound ∷ []
 
--- the version needs no token
-abbrev pub by_call : Hub → Option Token → Call → Answer
-by_call s caller C1 = get_version
-by_call s caller call = by_token s call caller
+abbrev pub if_there : Hub → Rights → ℕ → Token → Call → Answer
+if_there s may now k call = rules (if_so (not (is_there s.tables call)) NotFound ∷ []) (row s may now k call)
+
+abbrev pub by_token : Hub → Judgement → ℕ → Call → Option Token → Answer
+by_token s j now call None = refuses NoValidToken
+by_token s j now call (Some k) = rules (action_rules j (needs call)) (if_there s j.may now k call)
+
+-- without a token there is the version alone
+abbrev pub by_call : Hub → Judgement → ℕ → Option Token → Call → Answer
+by_call s j now caller call = if needs_token call then by_token s j now call caller else get_version
+
+-- ---- whose token it is
+
+-- from its end on a token is no longer good
+abbrev pub is_over : ℕ → Option ℕ → Bool
+is_over now None = false
+is_over now (Some end) = nat_le end now
+
+abbrev pub if_good : ℕ → Option Token → Option Token
+if_good now None = None
+if_good now (Some k) = if is_over now k.expires_at then None else Some k
+
+-- the kept token that has the hash of the text, where it is good
+abbrev pub good_token : State → ℕ → Option (List ℕ) → Option Token
+good_token t now None = None
+good_token t now (Some text) = if_good now (row_with (λ k. k.hash) (hash_text text) t.tokens)
+
+abbrev pub caller : Hub → ℕ → Asked → Option Token
+caller s now asked = good_token s.tables now asked.token
+
+-- ---- the whole
 
 abbrev pub is_past : ℕ → Option ℕ → Bool
 is_past length None = false
@@ -43,7 +108,7 @@ named None = 0
 named (Some n) = n
 
 -- no call that is built draws
-abbrev pub answer : Hub → ℕ → Option (List ℕ) → Asked → Answer
-answer s now draw asked =
+abbrev pub answer : Hub → ℕ → Option (List ℕ) → Judgement → Asked → Answer
+answer s now draw j asked =
     rules (if_so (is_past s.length asked.seen) (SeenPast (named asked.seen) s.length) ∷ [])
-    (by_call s (good_token s now asked.token) asked.call)
+    (in_trail s (by_call s j now (caller s now asked) asked.call))

@@ -1,25 +1,35 @@
 -- Legal histories, and the answers that stand in them.
 use Rattle.std.specs.Prelude.{◌≡◌, ℕ, List, [], ◌∷◌, take, slice_get, Option, Some, None}
-use Rattle.hub_core.specs.State.{Hub, apply}
-use Rattle.hub_core.specs.Replies.{Answer, refuses, gives}
-use Rattle.hub_core.specs.Answer.{answer}
-use Rattle.hub_core.specs.declared.call.Asked.{Asked}
-use Rattle.hub_core.specs.declared.change.Change.{Change}
+use Rattle.hub_machine.specs.State.{Hub}
+use Rattle.hub_machine.specs.Apply.{apply}
+use Rattle.hub_machine.specs.Replies.{Answer, refuses, gives, changes}
+use Rattle.hub_core.specs.Answer.{answer, Judgement}
+use Rattle.hub_core.specs.Judged.{Judged}
+use Rattle.hub_machine.specs.declared.call.Asked.{Asked}
+use Rattle.hub_machine.specs.declared.change.Change.{Change}
 
 -- what the hub answers in a state
-abbrev pub Answers : Hub → ℕ → Option (List ℕ) → Asked → Answer → Type 0
-Answers s now draw asked r = r ≡ answer s now draw asked
+pub record Answers (s : Hub) (now : ℕ) (draw : Option (List ℕ)) (asked : Asked) (r : Answer) : Type 0 where
+  pub judgement : Judgement
+  pub judged : Judged s now asked judgement
+  pub is : r ≡ answer s now draw judgement asked
 
 -- the change that an answer makes
 abbrev pub change_of : Answer → Option Change
 change_of (refuses r) = None
 change_of (gives g) = None
+change_of (changes c g) = Some c
 
 -- ---- entries
 
 -- an entry is the change of an answer in the state that it finds
-abbrev pub IsEntry : Hub → Change → Type 0
-IsEntry s c = (now : ℕ) × (draw : Option (List ℕ)) × (asked : Asked) × (r : Answer) × Answers s now draw asked r × (change_of r ≡ Some c)
+pub record IsEntry (s : Hub) (c : Change) : Type 0 where
+  pub now : ℕ
+  pub draw : Option (List ℕ)
+  pub asked : Asked
+  pub answer : Answer
+  pub answers : Answers s now draw asked answer
+  pub change : change_of answer ≡ Some c
 
 abbrev pub state_after : Hub → List Change → Hub
 state_after s [] = s

@@ -1,8 +1,7 @@
-pub mod MomentTexts
-pub mod State
-pub mod Replies
-pub mod Identity
+pub mod Needs
 pub mod Answer
-pub mod Answers
+pub mod Judged
 pub mod History
+pub mod Current
 pub mod Visits
+pub mod Opening

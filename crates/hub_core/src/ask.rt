@@ -3,15 +3,17 @@ ghost use Rattle.std.specs.Prelude.{◌≡◌, false};
 ghost use Rattle.hub_core.specs.Visits.{entries_of, VisitedAt};
 
 use crate::book::Book;
-use crate::call::Asked;
-use crate::change::Change;
-use crate::machine::Machine;
-use crate::reply::Outcome;
 use desk::{Booked, Job};
 use hub_kit::moment::Moment;
+use hub_machine::call::Asked;
+use hub_machine::change::Change;
+use hub_machine::machine::Machine;
+use hub_machine::reply::Outcome;
+use keeper::keeper::Keeper;
+use keeper::trail::Trail;
 use std::alloc::{AllocError, Global};
 
-impl Booked for Book {
+impl<K: Keeper, T: Trail<Entry = Change>> Booked for Book<K, T> {
     /// A change, or nothing where the history isn't told.
     type Entry = Option<Change>;
 
@@ -53,14 +55,14 @@ impl Ask {
     }
 }
 
-impl Job<Book> for Ask {
+impl<K: Keeper, T: Trail<Entry = Change>> Job<Book<K, T>> for Ask {
     type Answer = Result<Outcome, AllocError>;
 
     ghost acted = { λ j. j.acted };
 
     ghost does = { λ j b r j' b'. VisitedAt b.start (entries_of b) (entries_of b') j.now j.draw j.asked r };
 
-    fn act(&mut self, book: &mut Book) -> Result<Outcome, AllocError> {
+    fn act(&mut self, book: &mut Book<K, T>) -> Result<Outcome, AllocError> {
         self.acted = true;
         book.visit(self.alloc, self.now, self.draw, &self.asked)
     }

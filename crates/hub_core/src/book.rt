@@ -1,51 +1,122 @@
-//! The book: the machine with its history.
-ghost use Rattle.std.specs.Prelude.{◌≡◌, ◌≤◌, ◌^◌, ◌↔◌, IsTrue, IfOk, length};
-ghost use Rattle.hub_core.specs.Visits.{Standing, opening, Visited, VisitedAt, IsFollowed, entries_of};
+//! The book: the machine with its keeper and its history.
+ghost use Rattle.std.specs.Prelude.{◌≡◌, ◌≤◌, ◌^◌, ◌↔◌, IsTrue, IfOk, IfErr, length};
+ghost use Rattle.hub_machine.specs.Answers.{answer_view};
+ghost use Rattle.hub_machine.specs.State.{owed};
+ghost use Rattle.hub_core.specs.Current.{Looked};
+ghost use Rattle.hub_core.specs.Judged.{decider};
+ghost use Rattle.hub_core.specs.Opening.{HasOpened, IsRefused};
+ghost use Rattle.hub_core.specs.Visits.{Visited, VisitedAt, Carried, MayBeDone, IsFollowed, entries_of};
 
-use crate::answer::reply_of;
-use crate::call::Asked;
-use crate::change::Change;
 use crate::config::HubConfig;
-use crate::machine::Machine;
-use crate::reply::Outcome;
-use hub_kit::list::List;
+use crate::decide::decide;
+use crate::open_error::OpenError;
+use crate::opening::open_machine;
 use hub_kit::moment::Moment;
+use hub_machine::answer::{Answer, good_reply, refusal_reply};
+use hub_machine::call::Asked;
+use hub_machine::change::Change;
+use hub_machine::machine::Machine;
+use hub_machine::refusal::Refusal;
+use hub_machine::reply::{Outcome, Reply};
+use keeper::keeper::Keeper;
+use keeper::trail::Trail;
+use roles::cache::RightsCache;
 use std::alloc::{AllocError, Global};
 use std::marker::Model;
 use std::snapshot::Snapshot;
 
-/// The hub's state and the history that led to it.
+/// The hub's state, what keeps its rows, and the history that led to it.
 #[derive(Drop)]
-pub struct Book {
+pub struct Book<K: Keeper, T: Trail<Entry = Change>> {
+    keeper: K,
+    trail: T,
     machine: Machine,
-    history: List<Change>,
+    /// The grants of the tokens that were looked for last, each with the length of the history as its stamp.
+    rights: RightsCache,
     /// The machine as it was at opening, for contracts alone.
     start: Snapshot<Machine>,
 }
 
-impl Model for Book {
-    ghost use Rattle.std.specs.Prelude.{Some};
+/// How many grants a book keeps.
+const CAPACITY: u32 = 1024;
+
+impl<K: Keeper, T: Trail<Entry = Change>> Model for Book<K, T> {
+    ghost use Rattle.std.specs.Prelude.{◌≤◌};
+    ghost use Rattle.hub_core.specs.Current.{IsCurrent};
+    ghost use Rattle.hub_machine.specs.State.{owed};
     ghost use Rattle.hub_core.specs.Visits.{Standing, IsTied};
+    ghost use Rattle.std.specs.Coded.{codes};
+    ghost use Rattle.std.specs.FinMap.{code};
 
     ghost Value = { Standing };
 
-    ghost view = { λ b. record { start = b.start.value; hub = b.machine; told = Some b.history; faults = 0 } };
+    ghost coded = { Prim.hlevel (codes, code) };
 
-    ghost invariant = { λ b. IsTied b.start.value b.machine b.history };
+    ghost view = { λ b. record { start = b.start.value; hub = b.machine; told = T.told b.trail; faults = K.faults b.keeper; rights = b.rights } };
+
+    ghost invariant = { λ b. IsTied b.start.value b.machine (T.told b.trail) (T.long b.trail) × IsCurrent b.rights b.machine × (owed b.machine.lives ≤ T.spare b.trail) };
 }
 
-impl Book {
-    /// A book with one user and one token. The user is created now.
-    pub fn open(alloc: Global, config: &HubConfig, now: Moment) -> Result<Book, AllocError>
-        ensures { IfOk result (λ book. book ≡ opening config.now now) }
+/// Carries an answer out: its change, if it has one, and the reply at the length that it leaves.
+fn carry<K: Keeper, T: Trail<Entry = Change>>(
+    alloc: Global,
+    machine: &mut Machine,
+    keeper: &mut K,
+    trail: &mut T,
+    answer: Answer,
+) -> Result<Reply, AllocError>
+    requires { MayBeDone machine.old (answer_view answer) }
+    ensures carried { Carried (answer_view answer) result (K.faults keeper.old) (K.faults keeper.new) machine.old machine.new (T.told trail.old) (T.told trail.new) (T.long trail.old) (T.long trail.new) }
+    ensures counted { K.faults keeper.old ≤ K.faults keeper.new }
+    ensures spare { owed machine.old.lives ≤ T.spare trail.old → owed machine.new.lives ≤ T.spare trail.new }
+{
+    match answer {
+        Answer::Refuses(refusal) => refusal_reply(alloc, machine.length(), &refusal),
+        Answer::Gives(good) => Ok(good_reply(machine.length(), good)),
+        Answer::Changes { change, good } => {
+            let fault = refusal_reply(alloc, machine.length(), &Refusal::KeeperFault)?;
+            if machine.enter(alloc, keeper, trail, change)? {
+                Ok(good_reply(machine.length(), good))
+            } else {
+                Ok(fault)
+            }
+        }
+    }
+}
+
+impl<K: Keeper, T: Trail<Entry = Change>> Book<K, T> {
+    /// A book with the configuration's rows, which the keeper keeps from now on, over a trail that has no entry. A refusal hands the
+    /// keeper back.
+    pub fn open(
+        alloc: Global,
+        keeper: K,
+        trail: T,
+        config: &HubConfig,
+        now: Moment,
+    ) -> Result<Book<K, T>, (K, OpenError)>
+        requires empty { T.long trail ≡ 0 }
+        requires limits { config.now.limits.trail_bytes ≤ 2 ^ 62 }
+        ensures ok { IfOk result (HasOpened config.now now (T.told trail) (K.faults keeper)) }
+        ensures err { IfErr result (λ e. IsRefused config.now now (K.Tells e.0) (K.rows keeper) (K.faults keeper) (K.faults e.0) e.1) }
+        ensures counted { IfErr result (λ e. K.faults keeper ≤ K.faults e.0) }
     {
-        let machine = Machine::open(alloc, config, now)?;
-        let start = Snapshot::of(&machine);
-        Ok(Book {
-            machine,
-            history: List::new(alloc),
-            start,
-        })
+        let Ok(rights) = RightsCache::new(alloc, CAPACITY) else {
+            return Err((keeper, OpenError::Memory));
+        };
+        let mut keeper = keeper;
+        match open_machine(alloc, &mut keeper, config, now) {
+            Ok(machine) => {
+                let start = Snapshot::of(&machine);
+                Ok(Book {
+                    keeper,
+                    trail,
+                    machine,
+                    rights,
+                    start,
+                })
+            }
+            Err(error) => Err((keeper, error)),
+        }
     }
 
     /// Answers an asked call, and notes the change of the answer. A draw isn't needed by any call that is built.
@@ -60,11 +131,19 @@ impl Book {
         ensures start { self.new.start ≡ self.old.start }
         ensures counted { self.old.faults ≤ self.new.faults }
         ensures followed { IsFollowed self.new }
+        // the token whose rights decide is looked for once in the cache, which no answer depends on
+        ensures looked { Looked self.old.rights self.old.hub (decider self.old.hub now asked.now) result self.new.rights }
         // the same in words of places: the answer is that of the state that the entries before it left
         ensures placed { VisitedAt self.old.start (entries_of self.old) (entries_of self.new) now draw asked.now result }
     {
-        let answer = self.machine.decide(alloc, now, asked)?;
-        let reply = reply_of(alloc, self.machine.length(), answer)?;
+        let answer = decide(alloc, &self.machine, &mut self.rights, now, asked)?;
+        let reply = carry(
+            alloc,
+            &mut self.machine,
+            &mut self.keeper,
+            &mut self.trail,
+            answer,
+        )?;
         Ok(Outcome::Answer(reply))
     }
 
@@ -74,8 +153,16 @@ impl Book {
         ensures entries { result ≡ length (entries_of self.now) }
         ensures room { result ≤ 2 ^ 62 }
     {
-        let _ = &self.history;
+        let _ = &self.trail;
         self.machine.length()
+    }
+
+    /// How many visits found the rights of their token kept, or the greatest `u64`.
+    pub fn hits(&self) -> u64
+        ensures { result ≡ self.now.rights.hits }
+    {
+        let _ = &self.trail;
+        self.rights.hits()
     }
 
     /// Whether the history is at least so long.
@@ -83,5 +170,15 @@ impl Book {
         ensures { IsTrue result ↔ (n ≤ self.now.hub.length) }
     {
         n <= self.machine.length()
+    }
+
+    /// The keeper and the trail. Takes no memory.
+    pub fn into_parts(self) -> (K, T)
+        ensures told { T.told result.1 ≡ self.told }
+        ensures faults { K.faults result.0 ≡ self.faults }
+        // the entries that are still owed take no memory
+        ensures spare { owed self.hub.lives ≤ T.spare result.1 }
+    {
+        (self.keeper, self.trail)
     }
 }

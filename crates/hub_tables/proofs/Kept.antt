@@ -15,7 +15,10 @@ use Rattle.keyed_rows.proofs.Finite.{own_empty}
 use Rattle.hub_rows.specs.contracts.keys.ShareKeyOrd.TheImpl.Laws as share_key
 use Rattle.hub_tables.specs.declared.trees.Trees.{Trees}
 use Rattle.hub_tables.specs.Empty.{AreEmpty}
-use Rattle.hub_rows.specs.ShareOrder.{names_exact, share_exact}
+use Rattle.hub_rows.specs.ShareOrder.{names_exact, share_cmp, share_exact}
+use Rattle.row_indexes.specs.Owned.{owned_cmp}
+use Rattle.row_indexes.proofs.Indexed.{empty_index}
+use Rattle.hub_tables.specs.Parties.{party_cmp, is_token_of, is_share_of}
 use Rattle.hub_tables.proofs.Indexed.{empty_indexed}
 use Rattle.hub_tables.specs.Kept.{Kind, IsKept, Users, Groups, Services, Roles, Tokens, Servers, Leases, Shares, Codes, Clients, GrantCodes, Nexts}
 
@@ -34,10 +37,14 @@ empty_kept t e Tokens = record {
   own = no_rows nat_cmp_total nat_cmp-IsAntisymmetric _ t.tokens e.tokens;
   ordered = e.tokens_ordered;
   indexed = empty_indexed _ _ _ (ap (from_entries {R = nat_cmp}) e.tokens) (ap (from_entries {R = name_cmp}) e.token_ids);
+  owned = empty_index party_cmp nat_cmp is_token_of _ _ (ap (from_entries {R = nat_cmp}) e.tokens) (ap (from_entries {R = owned_cmp party_cmp nat_cmp}) e.token_owners);
 }
 empty_kept t e Servers = no_rows server_key.total-law key_exact _ t.servers e.servers
 empty_kept t e Leases = no_rows nat_list_cmp_total names_exact _ t.leases e.leases
-empty_kept t e Shares = no_rows share_key.total-law share_exact _ t.shares e.shares
+empty_kept t e Shares = record {
+  own = no_rows share_key.total-law share_exact _ t.shares e.shares;
+  owned = empty_index party_cmp share_cmp is_share_of _ _ (ap (from_entries {R = share_cmp}) e.shares) (ap (from_entries {R = owned_cmp party_cmp share_cmp}) e.share_parties);
+}
 empty_kept t e Codes = record {
   own = no_rows nat_cmp_total nat_cmp-IsAntisymmetric _ t.codes e.codes;
   ordered = e.codes_ordered;
@@ -76,9 +83,9 @@ pub leases_kept : (t : Trees) (rows : _) → AreKept t → IsKept (record t { le
 leases_kept t rows kept own Leases = own
 leases_kept t rows kept own kind = kept kind
 
-pub shares_kept : (t : Trees) (rows : _) → AreKept t → IsKept (record t { shares = rows }) Shares → AreKept (record t { shares = rows })
-shares_kept t rows kept own Shares = own
-shares_kept t rows kept own kind = kept kind
+pub shares_kept : (t : Trees) (rows parties : _) → AreKept t → IsKept (record t { shares = rows; share_parties = parties }) Shares → AreKept (record t { shares = rows; share_parties = parties })
+shares_kept t rows parties kept own Shares = own
+shares_kept t rows parties kept own kind = kept kind
 
 pub clients_kept : (t : Trees) (rows : _) → AreKept t → IsKept (record t { clients = rows }) Clients → AreKept (record t { clients = rows })
 clients_kept t rows kept own Clients = own
@@ -92,9 +99,9 @@ pub nexts_kept : (t : Trees) (rows : _) → AreKept t → IsKept (record t { nex
 nexts_kept t rows kept own Nexts = own
 nexts_kept t rows kept own kind = kept kind
 
-pub tokens_kept : (t : Trees) (rows ids : _) → AreKept t → IsKept (record t { tokens = rows; token_ids = ids }) Tokens → AreKept (record t { tokens = rows; token_ids = ids })
-tokens_kept t rows ids kept own Tokens = own
-tokens_kept t rows ids kept own kind = kept kind
+pub tokens_kept : (t : Trees) (rows ids owners : _) → AreKept t → IsKept (record t { tokens = rows; token_ids = ids; token_owners = owners }) Tokens → AreKept (record t { tokens = rows; token_ids = ids; token_owners = owners })
+tokens_kept t rows ids owners kept own Tokens = own
+tokens_kept t rows ids owners kept own kind = kept kind
 
 pub codes_kept : (t : Trees) (rows ids : _) → AreKept t → IsKept (record t { codes = rows; code_ids = ids }) Codes → AreKept (record t { codes = rows; code_ids = ids })
 codes_kept t rows ids kept own Codes = own

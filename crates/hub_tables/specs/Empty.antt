@@ -12,9 +12,11 @@ pub record AreEmpty (t : Trees) : Type 0 where
   pub tokens : t.tokens.entries ≡ []
   pub tokens_ordered : IsOrdered nat_cmp t.tokens
   pub token_ids : t.token_ids.entries ≡ []
+  pub token_owners : t.token_owners.entries ≡ []
   pub servers : t.servers.entries ≡ []
   pub leases : t.leases.entries ≡ []
   pub shares : t.shares.entries ≡ []
+  pub share_parties : t.share_parties.entries ≡ []
   pub codes : t.codes.entries ≡ []
   pub codes_ordered : IsOrdered nat_cmp t.codes
   pub code_ids : t.code_ids.entries ≡ []

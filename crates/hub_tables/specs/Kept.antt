@@ -9,6 +9,13 @@ use Rattle.hub_rows.specs.declared.limits.Limits.{Limits}
 use Rattle.hub_tables.specs.declared.trees.Trees.{Trees}
 use Rattle.hub_tables.specs.Hashes.{IsIndexed}
 use Rattle.hub_rows.specs.ShareOrder.{share_cmp}
+use Rattle.hub_rows.specs.declared.records.Share.{Share}
+use Rattle.hub_rows.specs.declared.records.Token.{Token}
+use Rattle.hub_rows.specs.declared.keys.ShareKey.{ShareKey}
+use Rattle.row_indexes.specs.Owned.{owned_cmp, IsIndex}
+use Rattle.row_indexes.specs.declared.owned.OwnedKey.{OwnedKey}
+use Rattle.hub_tables.specs.declared.parties.Party.{Party}
+use Rattle.hub_tables.specs.Parties.{party_cmp, is_token_of, is_share_of}
 use Rattle.hub_tables.specs.State.{State}
 
 -- the state that the trees hold
@@ -36,6 +43,18 @@ pub record IsKeptByHash {X : Type 0} (id_of : X → ℕ) (hash_of : X → List �
   pub ordered : IsOrdered nat_cmp rows
   pub indexed : IsIndexed hash_of (map_of nat_cmp rows) (map_of name_cmp ids)
 
+-- tokens under their ids, with indexes of their hashes and their owners
+pub record AreTokensKept (rows : BTreeMap ℕ Token) (ids : BTreeMap (List ℕ) ℕ) (owners : BTreeMap (OwnedKey Party ℕ) (Unit {0})) : Type 0 where
+  pub own : OwnKeys (λ (row : Token). row.id) (map_of nat_cmp rows)
+  pub ordered : IsOrdered nat_cmp rows
+  pub indexed : IsIndexed (λ (row : Token). row.hash) (map_of nat_cmp rows) (map_of name_cmp ids)
+  pub owned : IsIndex party_cmp nat_cmp is_token_of (map_of nat_cmp rows) (map_of (owned_cmp party_cmp nat_cmp) owners)
+
+-- shares under their keys, with an index of their parties
+pub record AreSharesKept (rows : BTreeMap ShareKey Share) (parties : BTreeMap (OwnedKey Party ShareKey) (Unit {0})) : Type 0 where
+  pub own : OwnKeys (λ (row : Share). row.key) (map_of share_cmp rows)
+  pub owned : IsIndex party_cmp share_cmp is_share_of (map_of share_cmp rows) (map_of (owned_cmp party_cmp share_cmp) parties)
+
 pub data Kind : Type 0 where
   Users : Kind
   Groups : Kind
@@ -50,16 +69,16 @@ pub data Kind : Type 0 where
   GrantCodes : Kind
   Nexts : Kind
 
--- each row of the kind stands under its own key, and those with a hash are found by it
+-- each row of the kind stands under its own key, those with a hash are found by it, and tokens and shares by their owners and parties
 abbrev pub IsKept : Trees → Kind → Type 0
 IsKept t Users = OwnKeys {R = name_cmp} (λ row. row.name) (map_of name_cmp t.users)
 IsKept t Groups = OwnKeys {R = name_cmp} (λ row. row.name) (map_of name_cmp t.groups)
 IsKept t Services = OwnKeys {R = name_cmp} (λ row. row.name) (map_of name_cmp t.services)
 IsKept t Roles = OwnKeys {R = name_cmp} (λ row. row.name) (map_of name_cmp t.roles)
-IsKept t Tokens = IsKeptByHash (λ row. row.id) (λ row. row.hash) t.tokens t.token_ids
+IsKept t Tokens = AreTokensKept t.tokens t.token_ids t.token_owners
 IsKept t Servers = OwnKeys {R = key_cmp} (λ row. row.key) (map_of key_cmp t.servers)
 IsKept t Leases = OwnKeys {R = name_cmp} (λ row. row.target) (map_of name_cmp t.leases)
-IsKept t Shares = OwnKeys {R = share_cmp} (λ row. row.key) (map_of share_cmp t.shares)
+IsKept t Shares = AreSharesKept t.shares t.share_parties
 IsKept t Codes = IsKeptByHash (λ row. row.id) (λ row. row.hash) t.codes t.code_ids
 IsKept t Clients = OwnKeys {R = name_cmp} (λ row. row.id) (map_of name_cmp t.clients)
 IsKept t GrantCodes = OwnKeys {R = name_cmp} (λ row. row.hash) (map_of name_cmp t.grant_codes)

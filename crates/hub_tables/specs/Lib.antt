@@ -5,4 +5,5 @@ pub mod Kept
 pub mod Lookups
 pub mod Memberships
 pub mod Own
+pub mod Parties
 pub mod State

@@ -5,6 +5,15 @@ use Rattle.std.specs.FinMap.{get, contains_key, values}
 use Rattle.hub_kit.specs.KeyOrder.{name_cmp}
 use Rattle.hub_kit.specs.declared.names.ServerKey.{ServerKey}
 use Rattle.keyed_rows.specs.Sorted.{is_among}
+use Rattle.scope_filters.specs.Contexts.{same}
+use Rattle.scope_filters.specs.declared.holder.Owner.{Owner}
+use Rattle.scope_filters.specs.declared.holder.Owner.TheVariants as Of
+use Rattle.hub_rows.specs.declared.keys.Recipient.{Recipient}
+use Rattle.hub_rows.specs.declared.keys.Recipient.TheVariants as To
+use Rattle.hub_rows.specs.declared.keys.ShareKey.{ShareKey}
+use Rattle.hub_rows.specs.declared.records.ServerRow.{ServerRow}
+use Rattle.hub_rows.specs.declared.records.Share.{Share}
+use Rattle.hub_rows.specs.declared.records.Token.{Token}
 use Rattle.hub_rows.specs.declared.records.User.{User}
 use Rattle.hub_rows.specs.declared.records.Group.{Group}
 use Rattle.hub_rows.specs.declared.records.Next.{Next}
@@ -36,6 +45,38 @@ next_of s kind = number_of (get s.nexts kind)
 abbrev pub is_default : (server : List ℕ) → Bool
 is_default [] = true
 is_default (b ∷ bs) = false
+
+-- two owners are one
+abbrev pub same_owner : Owner → Owner → Bool
+same_owner (Of.User a) (Of.User b) = same a b
+same_owner (Of.Service a) (Of.Service b) = same a b
+same_owner _ _ = false
+
+-- the ids of an owner's tokens, in order
+abbrev pub tokens_of : State → Owner → List ℕ
+tokens_of s owner = map (λ (k : Token). k.id) (filter (λ (k : Token). same_owner k.owner owner) (values s.tokens))
+
+-- the keys of a user's servers, in order
+abbrev pub servers_of : State → (user : List ℕ) → List ServerKey
+servers_of s user = map (λ (row : ServerRow). row.key) (filter (λ (row : ServerRow). same row.key.user user) (values s.servers))
+
+abbrev pub same_recipient : Recipient → Recipient → Bool
+same_recipient (To.User a) (To.User b) = same a b
+same_recipient (To.Group a) (To.Group b) = same a b
+same_recipient _ _ = false
+
+-- it is of a server of the user
+abbrev pub is_given_by : Recipient → ShareKey → Bool
+is_given_by (To.User user) key = same key.server.user user
+is_given_by (To.Group group) key = false
+
+-- a share that a user gave or received, or that a group received
+abbrev pub is_share_with : Recipient → Share → Bool
+is_share_with to share = is_given_by to share.key || same_recipient share.key.to to
+
+-- the keys of these, in order
+abbrev pub shares_with : State → Recipient → List ShareKey
+shares_with s to = map (λ (share : Share). share.key) (filter (is_share_with to) (values s.shares))
 
 -- a server is there where its user is kept, and its name is empty or its row is kept
 abbrev pub has_server : State → ServerKey → Bool

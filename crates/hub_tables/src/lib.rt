@@ -4,6 +4,8 @@
 #![tactic(auto)]
 
 mod hashed;
+mod owned;
+mod parties;
 pub mod tables;
 mod trees;
 

@@ -1,6 +1,7 @@
 //! The trees behind the tables.
 ghost use Rattle.hub_tables.specs.Empty.{AreEmpty};
 
+use crate::owned::Parties;
 use hub_kit::names::{GroupName, RoleName, ServerKey, ServiceName, UserName};
 use hub_kit::target::Target;
 use hub_kit::text::Text;
@@ -12,7 +13,8 @@ use hub_rows::records::{
 use std::alloc::Global;
 use std::collections::BTreeMap;
 
-/// The rows of each kind under their keys, and the ids of tokens and share codes under their hashes.
+/// The rows of each kind under their keys, the ids of tokens and share codes under their hashes, and the keys of tokens and shares
+/// under their owners and parties.
 #[derive(Drop)]
 pub(crate) struct Trees {
     pub users: BTreeMap<UserName, User>,
@@ -21,9 +23,11 @@ pub(crate) struct Trees {
     pub roles: BTreeMap<RoleName, Role>,
     pub tokens: BTreeMap<u64, Token>,
     pub token_ids: BTreeMap<Text, u64>,
+    pub token_owners: Parties<u64>,
     pub servers: BTreeMap<ServerKey, ServerRow>,
     pub leases: BTreeMap<Target, Lease>,
     pub shares: BTreeMap<ShareKey, Share>,
+    pub share_parties: Parties<ShareKey>,
     pub codes: BTreeMap<u64, ShareCode>,
     pub code_ids: BTreeMap<Text, u64>,
     pub clients: BTreeMap<Text, OAuthClient>,
@@ -43,9 +47,11 @@ impl Trees {
             roles: BTreeMap::new(alloc),
             tokens: BTreeMap::new(alloc),
             token_ids: BTreeMap::new(alloc),
+            token_owners: BTreeMap::new(alloc),
             servers: BTreeMap::new(alloc),
             leases: BTreeMap::new(alloc),
             shares: BTreeMap::new(alloc),
+            share_parties: BTreeMap::new(alloc),
             codes: BTreeMap::new(alloc),
             code_ids: BTreeMap::new(alloc),
             clients: BTreeMap::new(alloc),

@@ -116,7 +116,7 @@ fn push_role(
 }
 
 /// Whether the role names the owner, or a group that the owner is in.
-pub(crate) fn holds_role(t: &Tables, owner: &Owner, role: &Role) -> bool
+pub fn holds_role(t: &Tables, owner: &Owner, role: &Role) -> bool
     ensures { result ≡ spec.holds_role t.now owner.now role.now }
 {
     match owner {

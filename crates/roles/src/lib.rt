@@ -5,5 +5,5 @@
 
 pub mod cache;
 pub mod grants;
-mod held;
+pub mod held;
 pub mod names;

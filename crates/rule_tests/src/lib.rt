@@ -9,6 +9,8 @@ mod of_hub_view;
 #[cfg(test)]
 mod of_keyed_rows;
 #[cfg(test)]
+mod of_record_texts;
+#[cfg(test)]
 mod of_scope_expand;
 #[cfg(test)]
 mod of_scope_filters;

@@ -1,18 +1,22 @@
 //! Shares, and the clients and codes of OAuth.
-ghost use Rattle.std.specs.Prelude.{◌≡◌, false, OnOk, OnErr, IfSome};
+ghost use Rattle.std.specs.Prelude.{◌≡◌, false, OnOk, OnErr, IfOk, IfSome};
 ghost use Rattle.std.specs.Option.{option_copied};
 ghost use Rattle.std.specs.FinMap as map;
 ghost use Rattle.std.specs.Map.Iter.{ShowsInOrder, deref};
 ghost use Rattle.keyed_rows.specs.Rows.{OwnKeys};
 ghost use Rattle.keyed_rows.specs.Puts.{IsAnswer};
+ghost use Rattle.hub_tables.specs.Lookups.{shares_with};
 
+use crate::owned;
+use crate::parties::of_recipient;
 use crate::tables::Tables;
 use hub_kit::names::ServerKey;
 use hub_kit::text::Text;
 use hub_rows::keys::{Recipient, ShareKey};
 use hub_rows::records::{OAuthClient, OAuthCode, Share};
 use keyed_rows::{PutError, Room, keyed};
-use std::alloc::AllocError;
+use row_indexes::owned::owned_keys;
+use std::alloc::{AllocError, Global};
 use std::collections::btree_map::Values;
 
 /// The greatest number of clients of OAuth.
@@ -42,7 +46,13 @@ impl Tables {
             limit: self.limits.shares,
             leaving,
         };
-        keyed::put(self.alloc, &mut self.trees.shares, value, Some(room))
+        owned::put_share(
+            self.alloc,
+            &mut self.trees.shares,
+            &mut self.trees.share_parties,
+            value,
+            Some(room),
+        )
     }
 
     /// Sets the row of a share, whatever the number of rows. Memory is wanting at a new key alone.
@@ -51,7 +61,12 @@ impl Tables {
         ensures err { OnErr result (self.new ≡ self.old) }
         ensures memory { OnErr result (map.contains_key self.old.shares value.key ≡ false) }
     {
-        keyed::set(self.alloc, &mut self.trees.shares, value)
+        owned::set_share(
+            self.alloc,
+            &mut self.trees.shares,
+            &mut self.trees.share_parties,
+            value,
+        )
     }
 
     /// The number of the rows of shares.
@@ -70,7 +85,7 @@ impl Tables {
             server: *server,
             to: *to,
         };
-        keyed_rows::remove_row(&mut self.trees.shares, &key)
+        owned::remove_share(&mut self.trees.shares, &mut self.trees.share_parties, &key)
     }
 
     /// The rows of shares, in the order of servers and then of recipients.
@@ -80,6 +95,13 @@ impl Tables {
         ensures runs { ShowsInOrder (deref {X = Share}) }
     {
         self.trees.shares.values()
+    }
+
+    /// The keys of the shares that a user gave or received, or that a group received, in order, by an index.
+    pub fn shares_with(&self, alloc: Global, to: &Recipient) -> Result<Vec<ShareKey>, AllocError>
+        ensures { IfOk result (λ keys. keys.items ≡ shares_with self.now to.now) }
+    {
+        owned_keys(alloc, &self.trees.share_parties, &of_recipient(to))
     }
 
     /// The client of an id, `server:USER/SERVER` or `service:NAME`.

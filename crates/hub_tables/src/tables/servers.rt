@@ -1,19 +1,21 @@
 //! Servers, leases and the next numbers, which have no limit of rows.
-ghost use Rattle.std.specs.Prelude.{◌≡◌, false, OnOk, OnErr, IfSome};
+ghost use Rattle.std.specs.Prelude.{◌≡◌, false, OnOk, OnErr, IfOk, IfSome};
 ghost use Rattle.std.specs.Option.{option_copied};
 ghost use Rattle.std.specs.FinMap as map;
 ghost use Rattle.std.specs.Map.Iter.{ShowsInOrder, deref};
 ghost use Rattle.keyed_rows.specs.Rows.{OwnKeys};
 ghost use Rattle.keyed_rows.specs.Puts.{IsFreeAnswer};
+ghost use Rattle.hub_tables.specs.Lookups.{servers_of};
 
 use crate::tables::Tables;
 use hub_kit::moment::Moment;
-use hub_kit::names::ServerKey;
+use hub_kit::names::{ServerKey, UserName};
 use hub_kit::target::Target;
 use hub_kit::text::Text;
 use hub_rows::records::{Lease, Next, ServerRow};
 use keyed_rows::{PutError, keyed};
-use std::alloc::AllocError;
+use row_indexes::servers::server_keys_of;
+use std::alloc::{AllocError, Global};
 use std::collections::btree_map::Values;
 
 impl Tables {
@@ -62,6 +64,13 @@ impl Tables {
         ensures runs { ShowsInOrder (deref {X = ServerRow}) }
     {
         self.trees.servers.values()
+    }
+
+    /// The keys of the servers of a user, in order: a walk over these alone.
+    pub fn servers_of(&self, alloc: Global, user: &UserName) -> Result<Vec<ServerKey>, AllocError>
+        ensures { IfOk result (λ keys. keys.items ≡ servers_of self.now user.now) }
+    {
+        server_keys_of(alloc, &self.trees.servers, user)
     }
 
     /// The lease of a target.

@@ -1,18 +1,22 @@
 //! Tokens and share codes, which stand under ids and are found by hashes.
-ghost use Rattle.std.specs.Prelude.{◌≡◌, false, not, ◌||◌, IsTrue, OnOk, OnErr, IfSome};
+ghost use Rattle.std.specs.Prelude.{◌≡◌, false, not, ◌||◌, IsTrue, OnOk, OnErr, IfOk, IfSome};
 ghost use Rattle.std.specs.Option.{option_copied, is_some};
 ghost use Rattle.std.specs.FinMap as map;
 ghost use Rattle.std.specs.Map.Iter.{ShowsInOrder, deref};
 ghost use Rattle.keyed_rows.specs.Rows.{OwnKeys};
 ghost use Rattle.keyed_rows.specs.Puts.{IsAnswer};
 ghost use Rattle.hub_tables.specs.Hashes.{row_with, FitsHash, FitsToken};
+ghost use Rattle.hub_tables.specs.Lookups.{tokens_of};
 
-use crate::hashed;
+use crate::parties::of_owner;
 use crate::tables::Tables;
+use crate::{hashed, owned};
 use hub_kit::text::Text;
 use hub_rows::records::{ShareCode, Token};
 use keyed_rows::{PutError, Room};
-use std::alloc::AllocError;
+use row_indexes::owned::owned_keys;
+use scope_filters::holder::Owner;
+use std::alloc::{AllocError, Global};
 use std::collections::btree_map::Values;
 
 impl Tables {
@@ -43,10 +47,11 @@ impl Tables {
             limit: self.limits.tokens,
             leaving,
         };
-        hashed::put_hashed(
+        owned::put_token(
             self.alloc,
             &mut self.trees.tokens,
             &mut self.trees.token_ids,
+            &mut self.trees.token_owners,
             value,
             Some(room),
         )
@@ -59,10 +64,11 @@ impl Tables {
         ensures err { OnErr result (self.new ≡ self.old) }
         ensures memory { OnErr result (map.contains_key self.old.tokens value.id ≡ false) }
     {
-        hashed::set_hashed(
+        owned::set_token(
             self.alloc,
             &mut self.trees.tokens,
             &mut self.trees.token_ids,
+            &mut self.trees.token_owners,
             value,
         )
     }
@@ -79,7 +85,12 @@ impl Tables {
         ensures there { result ≡ map.contains_key self.old.tokens id }
         ensures after { self.new ≡ record self.old { tokens = map.remove self.old.tokens id } }
     {
-        hashed::remove_hashed(&mut self.trees.tokens, &mut self.trees.token_ids, id)
+        owned::remove_token(
+            &mut self.trees.tokens,
+            &mut self.trees.token_ids,
+            &mut self.trees.token_owners,
+            id,
+        )
     }
 
     /// Whether neither the id nor the hash of a token is kept, so that a new one may stand under them.
@@ -97,6 +108,13 @@ impl Tables {
         ensures runs { ShowsInOrder (deref {X = Token}) }
     {
         self.trees.tokens.values()
+    }
+
+    /// The ids of the tokens of an owner, in order, by an index.
+    pub fn tokens_of(&self, alloc: Global, owner: &Owner) -> Result<Vec<u64>, AllocError>
+        ensures { IfOk result (λ ids. ids.items ≡ tokens_of self.now owner.now) }
+    {
+        owned_keys(alloc, &self.trees.token_owners, &of_owner(owner))
     }
 
     /// The share code of an id.

@@ -6,9 +6,15 @@ use Rattle.hub_rows.specs.ShareOrder.{share_exact}
 use Rattle.hub_tables.proofs.Kept.{shares_kept}
 use Rattle.hub_tables.proofs.tables.Tables.set_share.Goals as goal
 
+pub set_share-requires : goal.set_share-requires
+set_share-requires c = record { own = (c.self.invariant Shares).own; owned = (c.self.invariant Shares).owned }
+
 pub invariant_of-self : goal.invariant_of-self
 invariant_of-self c =
-    shares_kept c.self.inside.trees c.set.new.rows c.self.invariant (own_put total-law share_exact (λ (row : Share). row.key) _ _ c.args.value c.set.result c.set.ensures.ok c.set.ensures.err (c.self.invariant Shares))
+    shares_kept c.self.inside.trees c.set_share.new.rows c.set_share.new.parties c.self.invariant (record {
+      own = own_put total-law share_exact (λ (row : Share). row.key) _ _ c.args.value c.set_share.result c.set_share.ensures.ok c.set_share.ensures.err (c.self.invariant Shares).own;
+      owned = c.set_share.ensures.owned;
+    })
 
 pub returns-clause-memory : goal.returns-clause-memory
-returns-clause-memory c = rw (← c.self.view_is) c.set.ensures.memory
+returns-clause-memory c = rw (← c.self.view_is) c.set_share.ensures.memory

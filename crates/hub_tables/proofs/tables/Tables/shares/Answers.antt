@@ -12,4 +12,4 @@ pub returns-clause-rows : goal.returns-clause-rows
 returns-clause-rows c = c.values.ensures.rest ∙ sym (values_row total-law c.self.inside.trees.shares c.values.ensures.ordered) ∙ ap (λ (s : State). map.values s.shares) c.self.view_is
 
 pub returns-clause-own : goal.returns-clause-own
-returns-clause-own c = subst (λ (s : State). OwnKeys (λ (row : Share). row.key) s.shares) c.self.view_is (c.self.invariant Shares)
+returns-clause-own c = subst (λ (s : State). OwnKeys (λ (row : Share). row.key) s.shares) c.self.view_is (c.self.invariant Shares).own

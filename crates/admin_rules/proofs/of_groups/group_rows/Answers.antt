@@ -1,0 +1,16 @@
+use Rattle.admin_rules.proofs.Found.{group_shares}
+use Rattle.admin_rules.proofs.of_groups.group_rows.Goals as goal
+
+-- each step appends its changes to those before
+pub returns : goal.returns
+returns c =
+    rw (
+      c.in_ok-remove_shares.ensures,
+      c.deref.ensures.value,
+      c.in_ok-shares.ensures,
+      c.in_ok-push.ensures.items,
+      c.in_ok-purge_rows.ensures,
+      c.new-rows.ensures.items,
+      c.roles.ensures.rows,
+      group_shares c.args.tables.now c.args.group.now,
+    )

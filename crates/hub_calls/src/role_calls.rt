@@ -1,0 +1,80 @@
+//! The calls on roles.
+ghost use Rattle.std.specs.Prelude.{◌≡◌, IfOk};
+ghost use Rattle.hub_machine.specs.Answers.{answer_view};
+ghost use Rattle.hub_calls.specs.Roles as spec;
+
+use crate::bodies::{role_at, show_role};
+use crate::ruled::{carried, refused};
+use admin_rules::roles;
+use hub_kit::list::List;
+use hub_kit::names::{GroupName, RoleName, ServiceName, UserName};
+use hub_machine::answer::{Answer, gives, plain, rows_then};
+use hub_machine::machine::Machine;
+use hub_rows::records::Role;
+use hub_view::{Listing, Page, role_body};
+use keyed_rows::sorted::Sorted;
+use scope_filters::scope::RawScope;
+use std::alloc::{AllocError, Global};
+
+/// The role with these lists, its names in order.
+pub fn role_of(
+    alloc: Global,
+    role: &RoleName,
+    scopes: &[RawScope],
+    users: &[UserName],
+    groups: &[GroupName],
+    services: &[ServiceName],
+) -> Result<Role, AllocError>
+    ensures { IfOk result (λ r. r ≡ spec.role_of role.now scopes.now users.now groups.now services.now) }
+{
+    Ok(Role {
+        name: *role,
+        groups: Sorted::from_vec(Vec::from_slice(alloc, groups)?),
+        scopes: List::from_vec(Vec::from_slice(alloc, scopes)?),
+        services: Sorted::from_vec(Vec::from_slice(alloc, services)?),
+        users: Sorted::from_vec(Vec::from_slice(alloc, users)?),
+    })
+}
+
+/// `GET /roles`
+pub fn get_roles(alloc: Global, hub: &Machine, page: Page) -> Result<Answer, AllocError>
+    ensures { IfOk result (λ answer. answer_view answer ≡ spec.get_roles hub.now page) }
+{
+    let mut list = Listing::new(alloc, page);
+    for role in hub.tables().roles() {
+        show_role(alloc, &mut list, role)?;
+    }
+    Ok(gives(200, list.into_body(alloc, "/roles")?))
+}
+
+/// `GET /roles/{r}`
+pub fn get_role(alloc: Global, hub: &Machine, role: &RoleName) -> Result<Answer, AllocError>
+    ensures { IfOk result (λ answer. answer_view answer ≡ spec.get_role hub.now role.now) }
+{
+    Ok(gives(200, role_at(alloc, hub, role)?))
+}
+
+/// `PUT /roles/{r}`
+pub fn put_role(alloc: Global, hub: &Machine, role: &Role) -> Result<Answer, AllocError>
+    ensures { IfOk result (λ answer. answer_view answer ≡ spec.put_role hub.now role.now) }
+{
+    let status = if hub.tables().role(&role.name).is_some() {
+        200
+    } else {
+        201
+    };
+    match roles::put_role(alloc, hub.tables(), role) {
+        Ok(rows) => {
+            let body = role_body(alloc, role)?;
+            Ok(rows_then(rows, plain(status, body)))
+        }
+        Err(refusal) => refused(alloc, refusal),
+    }
+}
+
+/// `DELETE /roles/{r}`
+pub fn delete_role(alloc: Global, hub: &Machine, role: &RoleName) -> Result<Answer, AllocError>
+    ensures { IfOk result (λ answer. answer_view answer ≡ spec.delete_role hub.now role.now) }
+{
+    carried(alloc, roles::delete_role(alloc, hub.tables(), role))
+}

@@ -1,0 +1,61 @@
+//! Answers of calls that the rules decide.
+ghost use Rattle.std.specs.Prelude.{◌≡◌, ◌++◌, IfOk, Ok, Err, alloc_error};
+ghost use Rattle.admin_rules.specs.Rules as rules;
+ghost use Rattle.hub_machine.specs.Answers.{answer_view};
+ghost use Rattle.hub_machine.specs.Replies as spec;
+ghost use Rattle.hub_machine.specs.State.{Hub};
+ghost use Rattle.hub_calls.specs.Calling.{refusal_of, by_rules, done};
+
+use admin_rules::refusals::RuleRefusal;
+use hub_kit::text::Text;
+use hub_machine::answer::{Answer, plain, rows_then};
+use hub_machine::refusal::Refusal;
+use hub_rows::changes::RowChange;
+use hub_view::Body;
+use std::alloc::{AllocError, Global};
+
+/// A rule's refusal in words.
+fn worded(alloc: Global, front: &str, back: &str) -> Result<Refusal, AllocError>
+    ensures { IfOk result (λ r. r ≡ Refusal.Rule (front.now ++ back.now)) }
+{
+    let mut text = Text::from_str(alloc, front)?;
+    text.push_str(back)?;
+    Ok(Refusal::Rule(text))
+}
+
+/// How a refusal of the rules is said. Want of memory stays that.
+fn refusal_said(alloc: Global, refusal: RuleRefusal) -> Result<Refusal, AllocError>
+    ensures said { IfOk result (λ r. r ≡ refusal_of refusal) }
+    ensures memory { refusal ≡ RuleRefusal.Memory → result ≡ Err alloc_error }
+{
+    match refusal {
+        RuleRefusal::Exists(key) => Ok(Refusal::Exists(key)),
+        RuleRefusal::LiveServers => worded(alloc, "live servers", ""),
+        RuleRefusal::UnknownUser(user) => worded(alloc, "unknown user ", user.as_str()),
+        RuleRefusal::FixedRole => worded(alloc, "fixed role", ""),
+        RuleRefusal::UnknownScope(scope) => worded(alloc, "unknown scope ", scope.as_str()),
+        RuleRefusal::UnknownHolder(name) => worded(alloc, "unknown holder ", name.as_str()),
+        RuleRefusal::Full { kind, limit } => Ok(Refusal::Full { kind, limit }),
+        RuleRefusal::Memory => Err(AllocError),
+    }
+}
+
+/// The answer of a call that a rule refuses.
+pub fn refused(alloc: Global, refusal: RuleRefusal) -> Result<Answer, AllocError>
+    ensures { IfOk result (λ a. (answer : rules.Answer) → rules.Says answer (Err refusal) → (s : Hub) (reply : Hub → spec.Good) → answer_view a ≡ by_rules s answer reply) }
+{
+    Ok(Answer::Refuses(refusal_said(alloc, refusal)?))
+}
+
+/// The answer of a call whose Ok has no body.
+pub fn carried(
+    alloc: Global,
+    rows: Result<Vec<RowChange>, RuleRefusal>,
+) -> Result<Answer, AllocError>
+    ensures { IfOk result (λ a. (answer : rules.Answer) → rules.Says answer rows → (s : Hub) → answer_view a ≡ by_rules s answer done) }
+{
+    match rows {
+        Ok(rows) => Ok(rows_then(rows, plain(204, Body::Nothing))),
+        Err(refusal) => refused(alloc, refusal),
+    }
+}

@@ -1,0 +1,80 @@
+//! The calls on services.
+ghost use Rattle.std.specs.Prelude.{◌≡◌, IfOk};
+ghost use Rattle.hub_machine.specs.Answers.{answer_view};
+ghost use Rattle.hub_calls.specs.Rights.{may_of};
+ghost use Rattle.hub_calls.specs.Groups as spec;
+
+use crate::bodies::{allows, service_body, show_service};
+use crate::ruled::{carried, refused};
+use admin_rules::services;
+use hub_kit::names::ServiceName;
+use hub_machine::answer::{Answer, gives, plain, rows_then};
+use hub_machine::machine::Machine;
+use hub_view::{Listing, Page};
+use scope_filters::grant::Grant;
+use scope_filters::object::Object;
+use scope_names::action::Action;
+use std::alloc::{AllocError, Global};
+
+/// `GET /services`: those that the caller may list.
+pub fn get_services(
+    alloc: Global,
+    hub: &Machine,
+    rights: &Grant,
+    page: Page,
+) -> Result<Answer, AllocError>
+    ensures { IfOk result (λ answer. answer_view answer ≡ spec.get_services hub.now (may_of hub.now rights.now) page) }
+{
+    let mut list = Listing::new(alloc, page);
+    for service in hub.tables().services() {
+        let object = Object::Service(service.name);
+        if allows(hub, rights, Action::ListServices, &object) {
+            show_service(alloc, hub, rights, &mut list, &service.name)?;
+        }
+    }
+    Ok(gives(200, list.into_body(alloc, "/services")?))
+}
+
+/// `GET /services/{v}`
+pub fn get_service(
+    alloc: Global,
+    hub: &Machine,
+    rights: &Grant,
+    service: &ServiceName,
+) -> Result<Answer, AllocError>
+    ensures { IfOk result (λ answer. answer_view answer ≡ spec.get_service hub.now (may_of hub.now rights.now) service.now) }
+{
+    Ok(gives(200, service_body(alloc, hub, rights, service)?))
+}
+
+/// `POST /services/{v}`
+pub fn post_service(
+    alloc: Global,
+    hub: &Machine,
+    rights: &Grant,
+    service: &ServiceName,
+) -> Result<Answer, AllocError>
+    ensures { IfOk result (λ answer. answer_view answer ≡ spec.post_service hub.now (may_of hub.now rights.now) service.now) }
+{
+    match services::add_service(alloc, hub.tables(), service) {
+        Ok(rows) => {
+            let body = service_body(alloc, hub, rights, service)?;
+            Ok(rows_then(rows, plain(201, body)))
+        }
+        Err(refusal) => refused(alloc, refusal),
+    }
+}
+
+/// `DELETE /services/{v}`
+pub fn delete_service(
+    alloc: Global,
+    hub: &Machine,
+    service: &ServiceName,
+) -> Result<Answer, AllocError>
+    ensures { IfOk result (λ answer. answer_view answer ≡ spec.delete_service hub.now service.now) }
+{
+    carried(
+        alloc,
+        services::delete_service(alloc, hub.tables(), service),
+    )
+}

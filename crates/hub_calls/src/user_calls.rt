@@ -1,0 +1,269 @@
+//! The calls on the hub, the identity and users.
+ghost use Rattle.std.specs.Prelude.{◌≡◌, IfOk};
+ghost use Rattle.std.specs.Option.{option_copied};
+ghost use Rattle.std.specs.FinMap as map;
+ghost use Rattle.hub_view.specs.Json as json;
+ghost use Rattle.hub_view.specs.Body.{body_tokens};
+ghost use Rattle.hub_machine.specs.Answers.{answer_view};
+ghost use Rattle.hub_calls.specs.Calling.{after_rows};
+ghost use Rattle.hub_calls.specs.Facts.{user_at};
+ghost use Rattle.hub_calls.specs.Puts.{PutsUser, user_put, with_put_user, bodies_put};
+ghost use Rattle.hub_calls.specs.Rights.{may_of};
+ghost use Rattle.hub_calls.specs.Users as spec;
+
+use crate::bodies::{allows, facts_of, names_are_own, show_user, user_at, user_body};
+use crate::facts::roles_of_service;
+use crate::ruled::{carried, refused};
+use admin_rules::users;
+use hub_kit::moment::Moment;
+use hub_kit::names::{ServerKey, ServiceName, UserName};
+use hub_machine::answer::{Answer, gives, plain, rows_then};
+use hub_machine::machine::Machine;
+use hub_rows::changes::RowChange;
+use hub_rows::records::{Token, User};
+use hub_view::{Body, Listing, Page, add_member, line, service_identity, user_identity};
+use scope_filters::grant::Grant;
+use scope_filters::holder::Owner;
+use scope_filters::object::Object;
+use scope_names::action::Action;
+use std::alloc::{AllocError, Global};
+
+/// `GET /`: the version of JupyterHub whose API this is.
+pub fn get_version(alloc: Global) -> Result<Answer, AllocError>
+    ensures { IfOk result (λ answer. answer_view answer ≡ spec.get_version) }
+{
+    let mut fields = Vec::new(alloc);
+    add_member(alloc, &mut fields, true, "version", line(alloc, "5.0.0")?)?;
+    Ok(gives(200, Body::Pairs(fields)))
+}
+
+/// The user that the first row puts, if it does.
+fn user_put(rows: &[RowChange]) -> Option<&User>
+    ensures { option_copied result ≡ user_put rows.now }
+{
+    match rows {
+        [RowChange::PutUser(user), ..] => Some(user),
+        _ => None,
+    }
+}
+
+/// `GET /info`
+pub fn get_info(alloc: Global, hub: &Machine) -> Result<Answer, AllocError>
+    ensures { IfOk result (λ answer. answer_view answer ≡ spec.get_info hub.now) }
+{
+    let mut fields = Vec::new(alloc);
+    let leases = Body::Number(hub.lives().len());
+    let pool = Body::Number(hub.pool().len() as u64);
+    add_member(alloc, &mut fields, true, "leases", leases)?;
+    add_member(alloc, &mut fields, true, "pool", pool)?;
+    add_member(alloc, &mut fields, true, "version", line(alloc, "5.0.0")?)?;
+    Ok(gives(200, Body::Pairs(fields)))
+}
+
+fn identity_of_user(
+    alloc: Global,
+    hub: &Machine,
+    rights: &Grant,
+    token: &Token,
+    server: &Option<ServerKey>,
+    user: &UserName,
+) -> Result<Body, AllocError>
+    ensures { IfOk result (λ body. body_tokens body ≡ spec.identity_of_user (may_of hub.now rights.now) hub.now token.now server.now (map.get hub.now.tables.users user.now)) }
+{
+    match hub.tables().user(user) {
+        None => Ok(Body::Null),
+        Some(user) => {
+            let facts = facts_of(alloc, hub, user)?;
+            let scopes = token.scopes.as_slice();
+            user_identity(alloc, hub.tables(), rights, &facts, scopes, server)
+        }
+    }
+}
+
+fn identity_of_service(
+    alloc: Global,
+    hub: &Machine,
+    rights: &Grant,
+    token: &Token,
+    server: &Option<ServerKey>,
+    service: &ServiceName,
+) -> Result<Body, AllocError>
+    ensures { IfOk result (λ body. body_tokens body ≡ spec.identity_of_service (may_of hub.now rights.now) hub.now token.now server.now service.now) }
+{
+    let roles = roles_of_service(alloc, hub.tables(), service)?;
+    service_identity(
+        alloc,
+        hub.tables(),
+        rights,
+        service,
+        roles.as_slice(),
+        token.scopes.as_slice(),
+        server,
+    )
+}
+
+/// `GET /user`: the token's owner.
+pub fn get_identity(
+    alloc: Global,
+    hub: &Machine,
+    rights: &Grant,
+    token: &Token,
+    server: &Option<ServerKey>,
+) -> Result<Answer, AllocError>
+    ensures { IfOk result (λ answer. answer_view answer ≡ spec.get_identity hub.now (may_of hub.now rights.now) token.now server.now) }
+{
+    let body = match &token.owner {
+        Owner::User(user) => identity_of_user(alloc, hub, rights, token, server, user)?,
+        Owner::Service(service) => {
+            identity_of_service(alloc, hub, rights, token, server, service)?
+        }
+    };
+    Ok(gives(200, body))
+}
+
+/// `GET /users`: those that the caller may list.
+pub fn get_users(
+    alloc: Global,
+    hub: &Machine,
+    rights: &Grant,
+    page: Page,
+) -> Result<Answer, AllocError>
+    ensures { IfOk result (λ answer. answer_view answer ≡ spec.get_users hub.now (may_of hub.now rights.now) page) }
+{
+    let mut list = Listing::new(alloc, page);
+    for user in hub.tables().users() {
+        let object = Object::User(user.name);
+        if allows(hub, rights, Action::ListUsers, &object) {
+            show_user(alloc, hub, rights, &mut list, user)?;
+        }
+    }
+    Ok(gives(200, list.into_body(alloc, "/users")?))
+}
+
+/// `GET /users/{u}`
+pub fn get_user(
+    alloc: Global,
+    hub: &Machine,
+    rights: &Grant,
+    user: &UserName,
+) -> Result<Answer, AllocError>
+    ensures { IfOk result (λ answer. answer_view answer ≡ spec.get_user hub.now (may_of hub.now rights.now) user.now) }
+{
+    Ok(gives(200, user_at(alloc, hub, rights, user)?))
+}
+
+/// The bodies of the users that the rows put.
+fn bodies_put(
+    alloc: Global,
+    hub: &Machine,
+    rights: &Grant,
+    rows: &[RowChange],
+) -> Result<Body, AllocError>
+    ensures { IfOk result (λ body. body_tokens body ≡ json.items (bodies_put (may_of hub.now rights.now) hub.now rows.now)) }
+{
+    let mut bodies = Vec::new(alloc);
+    for row in rows {
+        if let RowChange::PutUser(user) = row {
+            bodies.push(user_body(alloc, hub, rights, user)?)?;
+        }
+    }
+    Ok(Body::Items(bodies))
+}
+
+/// `POST /users`: the names that aren't kept are put, and shown in the order given.
+pub fn post_users(
+    alloc: Global,
+    hub: &Machine,
+    rights: &Grant,
+    now: Moment,
+    names: &[UserName],
+    admin: bool,
+) -> Result<Answer, AllocError>
+    ensures { IfOk result (λ answer. answer_view answer ≡ spec.post_users hub.now (may_of hub.now rights.now) now names.now admin) }
+{
+    match users::add_users(alloc, hub.tables(), names, admin, now) {
+        Ok(rows) => {
+            let body = bodies_put(alloc, hub, rights, rows.as_slice())?;
+            Ok(rows_then(rows, plain(201, body)))
+        }
+        Err(refusal) => refused(alloc, refusal),
+    }
+}
+
+/// The body of a user that is put, or else of the kept one.
+fn put_or_kept(
+    alloc: Global,
+    hub: &Machine,
+    rights: &Grant,
+    user: &UserName,
+    put: Option<&User>,
+) -> Result<Body, AllocError>
+    ensures { IfOk result (λ body. body_tokens body ≡ with_put_user (may_of hub.now rights.now) hub.now user.now (option_copied put.entry)) }
+{
+    match put {
+        Some(row) => user_body(alloc, hub, rights, row),
+        None => user_at(alloc, hub, rights, user),
+    }
+}
+
+/// The user as the rows leave it, as the rights before them show it. The rows put that user or nothing.
+fn user_after(
+    alloc: Global,
+    hub: &Machine,
+    rights: &Grant,
+    user: &UserName,
+    rows: &[RowChange],
+) -> Result<Body, AllocError>
+    requires { PutsUser user.now rows.now }
+    ensures { IfOk result (λ body. body_tokens body ≡ user_at (may_of hub.now rights.now) (after_rows rows.now hub.now) user.now) }
+{
+    put_or_kept(alloc, hub, rights, user, user_put(rows))
+}
+
+/// `POST /users/{u}`
+pub fn post_user(
+    alloc: Global,
+    hub: &Machine,
+    rights: &Grant,
+    now: Moment,
+    user: &UserName,
+) -> Result<Answer, AllocError>
+    ensures { IfOk result (λ answer. answer_view answer ≡ spec.post_user hub.now (may_of hub.now rights.now) now user.now) }
+{
+    match users::add_users(alloc, hub.tables(), &[*user], false, now) {
+        Ok(rows) => {
+            let body = user_after(alloc, hub, rights, user, rows.as_slice())?;
+            Ok(rows_then(rows, plain(201, body)))
+        }
+        Err(refusal) => refused(alloc, refusal),
+    }
+}
+
+/// `PATCH /users/{u}`
+pub fn patch_user(
+    alloc: Global,
+    hub: &Machine,
+    rights: &Grant,
+    user: &UserName,
+    admin: bool,
+) -> Result<Answer, AllocError>
+    ensures { IfOk result (λ answer. answer_view answer ≡ spec.patch_user hub.now (may_of hub.now rights.now) user.now admin) }
+{
+    let tables = hub.tables();
+    names_are_own(tables);
+    match users::set_admin(alloc, tables, user, admin) {
+        Ok(rows) => {
+            let body = user_after(alloc, hub, rights, user, rows.as_slice())?;
+            Ok(rows_then(rows, plain(200, body)))
+        }
+        Err(refusal) => refused(alloc, refusal),
+    }
+}
+
+/// `DELETE /users/{u}`
+pub fn delete_user(alloc: Global, hub: &Machine, user: &UserName) -> Result<Answer, AllocError>
+    ensures { IfOk result (λ answer. answer_view answer ≡ spec.delete_user hub.now user.now) }
+{
+    let live = hub.lives().has_live_server(user);
+    carried(alloc, users::delete_user(alloc, hub.tables(), user, live))
+}

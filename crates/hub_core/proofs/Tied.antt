@@ -1,0 +1,104 @@
+-- A visit keeps a book's history and its state together.
+use Rattle.std.proofs.Common.{◌≡◌, ℕ, ◌+◌, List, [], ◌∷◌, ◌++◌, length, Option, refl, sym, ◌∙◌, ap, subst, ◌⊎◌, inl, inr, length-append, arith}
+use Rattle.std.specs.Prelude.{Some, None, Result, Ok, Err}
+use Rattle.hub_machine.specs.State.{Hub}
+use Rattle.hub_machine.specs.Apply.{apply}
+use Rattle.hub_machine.specs.Replies.{Answer}
+use Rattle.hub_core.specs.History.{Answers, IsEntry, IsLegal, state_after, change_of}
+use Rattle.hub_core.specs.Visits.{Follows, IsTied, Carried, Did, Undid, noted, told_after, long_after}
+use Rattle.hub_machine.specs.declared.call.Asked.{Asked}
+use Rattle.hub_machine.specs.declared.change.Change.{Change}
+use Rattle.hub_machine.specs.declared.change.Change.TheVariants.{Rows}
+use Rattle.hub_machine.specs.declared.reply.Reply.{Reply}
+
+same_some : (x y : List Change) → Some x ≡ Some y → x ≡ y
+same_some x y h = cc
+
+none_some : (y : List Change) → None ≡ Some y → ⊥
+none_some y h = cc
+
+legal_more : (s : Hub) (h : List Change) (c : Change) → IsLegal s h → IsEntry (state_after s h) c → IsLegal s (h ++ c ∷ [])
+legal_more s [] c legal entry = (entry, tt)
+legal_more s (d ∷ h) c legal entry = (legal.0, legal_more (apply d s) h c legal.1 entry)
+
+state_more : (s : Hub) (h : List Change) (c : Change) → state_after s (h ++ c ∷ []) ≡ apply c (state_after s h)
+state_more s [] c = refl
+state_more s (d ∷ h) c = state_more (apply d s) h c
+
+follows_more : (s t : Hub) (h : List Change) (c : Change) → Follows s t h → IsEntry t c → Follows s (apply c t) (h ++ c ∷ [])
+follows_more s t h c f e = record {
+  legal = let P : Hub → Type 0 = λ x. IsEntry x c in legal_more s h c f.legal (subst P f.state e);
+  state = ap (apply c) f.state ∙ sym (state_more s h c);
+}
+
+longer : (c : Change) (s : Hub) → (apply c s).length ≡ s.length + 1
+longer (Rows rows) s = refl
+
+not_none : (n : ℕ) → n + 1 ≡ 0 → ⊥
+not_none n e = omega arith
+
+tied_more : (start s : Hub) (told : Option (List Change)) (long : ℕ) (c : Change) → IsEntry s c → IsTied start s told long
+    → IsTied start (apply c s) (told_after (Some c) told) (long + 1)
+tied_more start s None long c entry t = record {
+  followed = λ h e. absurd (none_some h e);
+  longer = longer c s ∙ ap (λ n. n + 1) t.longer;
+  fresh = λ e. absurd (not_none _ (sym (longer c s) ∙ e));
+  counted = λ h e. absurd (none_some h e);
+}
+tied_more start s (Some h0) long c entry t = record {
+  followed = λ h e.
+      let P : List Change → Type 0 = λ x. Follows start (apply c s) x in
+      subst P (same_some _ _ e) (follows_more start s h0 c (t.followed h0 refl) entry);
+  longer = longer c s ∙ ap (λ n. n + 1) t.longer;
+  fresh = λ e. absurd (not_none _ (sym (longer c s) ∙ e));
+  counted = λ h e. longer c s ∙ ap (λ n. n + 1) (t.counted h0 refl) ∙ sym (length-append h0 (c ∷ [])) ∙ ap length (same_some _ _ e);
+}
+
+tied_after : (start s : Hub) (told : Option (List Change)) (long : ℕ) (ch : Option Change) → ((c : Change) → ch ≡ Some c → IsEntry s c)
+    → IsTied start s told long → IsTied start (noted ch s) (told_after ch told) (long_after ch long)
+tied_after start s told long None entry t = t
+tied_after start s told long (Some c) entry t = tied_more start s told long c (entry c refl) t
+
+moved : (start s s' : Hub) (told told' : Option (List Change)) (long long' : ℕ) → s' ≡ s → told' ≡ told → long' ≡ long
+    → IsTied start s told long → IsTied start s' told' long'
+moved start s s' told told' long long' hub telling same t =
+    let P : Hub → Type 0 = λ x. IsTied start x told long in
+    let Q : Option (List Change) → Type 0 = λ x. IsTied start s' x long in
+    let R : ℕ → Type 0 = λ x. IsTied start s' told' x in
+    subst R (sym same) (subst Q (sym telling) (subst P (sym hub) t))
+
+pub tied_carried : (start s s' : Hub) (told told' : Option (List Change)) (long long' : ℕ) (now : ℕ) (draw : Option (List ℕ)) (asked : Asked) (a : Answer) (reply : Reply) (before after : ℕ)
+    → Answers s now draw asked a → IsTied start s told long
+    → Did a reply s s' told told' long long' ⊎ Undid a reply before after s s' told told' long long'
+    → IsTied start s' told' long'
+tied_carried start s s' told told' long long' now draw asked a reply before after answers t carried =
+    elim carried as (λ _. IsTied start s' told' long') [
+      | inl d ↦ moved start (noted (change_of a) s) s' (told_after (change_of a) told) told' (long_after (change_of a) long) long' d.hub d.telling d.longer
+          (tied_after start s told long (change_of a) (λ c e. record { now = now; draw = draw; asked = asked; answer = a; answers = answers; change = e }) t)
+      | inr u ↦ moved start s s' told told' long long' u.stays.hub u.stays.telling u.stays.longer t
+    ]
+
+-- whatever it answered
+pub tied_after_carry : {E : Type 0} (start s s' : Hub) (told told' : Option (List Change)) (long long' : ℕ) (now : ℕ) (draw : Option (List ℕ)) (asked : Asked) (a : Answer) (r : Result Reply E) (before after : ℕ)
+    → Answers s now draw asked a → IsTied start s told long → Carried a r before after s s' told told' long long' → IsTied start s' told' long'
+tied_after_carry start s s' told told' long long' now draw asked a (Ok reply) before after answers t carried =
+    tied_carried start s s' told told' long long' now draw asked a reply before after answers t carried
+tied_after_carry start s s' told told' long long' now draw asked a (Err e) before after answers t carried =
+    moved start s s' told told' long long' carried.hub carried.telling carried.longer t
+
+-- ---- at opening
+
+none_more : (h : List Change) → length h ≡ 0 → h ≡ []
+none_more [] e = refl
+none_more (c ∷ h) e = absurd (omega (arith, e))
+
+pub tied_opening : (start hub : Hub) (told : Option (List Change)) (long : ℕ) → start ≡ hub → hub.length ≡ 0 → long ≡ 0 → ((h : List Change) → told ≡ Some h → length h ≡ long)
+    → IsTied start hub told long
+tied_opening start hub told long same fresh none counted = record {
+  followed = λ h e.
+      let P : List Change → Type 0 = λ x. Follows start hub x in
+      subst P (sym (none_more h (counted h e ∙ none))) (record { legal = tt; state = sym same });
+  longer = fresh ∙ sym none;
+  fresh = λ _. sym same;
+  counted = λ h e. fresh ∙ sym none ∙ sym (counted h e);
+}

@@ -1,0 +1,14 @@
+use Rattle.std.proofs.Common.{◌∙◌, ap, ◌≡◌}
+use Rattle.hub_machine.specs.State.{Hub}
+use Rattle.hub_core.proofs.Looking.{current_empty}
+use Rattle.hub_core.proofs.Opened.{owed_spare}
+use Rattle.hub_core.proofs.Tied.{tied_opening}
+use Rattle.hub_core.proofs.book.Book.open.Goals as goal
+
+pub invariant_of-result : goal.invariant_of-result
+invariant_of-result g c = (
+  tied_opening c.of-start.result.value c.in-Ok-open_machine.machine (g.T.Trail.told c.args.trail) (g.T.Trail.long c.args.trail)
+      c.of-start.ensures (ap (λ (hub : Hub). hub.length) c.in-Ok-open_machine.ensures.ok.hub) c.requires.empty (g.met.T.Trail.counted c.args.trail),
+  current_empty c.in-Ok.rights c.in-Ok-open_machine.machine 1024 c.in-Ok.ensures,
+  owed_spare c.in-Ok-open_machine.machine.lives (g.T.Trail.spare c.args.trail) (ap (λ (hub : Hub). hub.lives) c.in-Ok-open_machine.ensures.ok.hub),
+)

@@ -1,0 +1,6 @@
+use Rattle.std.proofs.Common.{◌≡◌, drop, take}
+use Rattle.hub_core.specs.Opening as spec
+use Rattle.hub_core.proofs.opening.copy_targets.Given as goal
+
+abbrev pub invariant-loop-target : goal.invariant-loop-target
+invariant-loop-target l = l.copies.items ≡ take l.target-index l.targets

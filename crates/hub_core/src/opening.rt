@@ -1,0 +1,342 @@
+//! The state that a book begins with, and the keeper's rows then.
+ghost use Rattle.std.specs.Prelude.{◌≡◌, ◌≤◌, ◌^◌, ◌++◌, map, IfOk, IfErr, OnOk, None};
+ghost use Rattle.std.specs.Option.{option_copied};
+ghost use Rattle.std.specs.FinMap as finite;
+ghost use Rattle.keeper.specs.Rows.{AreSame, after_items, no_rows};
+ghost use Rattle.hub_machine.specs.Batches as batches;
+ghost use Rattle.hub_rows.specs.declared.changes.RowChange.TheVariants as To;
+ghost use Rattle.hub_tables.specs.Hashes.{FitsToken};
+ghost use Rattle.hub_core.specs.Opening as spec;
+
+use crate::config::{ConfigToken, ConfigUser, HubConfig};
+use crate::open_error::OpenError;
+use hub_kit::hashes::hash_of;
+use hub_kit::list::List;
+use hub_kit::moment::Moment;
+use hub_kit::target::Target;
+use hub_kit::text::Text;
+use hub_machine::batch::batch_of;
+use hub_machine::machine::Machine;
+use hub_rows::changes::RowChange;
+use hub_rows::records::{Next, Token, User};
+use hub_tables::tables::Tables;
+use keeper::keeper::{Keeper, KeeperError, Row};
+use scope_filters::holder::Owner;
+use scope_filters::scope::RawScope;
+use scope_names::table::ScopeTable;
+use std::alloc::{AllocError, Global};
+
+fn refusal_of(error: KeeperError) -> OpenError
+    ensures { result ≡ spec.refusal_of error }
+{
+    match error {
+        KeeperError::Failed => OpenError::KeeperFault,
+        KeeperError::Memory => OpenError::Memory,
+    }
+}
+
+/// No kept row reads yet: the first of them is refused.
+fn none_read(rows: Vec<Row>) -> Result<(), OpenError>
+    ensures { result ≡ spec.none_read rows.items }
+{
+    match rows.into_iter().next() {
+        Some(row) => Err(OpenError::BadRow {
+            kind: row.kind,
+            key: row.key,
+        }),
+        None => Ok(()),
+    }
+}
+
+/// Reads what the keeper has.
+fn read_rows<K: Keeper>(keeper: &mut K) -> Result<(), OpenError>
+    ensures ok { OnOk result (K.Tells keeper.new → AreSame (K.rows keeper.old) no_rows) }
+    ensures err { IfErr result (spec.IsUnread (K.Tells keeper.new) (K.rows keeper.old) (K.faults keeper.old) (K.faults keeper.new)) }
+    ensures kept { K.Tells keeper.new → K.Tells keeper.old × AreSame (K.rows keeper.new) (K.rows keeper.old) }
+    ensures counted { K.faults keeper.old ≤ K.faults keeper.new }
+{
+    match keeper.load() {
+        Ok(rows) => none_read(rows),
+        Err(error) => Err(refusal_of(error)),
+    }
+}
+
+// ---- the rows of the configuration
+
+/// The row of a configured user, in place of the kept one, if there is one.
+fn user_row(kept: Option<&User>, user: &ConfigUser, now: Moment) -> User
+    ensures { result ≡ spec.user_row now user.now (option_copied kept.entry) }
+{
+    match kept {
+        Some(kept) => User {
+            name: user.name,
+            admin: kept.admin || user.admin,
+            created: kept.created,
+            last_activity: kept.last_activity,
+        },
+        None => User {
+            name: user.name,
+            admin: user.admin,
+            created: now,
+            last_activity: None,
+        },
+    }
+}
+
+fn put_user(tables: &mut Tables, user: &ConfigUser, now: Moment) -> Result<(), AllocError>
+    ensures { OnOk result (tables.new ≡ spec.with_user now user.now tables.old) }
+{
+    let row = user_row(tables.user(&user.name), user, now);
+    tables.set_user(row)
+}
+
+fn put_users(tables: &mut Tables, users: &[ConfigUser], now: Moment) -> Result<(), AllocError>
+    ensures { OnOk result (tables.new ≡ spec.with_users now users.now tables.old) }
+{
+    for user in users {
+        put_user(tables, user, now)?;
+    }
+    Ok(())
+}
+
+fn has_owner(tables: &Tables, owner: &Owner) -> bool
+    ensures { result ≡ spec.has_owner tables.now owner.now }
+{
+    match owner {
+        Owner::User(user) => tables.user(user).is_some(),
+        Owner::Service(service) => tables.service(service).is_some(),
+    }
+}
+
+/// The number of the next token.
+fn next_token(tables: &Tables, name: &Text) -> u64
+    ensures { result ≡ spec.next_in (finite.get tables.now.nexts name.now) }
+{
+    match tables.next_of(name) {
+        Some(row) => row.next,
+        None => 1,
+    }
+}
+
+fn copy_scopes(alloc: Global, scopes: &List<RawScope>) -> Result<List<RawScope>, AllocError>
+    ensures { IfOk result (λ copy. copy ≡ scopes.now) }
+{
+    let copy = Vec::from_slice(alloc, scopes.as_slice())?;
+    Ok(List::from_vec(copy))
+}
+
+/// The row of a configured token, under a number.
+fn token_row(
+    alloc: Global,
+    id: u64,
+    now: Moment,
+    hash: Text,
+    token: &ConfigToken,
+) -> Result<Token, AllocError>
+    ensures { IfOk result (λ row. row ≡ spec.row_of_hash id now hash token.now) }
+{
+    Ok(Token {
+        id,
+        client: None,
+        created: now,
+        expires_at: token.expires_at,
+        hash,
+        issued_for: None,
+        note: Text::new(alloc),
+        owner: token.owner,
+        scopes: copy_scopes(alloc, &token.scopes)?,
+    })
+}
+
+/// Adds a token whose number, hash and owner were found to fit.
+fn add_token(tables: &mut Tables, token: Token, next: Next) -> Result<(), AllocError>
+    requires { FitsToken tables.old.tokens token }
+    ensures { OnOk result (tables.new ≡ spec.both_put token next tables.old) }
+{
+    tables.set_token(token)?;
+    tables.set_next(next)
+}
+
+fn put_token(
+    alloc: Global,
+    tables: &mut Tables,
+    token: &ConfigToken,
+    now: Moment,
+) -> Result<(), AllocError>
+    ensures { OnOk result (tables.new ≡ spec.with_token now token.now tables.old) }
+{
+    let name = Text::from_str(alloc, "token")?;
+    let hash = hash_of(alloc, token.text.as_bytes())?;
+    let id = next_token(tables, &name);
+    if !tables.token_is_new(id, &hash) || !has_owner(tables, &token.owner) {
+        return Ok(());
+    }
+    let Some(next) = id.checked_add(1) else {
+        return Err(AllocError);
+    };
+    let row = token_row(alloc, id, now, hash, token)?;
+    add_token(tables, row, Next { name, next })
+}
+
+fn put_tokens(
+    alloc: Global,
+    tables: &mut Tables,
+    tokens: &[ConfigToken],
+    now: Moment,
+) -> Result<(), AllocError>
+    ensures { OnOk result (tables.new ≡ spec.with_tokens now tokens.now tables.old) }
+{
+    for token in tokens {
+        put_token(alloc, tables, token, now)?;
+    }
+    Ok(())
+}
+
+/// The tables with the rows of the configuration alone.
+fn tables_of(alloc: Global, config: &HubConfig, now: Moment) -> Result<Tables, AllocError>
+    ensures { IfOk result (λ tables. tables ≡ spec.opened_tables config.now now) }
+{
+    // No rows always make a table, so that memory alone may be wanting.
+    let Ok(scopes) = ScopeTable::new(alloc, &[]) else {
+        return Err(AllocError);
+    };
+    let mut tables = Tables::new(alloc, config.limits, scopes);
+    put_users(&mut tables, config.users.as_slice(), now)?;
+    put_tokens(alloc, &mut tables, config.tokens.as_slice(), now)?;
+    Ok(tables)
+}
+
+/// The first kind that has more rows than its limit, and this limit.
+fn first_full(tables: &Tables) -> Option<(u8, u32)>
+    ensures { result ≡ spec.first_full tables.now }
+{
+    let limits = tables.limits();
+    if (limits.users as usize) < tables.count_of_users() {
+        return Some((1, limits.users));
+    }
+    if (limits.tokens as usize) < tables.count_of_tokens() {
+        return Some((5, limits.tokens));
+    }
+    None
+}
+
+fn copy_targets(alloc: Global, targets: &[Target]) -> Result<List<Target>, AllocError>
+    ensures { IfOk result (λ copy. copy ≡ targets.now) }
+{
+    let mut copies = Vec::new(alloc);
+    for target in targets {
+        copies.push(target.copy(alloc)?)?;
+    }
+    Ok(List::from_vec(copies))
+}
+
+fn copy_target(alloc: Global, target: &Option<Target>) -> Result<Option<Target>, AllocError>
+    ensures { IfOk result (λ copy. copy ≡ target.now) }
+{
+    match target {
+        Some(target) => Ok(Some(target.copy(alloc)?)),
+        None => Ok(None),
+    }
+}
+
+/// The state of the configuration.
+fn machine_of(alloc: Global, config: &HubConfig, now: Moment) -> Result<Machine, OpenError>
+    requires { config.now.limits.trail_bytes ≤ 2 ^ 62 }
+    ensures { spec.IsMade config.now now result }
+{
+    let Ok(tables) = tables_of(alloc, config, now) else {
+        return Err(OpenError::Memory);
+    };
+    if let Some((kind, limit)) = first_full(&tables) {
+        return Err(OpenError::Full { kind, limit });
+    }
+    let Ok(pool) = copy_targets(alloc, config.pool.as_slice()) else {
+        return Err(OpenError::Memory);
+    };
+    let Ok(hub_url) = copy_target(alloc, &config.hub_url) else {
+        return Err(OpenError::Memory);
+    };
+    Ok(Machine::opening(alloc, tables, pool, hub_url, config.no_trail))
+}
+
+// ---- the keeper's rows
+
+fn push_users(rows: &mut Vec<RowChange>, tables: &Tables) -> Result<(), AllocError>
+    ensures { OnOk result (rows.new.items ≡ rows.old.items ++ map To.PutUser (finite.values tables.now.users)) }
+{
+    for row in tables.users() {
+        rows.push(RowChange::PutUser(*row))?;
+    }
+    Ok(())
+}
+
+fn push_tokens(alloc: Global, rows: &mut Vec<RowChange>, tables: &Tables) -> Result<(), AllocError>
+    ensures { OnOk result (rows.new.items ≡ rows.old.items ++ map To.PutToken (finite.values tables.now.tokens)) }
+{
+    for row in tables.tokens() {
+        rows.push(RowChange::PutToken(row.copy(alloc)?))?;
+    }
+    Ok(())
+}
+
+fn push_nexts(alloc: Global, rows: &mut Vec<RowChange>, tables: &Tables) -> Result<(), AllocError>
+    ensures { OnOk result (rows.new.items ≡ rows.old.items ++ map To.PutNext (finite.values tables.now.nexts)) }
+{
+    for row in tables.nexts() {
+        rows.push(RowChange::PutNext(row.copy(alloc)?))?;
+    }
+    Ok(())
+}
+
+/// The rows of tables that have users, tokens and their next number alone.
+fn rows_in(alloc: Global, tables: &Tables) -> Result<Vec<RowChange>, AllocError>
+    ensures { IfOk result (λ rows. rows.items ≡ spec.rows_in tables.now) }
+{
+    let mut rows = Vec::new(alloc);
+    push_users(&mut rows, tables)?;
+    push_tokens(alloc, &mut rows, tables)?;
+    push_nexts(alloc, &mut rows, tables)?;
+    Ok(rows)
+}
+
+/// Has the keeper keep these rows, in one commit.
+fn commit<K: Keeper>(alloc: Global, keeper: &mut K, rows: &[RowChange]) -> Result<(), OpenError>
+    ensures ok { OnOk result (K.Tells keeper.new → AreSame (K.rows keeper.new) (after_items (batches.batch_of rows.now) (K.rows keeper.old))) }
+    ensures err { IfErr result (spec.IsUnkept (K.faults keeper.old) (K.faults keeper.new)) }
+    ensures told { K.Tells keeper.new → K.Tells keeper.old }
+    ensures counted { K.faults keeper.old ≤ K.faults keeper.new }
+{
+    if rows.is_empty() {
+        return Ok(());
+    }
+    let Ok(batch) = batch_of(alloc, rows) else {
+        return Err(OpenError::Memory);
+    };
+    match keeper.commit(&batch) {
+        Ok(()) => Ok(()),
+        Err(error) => Err(refusal_of(error)),
+    }
+}
+
+/// The state of the configuration, whose rows the keeper keeps from now on.
+pub fn open_machine<K: Keeper>(
+    alloc: Global,
+    keeper: &mut K,
+    config: &HubConfig,
+    now: Moment,
+) -> Result<Machine, OpenError>
+    requires { config.now.limits.trail_bytes ≤ 2 ^ 62 }
+    ensures ok { IfOk result (λ hub. spec.IsSetUp config.now now hub) }
+    ensures err { IfErr result (spec.IsRefused config.now now (K.Tells keeper.new) (K.rows keeper.old) (K.faults keeper.old) (K.faults keeper.new)) }
+    ensures none { OnOk result (K.Tells keeper.new → AreSame (K.rows keeper.old) no_rows) }
+    ensures kept { OnOk result (K.Tells keeper.new → AreSame (K.rows keeper.new) (after_items (batches.batch_of (spec.rows_in (spec.opened_tables config.now now))) no_rows)) }
+    ensures counted { K.faults keeper.old ≤ K.faults keeper.new }
+{
+    read_rows(keeper)?;
+    let machine = machine_of(alloc, config, now)?;
+    let Ok(rows) = rows_in(alloc, machine.tables()) else {
+        return Err(OpenError::Memory);
+    };
+    commit(alloc, keeper, rows.as_slice())?;
+    Ok(machine)
+}

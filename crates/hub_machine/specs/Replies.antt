@@ -1,0 +1,107 @@
+-- What is answered, and how a reply says it.
+use Rattle.std.specs.Prelude.{ℕ, Bool, false, if◌then◌else◌, List, [], ◌∷◌, ◌++◌, decimal, codes, Option, Some, None}
+use Rattle.scope_names.specs.Actions.{text_of}
+use Rattle.hub_view.specs.Json.{Json, message_body}
+use Rattle.hub_rows.specs.declared.changes.RowChange.{RowChange}
+use Rattle.hub_machine.specs.declared.change.Change.{Change}
+use Rattle.hub_machine.specs.declared.change.Change.TheVariants.{Rows}
+use Rattle.hub_machine.specs.declared.refusal.Refusal.{Refusal}
+use Rattle.hub_machine.specs.declared.refusal.Refusal.TheVariants.{SeenPast, NoValidToken, Needs, NotFound, Rule, Exists, Full, TrailFull, KeeperFault}
+
+abbrev pub status_of : Refusal → ℕ
+status_of (SeenPast seen length) = 412
+status_of NoValidToken = 403
+status_of (Needs action) = 403
+status_of NotFound = 404
+status_of (Rule text) = 400
+status_of (Exists key) = 409
+status_of (Full kind limit) = 500
+status_of TrailFull = 500
+status_of KeeperFault = 503
+
+abbrev pub seen_message : (seen length : ℕ) → List ℕ
+seen_message seen length = codes "seen " ++ (decimal seen ++ (codes ", revision " ++ decimal length))
+
+abbrev pub full_message : (kind limit : ℕ) → List ℕ
+full_message kind limit = codes "full: " ++ (decimal kind ++ (codes " " ++ decimal limit))
+
+abbrev pub message_of : Refusal → List ℕ
+message_of (SeenPast seen length) = seen_message seen length
+message_of NoValidToken = codes "no valid token"
+message_of (Needs action) = codes "needs " ++ text_of action
+message_of NotFound = codes "not found"
+message_of (Rule text) = text
+message_of (Exists key) = codes "exists: " ++ key
+message_of (Full kind limit) = full_message kind limit
+message_of TrailFull = codes "trail full"
+message_of KeeperFault = codes "keeper"
+
+abbrev pub refusal_body : Refusal → Json
+refusal_body r = message_body (status_of r) (message_of r)
+
+-- the Ok of a call
+pub record Good : Type 0 where
+  pub status : ℕ
+  pub body : Json
+  pub location : Option (List ℕ)
+  pub no_store : Bool
+
+abbrev pub good : ℕ → Json → Good
+good status body = record { status = status; body = body; location = None; no_store = false }
+
+pub data Answer : Type 0 where
+  refuses : Refusal → Answer
+  gives : Good → Answer
+  changes : Change → Good → Answer
+
+-- the Ok of a change of these rows; no rows are no change
+abbrev pub rows_then : List RowChange → Good → Answer
+rows_then [] g = gives g
+rows_then (r ∷ rest) g = changes (Rows (r ∷ rest)) g
+
+-- the first rule that refuses
+abbrev pub first_refusal : List (Option Refusal) → Option Refusal
+first_refusal [] = None
+first_refusal (None ∷ rest) = first_refusal rest
+first_refusal (Some r ∷ rest) = Some r
+
+abbrev pub or_refusal : Answer → Option Refusal → Answer
+or_refusal answer None = answer
+or_refusal answer (Some r) = refuses r
+
+-- what the first rule that refuses answers, or what comes where none does
+abbrev pub rules : List (Option Refusal) → Answer → Answer
+rules refusals answer = or_refusal answer (first_refusal refusals)
+
+abbrev pub if_so : Bool → Refusal → Option Refusal
+if_so b r = if b then Some r else None
+
+-- ---- replies, with their body as tokens
+
+pub record Reply : Type 0 where
+  pub status : ℕ
+  pub body : Json
+  pub location : Option (List ℕ)
+  pub no_store : Bool
+  pub revision : Option ℕ
+
+abbrev pub refusal_reply : ℕ → Refusal → Reply
+refusal_reply revision r =
+    record { status = status_of r; body = refusal_body r; location = None; no_store = false; revision = Some revision }
+
+abbrev pub good_reply : ℕ → Good → Reply
+good_reply revision g =
+    record { status = g.status; body = g.body; location = g.location; no_store = g.no_store; revision = Some revision }
+
+-- the reply that says an answer, at a length of the history
+abbrev pub reply_of : ℕ → Answer → Reply
+reply_of revision (refuses r) = refusal_reply revision r
+reply_of revision (gives g) = good_reply revision g
+reply_of revision (changes c g) = good_reply revision g
+
+pub data Outcome : Type 0 where
+  answered : Reply → Outcome
+
+-- the outcome of an answer, at the length of the history after its change
+abbrev pub outcome_of : ℕ → Answer → Outcome
+outcome_of revision answer = answered (reply_of revision answer)

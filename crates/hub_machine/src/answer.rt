@@ -1,0 +1,91 @@
+//! Answers, before they are carried out.
+ghost use Rattle.std.specs.Prelude.{◌≡◌, IfOk};
+ghost use Rattle.hub_view.specs.Body.{body_tokens};
+ghost use Rattle.hub_machine.specs.Answers.{answer_view, good_view, reply_view};
+ghost use Rattle.hub_machine.specs.Replies as spec;
+
+use crate::change::Change;
+use crate::refusal::Refusal;
+use crate::reply::Reply;
+use hub_kit::list::List;
+use hub_kit::text::Text;
+use hub_rows::changes::RowChange;
+use hub_view::Body;
+use std::alloc::{AllocError, Global};
+
+/// The Ok of a call.
+#[derive(Drop)]
+pub struct Good {
+    pub status: u16,
+    pub body: Body,
+    pub location: Option<Text>,
+    pub no_store: bool,
+}
+
+/// What the rules say of an asked call. The good of a change shows the state after it.
+#[derive(Drop)]
+pub enum Answer {
+    Refuses(Refusal),
+    Gives(Good),
+    Changes { change: Change, good: Good },
+}
+
+/// The Ok with this status and body, and nothing else.
+pub fn plain(status: u16, body: Body) -> Good
+    ensures { good_view result ≡ spec.good status (body_tokens body) }
+{
+    Good {
+        status,
+        body,
+        location: None,
+        no_store: false,
+    }
+}
+
+/// The answer of a call that changes nothing.
+pub fn gives(status: u16, body: Body) -> Answer
+    ensures { answer_view result ≡ spec.gives (spec.good status (body_tokens body)) }
+{
+    Answer::Gives(plain(status, body))
+}
+
+/// The answer with a change of these rows, if there are any.
+pub fn rows_then(rows: Vec<RowChange>, good: Good) -> Answer
+    ensures { answer_view result ≡ spec.rows_then rows.items (good_view good) }
+{
+    if rows.is_empty() {
+        return Answer::Gives(good);
+    }
+    Answer::Changes {
+        change: Change::Rows {
+            rows: List::from_vec(rows),
+        },
+        good,
+    }
+}
+
+/// The reply of a refusal, at a length of the history.
+pub fn refusal_reply(alloc: Global, revision: u64, refusal: &Refusal) -> Result<Reply, AllocError>
+    ensures { IfOk result (λ reply. reply_view reply ≡ spec.refusal_reply revision refusal.now) }
+{
+    Ok(Reply {
+        status: refusal.status(),
+        body: refusal.body(alloc)?,
+        location: None,
+        no_store: false,
+        revision: Some(revision),
+    })
+}
+
+/// The reply of an Ok, at a length of the history.
+pub fn good_reply(revision: u64, good: Good) -> Reply
+    ensures { reply_view result ≡ spec.good_reply revision (good_view good) }
+{
+    Reply {
+        status: good.status,
+        body: good.body,
+        location: good.location,
+        no_store: good.no_store,
+        revision: Some(revision),
+    }
+}

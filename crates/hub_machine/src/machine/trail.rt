@@ -1,0 +1,49 @@
+//! Whether the history has room for a change.
+ghost use Rattle.std.specs.Prelude.{◌≡◌, IfOk};
+ghost use Rattle.hub_machine.specs.Trails as spec;
+ghost use Rattle.hub_machine.specs.Answers.{answer_view};
+ghost use Rattle.hub_machine.specs.Apply.{is_past_trail};
+
+use crate::answer::Answer;
+use crate::batch::batch_cost;
+use crate::change::Change;
+use crate::machine::Machine;
+use crate::refusal::Refusal;
+use std::alloc::{AllocError, Global};
+
+/// The greatest length of a history without a trail.
+const LONGEST: u128 = 1 << 62;
+
+/// The bytes of an entry but for its keys and texts.
+const ENTRY: u128 = 64;
+
+impl Machine {
+    /// Whether the entry of a change, and those that are owed after it, don't fit.
+    fn is_past_trail(&self, alloc: Global, change: &Change) -> Result<bool, AllocError>
+        ensures { IfOk result (λ past. past ≡ is_past_trail self.now change.now) }
+    {
+        let owed = self.lives.owed();
+        if self.no_trail {
+            return Ok(LONGEST < self.length as u128 + 1 + owed);
+        }
+        let Change::Rows { rows } = change;
+        let cost = batch_cost(alloc, rows.as_slice())?;
+        let after = self.cost as u128 + (ENTRY + cost as u128) + ENTRY * owed;
+        Ok((self.tables.limits().trail_bytes as u128) < after)
+    }
+
+    /// The answer, or the refusal of a change for which the history has no room.
+    pub fn in_trail(&self, alloc: Global, answer: Answer) -> Result<Answer, AllocError>
+        ensures { IfOk result (λ a. answer_view a ≡ spec.in_trail self.now (answer_view answer)) }
+    {
+        match answer {
+            Answer::Changes { change, good } => {
+                if self.is_past_trail(alloc, &change)? {
+                    return Ok(Answer::Refuses(Refusal::TrailFull));
+                }
+                Ok(Answer::Changes { change, good })
+            }
+            other => Ok(other),
+        }
+    }
+}

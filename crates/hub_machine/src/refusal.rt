@@ -1,0 +1,95 @@
+//! Why the hub refuses a call.
+ghost use Rattle.std.specs.Prelude.{◌≡◌, ◌++◌, IfOk};
+ghost use Rattle.hub_view.specs.Body.{body_tokens};
+ghost use Rattle.hub_machine.specs.Replies as spec;
+
+use hub_kit::text::Text;
+use hub_view::Body;
+use scope_names::action::{Action, action_text};
+use std::alloc::{AllocError, Global};
+
+/// A refusal of the rules.
+#[derive(Drop)]
+pub enum Refusal {
+    /// The caller has seen a longer history than there is: 412.
+    SeenPast { seen: u64, length: u64 },
+    /// No text is given, or it is no kept token's, or its token is over: 403.
+    NoValidToken,
+    /// The action is held on no object at all: 403.
+    Needs(Action),
+    /// The action isn't allowed on the object, or the object isn't there: 404.
+    NotFound,
+    /// A rule of the call, in its own words: 400.
+    Rule(Text),
+    /// What the call would make is there: 409.
+    Exists(Text),
+    /// A kind of rows has reached its limit: 500.
+    Full { kind: u8, limit: u32 },
+    /// The history has reached its limit: 500.
+    TrailFull,
+    /// The keeper refused the rows: 503.
+    KeeperFault,
+}
+
+impl Refusal {
+    pub fn status(&self) -> u16
+        ensures { result ≡ spec.status_of self.now }
+    {
+        match self {
+            Refusal::SeenPast { .. } => 412,
+            Refusal::NoValidToken | Refusal::Needs(_) => 403,
+            Refusal::NotFound => 404,
+            Refusal::Rule(_) => 400,
+            Refusal::Exists(_) => 409,
+            Refusal::Full { .. } | Refusal::TrailFull => 500,
+            Refusal::KeeperFault => 503,
+        }
+    }
+
+    pub fn message(&self, alloc: Global) -> Result<Text, AllocError>
+        ensures { IfOk result (λ text. text ≡ spec.message_of self.now) }
+    {
+        match self {
+            Refusal::SeenPast { seen, length } => seen_message(alloc, *seen, *length),
+            Refusal::NoValidToken => Text::from_str(alloc, "no valid token"),
+            Refusal::Needs(action) => joined(alloc, "needs ", action_text(action)),
+            Refusal::NotFound => Text::from_str(alloc, "not found"),
+            Refusal::Rule(text) => text.copy(alloc),
+            Refusal::Exists(key) => joined(alloc, "exists: ", key.as_str()),
+            Refusal::Full { kind, limit } => full_message(alloc, *kind, *limit),
+            Refusal::TrailFull => Text::from_str(alloc, "trail full"),
+            Refusal::KeeperFault => Text::from_str(alloc, "keeper"),
+        }
+    }
+
+    /// The message and the status.
+    pub fn body(&self, alloc: Global) -> Result<Body, AllocError>
+        ensures { IfOk result (λ body. body_tokens body ≡ spec.refusal_body self.now) }
+    {
+        let message = self.message(alloc)?;
+        hub_view::message_body(alloc, self.status(), message.as_str())
+    }
+}
+
+/// Two texts as one.
+fn joined(alloc: Global, front: &str, back: &str) -> Result<Text, AllocError>
+    ensures { IfOk result (λ text. text ≡ front.now ++ back.now) }
+{
+    let mut text = Text::from_str(alloc, front)?;
+    text.push_str(back)?;
+    Ok(text)
+}
+
+fn seen_message(alloc: Global, seen: u64, length: u64) -> Result<Text, AllocError>
+    ensures { IfOk result (λ text. text ≡ spec.seen_message seen length) }
+{
+    let text = format!(in alloc; "seen {seen}, revision {length}")?;
+    Ok(Text::from_string(text))
+}
+
+fn full_message(alloc: Global, kind: u8, limit: u32) -> Result<Text, AllocError>
+    ensures { IfOk result (λ text. text ≡ spec.full_message kind limit) }
+{
+    let text = format!(in alloc; "full: {kind} {limit}")?;
+    Ok(Text::from_string(text))
+}

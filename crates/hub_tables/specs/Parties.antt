@@ -1,0 +1,45 @@
+-- Under whom tokens and shares are found.
+use Rattle.std.specs.Prelude.{Bool, ◌||◌}
+use Rattle.std.proofs.Common.{ap}
+use Rattle.std.specs.declared.cmp.Ordering.{Ordering}
+use Rattle.std.specs.Ordering.{eq_by_cmp}
+use Rattle.std.specs.FinMap.{IsAntisymmetric}
+use Rattle.scope_filters.specs.declared.holder.Owner.{Owner}
+use Rattle.scope_filters.specs.declared.holder.Owner.TheVariants as Of
+use Rattle.hub_rows.specs.declared.keys.Recipient.{Recipient}
+use Rattle.hub_rows.specs.declared.keys.Recipient.TheVariants as To
+use Rattle.hub_rows.specs.declared.keys.ShareKey.{ShareKey}
+use Rattle.hub_rows.specs.declared.records.Share.{Share}
+use Rattle.hub_rows.specs.declared.records.Token.{Token}
+use Rattle.hub_rows.specs.ShareOrder.{names_exact}
+use Rattle.hub_tables.specs.declared.parties.Party.{Party}
+use Rattle.hub_tables.specs.declared.parties.Party.TheVariants.{User, Group, Service}
+use Rattle.hub_tables.specs.contracts.parties.PartyOrd.TheImpl as party
+
+abbrev pub party_cmp : Party → Party → Ordering
+party_cmp = party.ghosts.cmp
+
+pub party_exact : IsAntisymmetric party_cmp
+party_exact (User a) (User b) h = ap User (names_exact a b h)
+party_exact (Group a) (Group b) h = ap Group (names_exact a b h)
+party_exact (Service a) (Service b) h = ap Service (names_exact a b h)
+party_exact _ _ h = cc
+
+abbrev pub of_owner : Owner → Party
+of_owner (Of.User user) = User user
+of_owner (Of.Service service) = Service service
+
+abbrev pub of_recipient : Recipient → Party
+of_recipient (To.User user) = User user
+of_recipient (To.Group group) = Group group
+
+abbrev pub giver_of : ShareKey → Party
+giver_of key = User key.server.user
+
+-- a token is its owner's
+abbrev pub is_token_of : Party → Token → Bool
+is_token_of party token = eq_by_cmp party_cmp party (of_owner token.owner)
+
+-- a share is the user's whose server it is, and its recipient's
+abbrev pub is_share_of : Party → Share → Bool
+is_share_of party share = eq_by_cmp party_cmp party (giver_of share.key) || eq_by_cmp party_cmp party (of_recipient share.key.to)

@@ -1,0 +1,44 @@
+//! Under whom tokens and shares are found: one order for users, groups and services.
+ghost use Rattle.std.specs.Prelude.{◌≡◌};
+ghost use Rattle.hub_tables.specs.Parties.{party_exact, of_owner, of_recipient, giver_of};
+
+use hub_kit::key::Key;
+use hub_kit::names::{GroupName, ServiceName, UserName};
+use hub_rows::keys::{Recipient, ShareKey};
+use scope_filters::holder::Owner;
+
+/// Whose a token is, and between whom a share stands.
+#[derive(Clone, Copy, PartialEq, Eq, PartialOrd, Ord)]
+pub(crate) enum Party {
+    User(UserName),
+    Group(GroupName),
+    Service(ServiceName),
+}
+
+impl Key for Party {
+    ghost exact = { party_exact };
+}
+
+pub(crate) fn of_owner(owner: &Owner) -> Party
+    ensures { result ≡ of_owner owner.now }
+{
+    match owner {
+        Owner::User(user) => Party::User(*user),
+        Owner::Service(service) => Party::Service(*service),
+    }
+}
+
+pub(crate) fn of_recipient(recipient: &Recipient) -> Party
+    ensures { result ≡ of_recipient recipient.now }
+{
+    match recipient {
+        Recipient::User(user) => Party::User(*user),
+        Recipient::Group(group) => Party::Group(*group),
+    }
+}
+
+pub(crate) fn giver_of(key: &ShareKey) -> Party
+    ensures { result ≡ giver_of key.now }
+{
+    Party::User(key.server.user)
+}

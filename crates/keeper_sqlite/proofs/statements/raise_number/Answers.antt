@@ -1,0 +1,11 @@
+use Rattle.keeper_sqlite.proofs.Inside.{goes_on, all_ran}
+use Rattle.keeper_sqlite.proofs.statements.raise_number.Goals as goal
+
+pub returns-clause-clean : goal.returns-clause-clean
+returns-clause-clean g c = c.execute_batch.ensures.survives.clean
+
+pub returns-clause-kept : goal.returns-clause-kept
+returns-clause-kept g c clean inside = (c.execute_batch.ensures.kept clean, goes_on _ _ c.execute_batch.result (c.execute_batch.ensures.inside clean) inside)
+
+pub returns-clause-ran : goal.returns-clause-ran
+returns-clause-ran g c clean = all_ran g.S.Store _ _ _ c.execute_batch.result (c.execute_batch.ensures.ran clean)

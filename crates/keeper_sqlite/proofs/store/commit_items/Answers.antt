@@ -1,0 +1,21 @@
+use Rattle.std.proofs.Common.{◌≡◌, OnOk, arith, rules, subst}
+use Rattle.sqlite.specs.State.{HasCleanDisk}
+use Rattle.sqlite.specs.Held.{state}
+use Rattle.keeper_sqlite.specs.Statements.{IsCommitted}
+use Rattle.keeper_sqlite.proofs.Inside.{all_committed}
+use Rattle.keeper_sqlite.proofs.store.commit_items.Goals as goal
+
+pub returns-clause-done : goal.returns-clause-done
+returns-clause-done g c clean =
+    let old = c.args.conn.now in
+    let begun = c.renew.new.tx.conn.now in
+    let last = c.do_items.new.tx.conn.now in
+    let end = c.commit.new.self.0 in
+    let same : end ≡ c.conn-2-1.given.0 = search rules in
+    let late : HasCleanDisk (state g.S.Store end) = search rules in
+    let clean_last : HasCleanDisk (state g.S.Store last) = omega (arith, c.commit.ensures.survives.clean, late) in
+    let clean_begun : HasCleanDisk (state g.S.Store begun) = omega (arith, c.do_items.ensures.clean, clean_last) in
+    let inside = (c.in_ok-renew.ensures.kept clean_begun (rw c.transaction-tx.ensures.begun)).1 in
+    subst (λ h. OnOk c.commit.result (IsCommitted g.S.Store c.args.items.now old h)) same
+    (all_committed g.S.Store c.args.items.now old begun last end c.commit.result (c.commit.ensures.ok late) c.is_empty-is_empty.result c.is_empty-is_empty.ensures.empty c.is_empty-is_empty.ensures.only
+    (rw c.transaction-tx.ensures.begun at c.in_ok-renew.ensures.renewed clean_begun) (c.in_ok-do_items.ensures.done clean_last inside))

@@ -1,0 +1,4 @@
+pub mod Causes
+pub mod Forms
+pub mod Shown
+pub mod Statements

@@ -1,0 +1,49 @@
+//! Rows of the database as rows of the hub.
+ghost use Rattle.std.specs.Prelude.{◌≡◌, pos, map, IfOk};
+ghost use Rattle.sqlite.specs.Order.{column};
+ghost use Rattle.sqlite.specs.declared.types.Value.TheVariants.{Int, Text as Words};
+ghost use Rattle.keeper_sqlite.specs.Shown.{shown, front};
+
+use hub_kit::text::Text;
+use keeper::keeper::Row;
+use sqlite::Error;
+use std::alloc::Global;
+
+fn kind_of(row: &sqlite::Row) -> Result<u8, Error>
+    ensures { IfOk result (λ kind. column row.now 0 ≡ Int (pos kind)) }
+{
+    let number: u32 = row.get(0)?;
+    match u8::try_from(number) {
+        Ok(kind) => Ok(kind),
+        Err(_) => Err(Error::IntegralValueOutOfRange(0)),
+    }
+}
+
+fn text_of(row: &sqlite::Row, at: usize) -> Result<Text, Error>
+    ensures { IfOk result (λ text. column row.now at ≡ Words text) }
+{
+    let text: String = row.get(at)?;
+    Ok(Text::from_string(text))
+}
+
+/// The row that shows as this one. Refuses a kind above 255, and values of other types.
+fn row_of(row: &sqlite::Row) -> Result<Row, Error>
+    ensures { IfOk result (λ kept. shown kept ≡ front row.now) }
+{
+    Ok(Row {
+        kind: kind_of(row)?,
+        key: text_of(row, 1)?,
+        text: text_of(row, 2)?,
+    })
+}
+
+/// The rows that show as these.
+pub(crate) fn rows_of(alloc: Global, rows: Vec<sqlite::Row>) -> Result<Vec<Row>, Error>
+    ensures { IfOk result (λ all. map shown all.items ≡ map front rows.items) }
+{
+    let mut all = Vec::new(alloc);
+    for row in &rows {
+        all.push(row_of(row)?)?;
+    }
+    Ok(all)
+}

@@ -1,0 +1,5 @@
+pub mod Texts
+pub mod Lists
+pub mod Results
+pub mod ShareTexts
+pub mod Leases

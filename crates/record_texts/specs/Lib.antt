@@ -1,0 +1,9 @@
+pub mod Finds
+pub mod Plain
+pub mod Fields
+pub mod KeyTexts
+pub mod People
+pub mod Servers
+pub mod Tokens
+pub mod Rows
+pub mod Items

@@ -1,0 +1,14 @@
+//! The texts of records: each row of the twelve kinds as a row of a keeper, and back.
+//! `row_of` and `of_row` carry it: a row reads exactly where it is the row of a record, and then as that record.
+//! The machine of the hub commits its changes by `item_of`, and opens by reading what its keeper loads.
+#![tactic(auto)]
+
+mod field;
+pub mod item;
+mod people;
+pub mod record;
+mod servers;
+mod textual;
+mod tokens;
+mod unread;
+mod whole;

@@ -1,0 +1,146 @@
+//! The texts of users, groups, services and roles.
+ghost use Rattle.hub_rows.specs.declared.records.User.{User};
+ghost use Rattle.record_texts.specs.People.{user_object, group_object, service_object, role_object, IsUser, IsGroup, IsService, IsRole, user_plain, group_plain, service_plain, role_plain};
+
+use crate::field::{
+    bool_at, maybe_number, maybe_number_at, number_at, sorted_at, texts_at, texts_value,
+};
+use crate::record::Record;
+use crate::textual::Textual;
+use crate::unread::Unread;
+use hub_kit::names::{GroupName, RoleName, ServiceName, UserName};
+use hub_kit::text::Text;
+use hub_rows::records::{Group, Role, Service, User};
+use serde_json::{Value, json};
+use std::alloc::{AllocError, Global};
+
+impl Record for User {
+    ghost KIND = { 1 };
+
+    const KIND: u8 = 1;
+
+    ghost key_of = { λ u. u.name };
+
+    ghost shape_of = { user_object };
+
+    ghost valid = { IsUser };
+
+    ghost plain = { user_plain };
+
+    fn key(&self, alloc: Global) -> Result<Text, AllocError> {
+        self.name.text(alloc)
+    }
+
+    fn value(&self, alloc: Global) -> Result<Value, AllocError> {
+        let _name = self.name.as_str();
+        let created = self.created.seconds();
+        let last_activity = maybe_number(&self.last_activity);
+        json!(in alloc; {"admin": self.admin, "created": created, "last_activity": last_activity})
+    }
+
+    fn find(alloc: Global, key: &str, value: &Value) -> Result<User, Unread> {
+        Ok(User {
+            name: UserName::of_text(alloc, key)?,
+            admin: bool_at(value, "admin")?,
+            created: number_at(value, "created")?,
+            last_activity: maybe_number_at(value, "last_activity")?,
+        })
+    }
+}
+
+impl Record for Group {
+    ghost KIND = { 2 };
+
+    const KIND: u8 = 2;
+
+    ghost key_of = { λ g. g.name };
+
+    ghost shape_of = { group_object };
+
+    ghost valid = { IsGroup };
+
+    ghost plain = { group_plain };
+
+    fn key(&self, alloc: Global) -> Result<Text, AllocError> {
+        self.name.text(alloc)
+    }
+
+    fn value(&self, alloc: Global) -> Result<Value, AllocError> {
+        let _name = self.name.as_str();
+        let users = texts_value(alloc, self.users.as_slice())?;
+        json!(in alloc; {"users": users})
+    }
+
+    fn find(alloc: Global, key: &str, value: &Value) -> Result<Group, Unread> {
+        Ok(Group {
+            name: GroupName::of_text(alloc, key)?,
+            users: sorted_at(alloc, value, "users")?,
+        })
+    }
+}
+
+impl Record for Service {
+    ghost KIND = { 3 };
+
+    const KIND: u8 = 3;
+
+    ghost key_of = { λ v. v.name };
+
+    ghost shape_of = { service_object };
+
+    ghost valid = { IsService };
+
+    ghost plain = { service_plain };
+
+    fn key(&self, alloc: Global) -> Result<Text, AllocError> {
+        self.name.text(alloc)
+    }
+
+    fn value(&self, alloc: Global) -> Result<Value, AllocError> {
+        let _name = self.name.as_str();
+        json!(in alloc; {})
+    }
+
+    fn find(alloc: Global, key: &str, _value: &Value) -> Result<Service, Unread> {
+        Ok(Service {
+            name: ServiceName::of_text(alloc, key)?,
+        })
+    }
+}
+
+impl Record for Role {
+    ghost KIND = { 4 };
+
+    const KIND: u8 = 4;
+
+    ghost key_of = { λ r. r.name };
+
+    ghost shape_of = { role_object };
+
+    ghost valid = { IsRole };
+
+    ghost plain = { role_plain };
+
+    fn key(&self, alloc: Global) -> Result<Text, AllocError> {
+        self.name.text(alloc)
+    }
+
+    fn value(&self, alloc: Global) -> Result<Value, AllocError> {
+        let _name = self.name.as_str();
+        let groups = texts_value(alloc, self.groups.as_slice())?;
+        let scopes = texts_value(alloc, self.scopes.as_slice())?;
+        let services = texts_value(alloc, self.services.as_slice())?;
+        let users = texts_value(alloc, self.users.as_slice())?;
+        json!(in alloc; {"groups": groups, "scopes": scopes, "services": services, "users": users})
+    }
+
+    fn find(alloc: Global, key: &str, value: &Value) -> Result<Role, Unread> {
+        Ok(Role {
+            name: RoleName::of_text(alloc, key)?,
+            groups: sorted_at(alloc, value, "groups")?,
+            scopes: texts_at(alloc, value, "scopes")?,
+            services: sorted_at(alloc, value, "services")?,
+            users: sorted_at(alloc, value, "users")?,
+        })
+    }
+}

@@ -1,0 +1,154 @@
+//! The texts of servers, leases, shares and next numbers.
+ghost use Rattle.record_texts.specs.KeyTexts.{server_text, share_text};
+ghost use Rattle.record_texts.specs.Servers.{server_object, lease_object, share_object, next_object, IsServerRow, IsLease, IsShare, IsNext, server_plain, lease_plain, share_plain, next_plain};
+
+use crate::field::{
+    lacking_number_at, maybe_number, maybe_number_at, number_at, text_at, text_value, texts_at,
+    texts_value,
+};
+use crate::record::Record;
+use crate::textual::Textual;
+use crate::unread::Unread;
+use hub_kit::names::ServerKey;
+use hub_kit::target::Target;
+use hub_kit::text::Text;
+use hub_rows::keys::ShareKey;
+use hub_rows::records::{Lease, Next, ServerRow, Share};
+use serde_json::{Value, json};
+use std::alloc::{AllocError, Global};
+
+impl Record for ServerRow {
+    ghost KIND = { 6 };
+
+    const KIND: u8 = 6;
+
+    ghost key_of = { λ r. server_text r.key };
+
+    ghost shape_of = { server_object };
+
+    ghost valid = { IsServerRow };
+
+    ghost plain = { server_plain };
+
+    fn key(&self, alloc: Global) -> Result<Text, AllocError> {
+        self.key.text(alloc)
+    }
+
+    fn value(&self, alloc: Global) -> Result<Value, AllocError> {
+        let _key = self.key.text(alloc)?;
+        let created = self.created.seconds();
+        let last_activity = maybe_number(&self.last_activity);
+        let started = maybe_number(&self.started);
+        json!(in alloc; {"created": created, "last_activity": last_activity, "started": started})
+    }
+
+    fn find(alloc: Global, key: &str, value: &Value) -> Result<ServerRow, Unread> {
+        Ok(ServerRow {
+            key: ServerKey::of_text(alloc, key)?,
+            created: number_at(value, "created")?,
+            last_activity: maybe_number_at(value, "last_activity")?,
+            started: maybe_number_at(value, "started")?,
+        })
+    }
+}
+
+impl Record for Lease {
+    ghost KIND = { 7 };
+
+    const KIND: u8 = 7;
+
+    ghost key_of = { λ l. l.target };
+
+    ghost shape_of = { lease_object };
+
+    ghost valid = { IsLease };
+
+    ghost plain = { lease_plain };
+
+    fn key(&self, alloc: Global) -> Result<Text, AllocError> {
+        self.target.text(alloc)
+    }
+
+    fn value(&self, alloc: Global) -> Result<Value, AllocError> {
+        let _target = self.target.as_text();
+        let server = text_value(alloc, &self.server)?;
+        match &self.generation {
+            Some(generation) => {
+                let generation = *generation;
+                json!(in alloc; {"generation": generation, "server": server})
+            }
+            None => json!(in alloc; {"server": server}),
+        }
+    }
+
+    fn find(alloc: Global, key: &str, value: &Value) -> Result<Lease, Unread> {
+        Ok(Lease {
+            target: Target::of_text(alloc, key)?,
+            server: text_at(alloc, value, "server")?,
+            generation: lacking_number_at(value, "generation")?,
+        })
+    }
+}
+
+impl Record for Share {
+    ghost KIND = { 8 };
+
+    const KIND: u8 = 8;
+
+    ghost key_of = { λ s. share_text s.key };
+
+    ghost shape_of = { share_object };
+
+    ghost valid = { IsShare };
+
+    ghost plain = { share_plain };
+
+    fn key(&self, alloc: Global) -> Result<Text, AllocError> {
+        self.key.text(alloc)
+    }
+
+    fn value(&self, alloc: Global) -> Result<Value, AllocError> {
+        let _key = self.key.text(alloc)?;
+        let created = self.created.seconds();
+        let scopes = texts_value(alloc, self.scopes.as_slice())?;
+        json!(in alloc; {"created": created, "scopes": scopes})
+    }
+
+    fn find(alloc: Global, key: &str, value: &Value) -> Result<Share, Unread> {
+        Ok(Share {
+            key: ShareKey::of_text(alloc, key)?,
+            created: number_at(value, "created")?,
+            scopes: texts_at(alloc, value, "scopes")?,
+        })
+    }
+}
+
+impl Record for Next {
+    ghost KIND = { 12 };
+
+    const KIND: u8 = 12;
+
+    ghost key_of = { λ n. n.name };
+
+    ghost shape_of = { next_object };
+
+    ghost valid = { IsNext };
+
+    ghost plain = { next_plain };
+
+    fn key(&self, alloc: Global) -> Result<Text, AllocError> {
+        self.name.text(alloc)
+    }
+
+    fn value(&self, alloc: Global) -> Result<Value, AllocError> {
+        let next = self.next;
+        json!(in alloc; {"next": next})
+    }
+
+    fn find(alloc: Global, key: &str, value: &Value) -> Result<Next, Unread> {
+        Ok(Next {
+            name: Text::of_text(alloc, key)?,
+            next: number_at(value, "next")?,
+        })
+    }
+}

@@ -1,0 +1,5 @@
+pub mod Fronts
+pub mod OnLiterals
+pub mod ReadScopes
+pub mod Segments
+pub mod Texts

@@ -1,0 +1,67 @@
+-- What a body says: it is one JSON object (RFC 8259), of whose equal keys the last counts. The empty body says what {} says.
+use Rattle.std.specs.Prelude.{ℕ, Bool, List, [], ◌∷◌, Option, Some, None, option_and_then, if◌then◌else◌}
+use Rattle.std.specs.Str.{is_utf8}
+use Rattle.serde_json.specs.Data.{Data, null, boolean, number, string, array, object, Items, no_items, item, no_members}
+use Rattle.serde_json.specs.Read.{read}
+use Rattle.serde_json.specs.Find.{get, as_bool, as_str, as_array}
+
+infixl 10 ◌>>=◌
+abbrev pub ◌>>=◌ : {A B : Type 0} → Option A → (A → Option B) → Option B
+value >>= f = option_and_then f value
+
+abbrev pub if_object : Data → Option Data
+if_object null = None
+if_object (boolean b) = None
+if_object (number n) = None
+if_object (string s) = None
+if_object (array items) = None
+if_object (object members) = Some (object members)
+
+-- the object that a text is, and that bytes are
+abbrev pub object_in : List ℕ → Option Data
+object_in text = read text >>= if_object
+
+abbrev pub object_of : List ℕ → Option Data
+object_of bytes = if is_utf8 bytes then object_in bytes else None
+
+-- the object of a body
+unfoldable pub body_object : List ℕ → Option Data
+body_object [] = Some (object no_members)
+body_object (b ∷ bytes) = object_of (b ∷ bytes)
+
+-- ---- truth values
+
+-- the truth value at a key: none where the key is absent or anything else stands there
+unfoldable pub truth_at : List ℕ → Data → Option Bool
+truth_at key body = get key body >>= as_bool
+
+abbrev pub truth_of : Bool → Option Data → Option Bool
+truth_of default None = Some default
+truth_of default (Some value) = as_bool value
+
+-- the same with a default for the absent key
+unfoldable pub truth_or : Bool → List ℕ → Data → Option Bool
+truth_or default key body = truth_of default (get key body)
+
+-- ---- lists of texts
+
+-- an absent list has no items
+abbrev pub list_of : Option Data → Option Items
+list_of None = Some no_items
+list_of (Some value) = as_array value
+
+-- what an item is by a reader of texts
+abbrev pub item_read : {N : Type 0} → (List ℕ → Option N) → Data → Option N
+item_read reads value = as_str value >>= reads
+
+-- what the items are: none where one of them is no text, or not of its form
+abbrev pub each_read : {N : Type 0} → (List ℕ → Option N) → Items → Option (List N)
+each_read reads no_items = Some []
+each_read reads (item value rest) = do
+  first ← item_read reads value
+  others ← each_read reads rest
+  Some (first ∷ others)
+
+-- the list at a key
+unfoldable pub list_at : {N : Type 0} → (List ℕ → Option N) → List ℕ → Data → Option (List N)
+list_at reads key body = list_of (get key body) >>= each_read reads

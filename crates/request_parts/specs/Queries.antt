@@ -1,0 +1,33 @@
+-- The values of a query (URL Standard, 5.1).
+use Rattle.std.specs.Prelude.{ℕ, List, [], ◌∷◌, bytes_eq, Option, Some, None, if◌then◌else◌}
+use Rattle.std.specs.Str.Lossy.{utf8_lossy}
+use Rattle.form_urlencoded.specs.Form.{raw_pairs, decode}
+use Rattle.http_wire.specs.Decimal.{number_in}
+use Rattle.http_wire.specs.declared.decimal.Decimal.{Decimal}
+use Rattle.http_wire.specs.declared.decimal.Decimal.TheVariants.{Number, Past, Other}
+
+-- what a key or a value stands for
+abbrev pub text_of : List ℕ → List ℕ
+text_of bytes = utf8_lossy (decode bytes)
+
+-- the value of the first pair with a key
+abbrev pub value_of : List ℕ → List (List ℕ × List ℕ) → Option (List ℕ)
+value_of key [] = None
+value_of key (pair ∷ rest) = if bytes_eq (text_of pair.0) key then Some (text_of pair.1) else value_of key rest
+
+-- the first value of a key in a query
+unfoldable pub query_value : List ℕ → List ℕ → Option (List ℕ)
+query_value key query = value_of key (raw_pairs query)
+
+abbrev pub as_u64 : Decimal → Option ℕ
+as_u64 (Number n) = Some n
+as_u64 Past = None
+as_u64 Other = None
+
+abbrev pub number_or : ℕ → Option (List ℕ) → Option ℕ
+number_or default None = Some default
+number_or default (Some text) = as_u64 (number_in text)
+
+-- the decimal number that is the first value of a key, or a default where the key is absent
+unfoldable pub query_number : List ℕ → ℕ → List ℕ → Option ℕ
+query_number key default query = number_or default (query_value key query)

@@ -1,0 +1,7 @@
+-- One step after the other, up to the first that is refused.
+use Rattle.std.specs.Prelude.{Result, Ok, Err}
+
+infixl 10 ◌>>=◌
+abbrev pub ◌>>=◌ : {A B E : Type 0} → Result A E → (A → Result B E) → Result B E
+Ok value >>= next = next value
+Err e >>= next = Err e

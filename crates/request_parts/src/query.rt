@@ -1,0 +1,47 @@
+//! The values of a query (URL Standard, 5.1). Of equal keys the first counts.
+ghost use Rattle.std.specs.Prelude.{◌≡◌, IfOk};
+ghost use Rattle.request_parts.specs.Queries as spec;
+
+use http_wire::decimal::{Decimal, number_in};
+use hub_kit::text::Text;
+use std::alloc::{AllocError, Global};
+
+/// The first value of a key in a query.
+#[tactic(auto, unfolding(crate::specs::Queries::query_value))]
+pub fn query_value(alloc: Global, query: &str, key: &str) -> Result<Option<Text>, AllocError>
+    ensures { IfOk result (λ value. value ≡ spec.query_value key.now query.now) }
+{
+    for pair in form_urlencoded::parse(alloc, query.as_bytes()) {
+        let (name, value) = pair?;
+        if name.as_str() == key {
+            return Ok(Some(Text::from_str(alloc, value.as_str())?));
+        }
+    }
+    Ok(None)
+}
+
+/// The number that is the first value of a key in a query, or a default where the key is absent; nothing where that value
+/// is no decimal number, or past a `u64`.
+#[tactic(auto, unfolding(crate::specs::Queries::query_number))]
+pub fn query_number(
+    alloc: Global,
+    query: &str,
+    key: &str,
+    default: u64,
+) -> Result<Option<u64>, AllocError>
+    ensures { IfOk result (λ number. number ≡ spec.query_number key.now default query.now) }
+{
+    match query_value(alloc, query, key)? {
+        None => Ok(Some(default)),
+        Some(text) => Ok(as_u64(number_in(text.as_bytes()))),
+    }
+}
+
+fn as_u64(number: Decimal) -> Option<u64>
+    ensures { result ≡ spec.as_u64 number }
+{
+    match number {
+        Decimal::Number(n) => Some(n),
+        Decimal::Past | Decimal::Other => None,
+    }
+}

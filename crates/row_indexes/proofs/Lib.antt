@@ -1,0 +1,3 @@
+pub mod Indexed
+mod ServerKeys
+mod Walked
