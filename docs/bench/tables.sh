@@ -1,5 +1,5 @@
 #!/bin/sh
-# Nanoseconds and bytes of a row of the tables: 100,000 users and 1,000,000 tokens put and looked up, and a tenth of them.
+# Nanoseconds and bytes of a row of the tables: 100,000 users, 10,000 groups and 1,000,000 tokens put and looked up, and a tenth of them.
 # usage: docs/bench/tables.sh [FOLDER]
 # Writes a scratch repository into FOLDER (a new one under /tmp if none is named), proves its crates over what earlier checks of
 # this checkout kept, and runs the program. It stands outside the gate, and leaves the repository as it was.
@@ -25,11 +25,12 @@ ghost use Rattle.std.specs.Prelude.{◌<◌};
 use hub_kit::hashes::hash_of;
 use hub_kit::list::List;
 use hub_kit::moment::Moment;
-use hub_kit::names::{UserName, read_user};
+use hub_kit::names::{UserName, read_group, read_user};
 use hub_kit::text::Text;
 use hub_rows::limits::Limits;
-use hub_rows::records::{Token, User};
+use hub_rows::records::{Group, Token, User};
 use hub_tables::tables::Tables;
+use keyed_rows::sorted::Sorted;
 use scope_filters::holder::Owner;
 use scope_names::table::ScopeTable;
 use std::alloc::Global;
@@ -64,7 +65,7 @@ fn user(number: u32) -> Option<UserName> {
 fn limits() -> Limits {
     Limits {
         users: 10000000,
-        groups: 0,
+        groups: 10000000,
         services: 0,
         roles: 0,
         servers: 0,
@@ -84,6 +85,28 @@ fn put_users(tables: &mut Tables, users: u32) -> Option<()> {
             last_activity: None,
         };
         tables.put_user(row, 0).ok()?;
+    }
+    Some(())
+}
+
+/// The ten members of a group by its number.
+fn members(alloc: Global, group: u32) -> Option<Sorted<UserName>> {
+    let mut users = Vec::new(alloc);
+    for place in 0..10u32 {
+        let number = group.wrapping_mul(10).wrapping_add(place);
+        users.push(user(number)?).ok()?;
+    }
+    Some(Sorted::from_vec(users))
+}
+
+/// Groups of ten, so that each user is in one.
+fn put_groups(tables: &mut Tables, alloc: Global, groups: u32) -> Option<()> {
+    for number in 0..groups {
+        let row = Group {
+            name: read_group(&name(number)).ok()?,
+            users: members(alloc, number)?,
+        };
+        tables.put_group(row, 0).ok()?;
     }
     Some(())
 }
@@ -158,6 +181,14 @@ fn owned(tables: &Tables, owner: &Owner) -> usize {
 fn found_owned(tables: &Tables, alloc: Global, owner: &Owner) -> usize {
     match tables.tokens_of(alloc, owner) {
         Ok(ids) => ids.len(),
+        Err(_) => 0,
+    }
+}
+
+/// The groups of a user.
+fn found_groups(tables: &Tables, alloc: Global, user: &UserName) -> usize {
+    match tables.groups_of(alloc, user) {
+        Ok(names) => names.len(),
         Err(_) => 0,
     }
 }
@@ -245,6 +276,19 @@ fn time_owner_looks(rt: &HostRuntime, tables: &Tables, users: u32) -> io::Result
     print_time(rt, "tokens of an owner by the index", spent, ASKED as u64, found)
 }
 
+fn time_group_looks(rt: &HostRuntime, tables: &Tables, users: u32) -> io::Result<()> {
+    let Some(names) = names(rt.alloc(), users) else {
+        return Ok(());
+    };
+    let start = Instant::now(rt)?;
+    let mut found = 0;
+    for name in &names {
+        found = found_groups(tables, rt.alloc(), name);
+    }
+    let spent = nanoseconds(start.elapsed(rt)?);
+    print_time(rt, "groups of a user", spent, ASKED as u64, found)
+}
+
 fn time_users(rt: &HostRuntime, tables: &mut Tables, users: u32) -> io::Result<()> {
     let before = resident(rt)?;
     let start = Instant::now(rt)?;
@@ -254,6 +298,17 @@ fn time_users(rt: &HostRuntime, tables: &mut Tables, users: u32) -> io::Result<(
     let spent = nanoseconds(start.elapsed(rt)?);
     let taken = resident(rt)?.wrapping_sub(before);
     print_puts(rt, "users", spent, taken, users as u64)
+}
+
+fn time_groups(rt: &HostRuntime, tables: &mut Tables, groups: u32) -> io::Result<()> {
+    let before = resident(rt)?;
+    let start = Instant::now(rt)?;
+    if put_groups(tables, rt.alloc(), groups).is_none() {
+        println!(rt; "  no room for the groups")?;
+    }
+    let spent = nanoseconds(start.elapsed(rt)?);
+    let taken = resident(rt)?.wrapping_sub(before);
+    print_puts(rt, "groups", spent, taken, groups as u64)
 }
 
 fn time_tokens(rt: &HostRuntime, tables: &mut Tables, tokens: u32) -> io::Result<()> {
@@ -273,11 +328,14 @@ fn time_tables(rt: &HostRuntime, users: u32) -> io::Result<()> {
     };
     let mut tables = Tables::new(rt.alloc(), limits(), scopes);
     let tokens = users.wrapping_mul(10);
-    println!(rt; "{users} users, {tokens} tokens")?;
+    let groups = users / 10;
+    println!(rt; "{users} users, {groups} groups, {tokens} tokens")?;
     time_users(rt, &mut tables, users)?;
+    time_groups(rt, &mut tables, groups)?;
     time_tokens(rt, &mut tables, tokens)?;
     time_user_looks(rt, &tables, users)?;
     time_token_looks(rt, &tables, tokens)?;
+    time_group_looks(rt, &tables, users)?;
     time_owner_looks(rt, &tables, users)?;
     time_walk(rt, &tables)
 }

@@ -1,2 +1,3 @@
 pub mod Additions
+pub mod Distinct
 pub mod Rows

@@ -1,35 +1,113 @@
--- The call that a request asks.
-use Rattle.std.specs.Prelude.{ℕ, ◌==◌, List, bytes_eq, codes, if◌then◌else◌, Option, Some, None, option_map, Result, Ok, Err}
-use Rattle.matchit.specs.Seek.{first}
+-- The call that a request asks: the row of its path, then the method, and then the call's own reading.
+use Rattle.std.specs.Prelude.{ℕ, ◌==◌, List, bytes_eq, codes, if◌then◌else◌, Option, Some, None, Result, Ok, Err}
 use Rattle.http_wire.specs.declared.request.Request.{Request}
-use Rattle.hub_core.specs.declared.call.Asked.{Asked}
-use Rattle.hub_core.specs.declared.call.Call.{Call}
-use Rattle.hub_core.specs.declared.call.Call.TheVariants.{C1, C3}
-use Rattle.hub_api.specs.Paths.{hub_rows}
+use Rattle.hub_machine.specs.declared.call.Asked.{Asked}
+use Rattle.hub_machine.specs.declared.call.Call.{Call}
+use Rattle.hub_machine.specs.declared.call.Call.TheVariants.{C1, C2}
+use Rattle.request_parts.specs.Steps.{◌>>=◌}
+use Rattle.hub_api.specs.Readings as calls
+use Rattle.hub_api.specs.Paths.{row_of}
+use Rattle.hub_api.specs.declared.method.Method.{Method}
+use Rattle.hub_api.specs.declared.method.Method.TheVariants.{Get, Post, Put, Patch, Delete, Other}
 use Rattle.hub_api.specs.declared.refusal.ApiRefusal.{ApiRefusal}
 use Rattle.hub_api.specs.declared.refusal.ApiRefusal.TheVariants.{NoPath, NoMethod}
 
--- the row of a path in the table of calls
-abbrev pub row_of : List ℕ → Option ℕ
-row_of path = option_map (λ route. route.value) (first hub_rows path)
+unfoldable pub method_of : List ℕ → Method
+method_of text =
+    if bytes_eq text (codes "GET") then Get
+    else (if bytes_eq text (codes "POST") then Post
+    else (if bytes_eq text (codes "PUT") then Put
+    else (if bytes_eq text (codes "PATCH") then Patch
+    else (if bytes_eq text (codes "DELETE") then Delete else Other))))
 
--- the call of a row that is asked by GET: /hub/api and /hub/api/ are the same
-abbrev pub get_call : ℕ → Call
-get_call row = if row == 2 then C3 else C1
+-- ---- the paths with their methods
 
--- each path of the table has the method GET alone
-abbrev pub call_of : Option ℕ → List ℕ → Result Call ApiRefusal
-call_of None method = Err NoPath
-call_of (Some row) method = if bytes_eq method (codes "GET") then Ok (get_call row) else Err NoMethod
+abbrev pub root : Method → Result Call ApiRefusal
+root Get = Ok C1
+root method = Err NoMethod
 
--- the asked call, with the token and the revision that the request brings
+abbrev pub info : Method → Result Call ApiRefusal
+info Get = Ok C2
+info method = Err NoMethod
+
+abbrev pub identity : Method → Request → Result Call ApiRefusal
+identity Get q = calls.get_identity q
+identity method q = Err NoMethod
+
+abbrev pub users : Method → Request → Result Call ApiRefusal
+users Get q = calls.list_users q
+users Post q = calls.add_users q
+users method q = Err NoMethod
+
+abbrev pub user : Method → Request → Result Call ApiRefusal
+user Get q = calls.get_user q
+user Post q = calls.add_user q
+user Patch q = calls.change_user q
+user Delete q = calls.delete_user q
+user method q = Err NoMethod
+
+abbrev pub groups : Method → Request → Result Call ApiRefusal
+groups Get q = calls.list_groups q
+groups method q = Err NoMethod
+
+abbrev pub group : Method → Request → Result Call ApiRefusal
+group Get q = calls.get_group q
+group Post q = calls.add_group q
+group Delete q = calls.delete_group q
+group method q = Err NoMethod
+
+abbrev pub members : Method → Request → Result Call ApiRefusal
+members Post q = calls.join_group q
+members Delete q = calls.leave_group q
+members method q = Err NoMethod
+
+abbrev pub services : Method → Request → Result Call ApiRefusal
+services Get q = calls.list_services q
+services method q = Err NoMethod
+
+abbrev pub service : Method → Request → Result Call ApiRefusal
+service Get q = calls.get_service q
+service Post q = calls.add_service q
+service Delete q = calls.delete_service q
+service method q = Err NoMethod
+
+abbrev pub roles : Method → Request → Result Call ApiRefusal
+roles Get q = calls.list_roles q
+roles method q = Err NoMethod
+
+abbrev pub role : Method → Request → Result Call ApiRefusal
+role Get q = calls.get_role q
+role Put q = calls.put_role q
+role Delete q = calls.delete_role q
+role method q = Err NoMethod
+
+-- the paths in the order of their rows; /hub/api and /hub/api/ are the same
+unfoldable pub at_row : ℕ → Method → Request → Result Call ApiRefusal
+at_row row method q =
+    if row == 2 then info method
+    else (if row == 3 then identity method q
+    else (if row == 4 then users method q
+    else (if row == 5 then user method q
+    else (if row == 6 then groups method q
+    else (if row == 7 then group method q
+    else (if row == 8 then members method q
+    else (if row == 9 then services method q
+    else (if row == 10 then service method q
+    else (if row == 11 then roles method q
+    else (if row == 12 then role method q else root method))))))))))
+
+-- ---- the request
+
+abbrev pub call_of : Option ℕ → Request → Result Call ApiRefusal
+call_of None q = Err NoPath
+call_of (Some row) q = at_row row (method_of q.method) q
+
+-- the call with the token and the revision that the request brings
 abbrev pub asked : Request → Call → Asked
 asked q call = record { token = q.token; seen = q.seen; call = call }
 
-abbrev pub asked_of : Request → Result Call ApiRefusal → Result Asked ApiRefusal
-asked_of q (Ok call) = Ok (asked q call)
-asked_of q (Err refusal) = Err refusal
-
--- the path first, then the method
-abbrev pub call_read : Request → Result Asked ApiRefusal
-call_read q = asked_of q (call_of (row_of q.path) q.method)
+-- what a request asks, or the first refusal: of its path, its method, its names, its query, its body, its scopes
+unfoldable pub call_read : Request → Result Asked ApiRefusal
+call_read q = do
+  call ← call_of (row_of q.path) q
+  Ok (asked q call)

@@ -3,7 +3,7 @@ use Rattle.std.specs.Prelude.{ℕ, ◌==◌, ◌&&◌, nat_le, nat_lt, Bool, tru
 use Rattle.http.specs.StatusCode.{reason_phrase}
 use Rattle.json.specs.Print.{print}
 use Rattle.hub_view.specs.Json.{Json, message_body}
-use Rattle.hub_core.specs.Replies.{Reply}
+use Rattle.hub_machine.specs.Replies.{Reply}
 
 abbrev pub crlf : List ℕ
 crlf = 13 ∷ 10 ∷ []
@@ -68,6 +68,10 @@ abbrev pub refused : ℕ → List ℕ → Reply
 refused status message =
     record { status = status; body = message_body status message; location = None; no_store = false; revision = None }
 
--- what is sent where there is no memory for a reply: a 507 without body, after which the connection is closed
+-- the reply where there is no memory for one: a 507 without body
+abbrev pub without_memory : Reply
+without_memory = record { status = 507; body = []; location = None; no_store = false; revision = None }
+
+-- what is sent then. The connection is closed after it
 abbrev pub no_memory : List ℕ
-no_memory = reply_text (record { status = 507; body = []; location = None; no_store = false; revision = None }) true
+no_memory = reply_text without_memory true

@@ -3,13 +3,22 @@
 //! `http_wire`, ask the calls of `hub_core`, and write these texts.
 #![tactic(auto)]
 
+mod groups;
 mod laws;
+mod method;
+mod parts;
 mod paths;
 mod reading;
 mod refusal;
 mod replies;
+mod roles;
+mod services;
+mod users;
 
-pub use laws::{a_user_is_asked, a_version_is_asked};
+pub use laws::{
+    a_named_user_is_asked, a_user_is_asked, a_version_is_asked, no_name_is_no_path,
+    users_are_needed,
+};
 pub use paths::{ApiRouter, new_router};
 pub use reading::{draws, read_call};
 pub use refusal::{ApiRefusal, refusal_reply, wire_refusal_reply};

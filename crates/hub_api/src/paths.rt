@@ -1,13 +1,27 @@
 //! The paths of the calls, found by `matchit`.
-ghost use Rattle.std.specs.Prelude.{◌≡◌, [], map, IfOk, MatchOption, None, Some};
-ghost use Rattle.matchit.specs.Seek.{first};
+ghost use Rattle.std.specs.Prelude.{◌≡◌, [], map, IfOk};
 ghost use Rattle.hub_api.specs.Paths.{with_all, hub_paths, hub_rows};
+ghost use Rattle.hub_api.specs.Paths as spec;
 
 use matchit::Router;
 use std::alloc::{AllocError, Global};
 
 /// The paths of the calls that are built. A path's row is its place here.
-static PATHS: [&str; 3] = ["/hub/api", "/hub/api/", "/hub/api/user"];
+static PATHS: [&str; 13] = [
+    "/hub/api",
+    "/hub/api/",
+    "/hub/api/info",
+    "/hub/api/user",
+    "/hub/api/users",
+    "/hub/api/users/{u}",
+    "/hub/api/groups",
+    "/hub/api/groups/{g}",
+    "/hub/api/groups/{g}/users",
+    "/hub/api/services",
+    "/hub/api/services/{v}",
+    "/hub/api/roles",
+    "/hub/api/roles/{r}",
+];
 
 /// The paths of the calls, each with its row. A connection makes one and keeps it.
 pub type ApiRouter = Router<usize>;
@@ -41,8 +55,10 @@ pub fn new_router(alloc: Global) -> Result<ApiRouter, AllocError>
 }
 
 /// The row that a path has.
+#[tactic(auto, unfolding(crate::specs::Paths::row_of))]
 pub(crate) fn row_of(router: &ApiRouter, path: &str) -> Option<usize>
-    ensures { MatchOption (first router.now path.now) (result ≡ None) (λ route. result ≡ Some route.value) }
+    requires { router.now ≡ hub_rows }
+    ensures { result ≡ spec.row_of path.now }
 {
     match router.at(path) {
         Ok(found) => Some(*found.value),

@@ -1,46 +1,106 @@
 //! The call that a request asks.
-ghost use Rattle.std.specs.Prelude.{◌≡◌, false, codes, bytes_eq, Result, Ok, Err};
+ghost use Rattle.std.specs.Prelude.{◌≡◌, false};
 ghost use Rattle.hub_api.specs.Paths.{hub_rows};
+ghost use Rattle.hub_api.specs.Refusals.{Gives};
 ghost use Rattle.hub_api.specs.Calls as spec;
+ghost use Rattle.hub_api.specs.Readings as calls;
 
+use crate::groups::{group, groups, members};
+use crate::method::{Method, method_of};
+use crate::parts::server_of;
 use crate::paths::{ApiRouter, row_of};
 use crate::refusal::ApiRefusal;
+use crate::roles::{role, roles};
+use crate::services::{service, services};
+use crate::users::{user, users};
 use http_wire::request::Request;
-use hub_core::{Asked, Call};
+use hub_machine::call::{Asked, Call};
+use std::alloc::Global;
 
-/// The call of a row that is asked by GET.
-fn get_call(row: usize) -> Call
-    ensures { result ≡ spec.get_call row }
+/// `/`, by its methods.
+fn root(method: Method) -> Result<Call, ApiRefusal>
+    ensures { result ≡ spec.root method }
+{
+    match method {
+        Method::Get => Ok(Call::C1),
+        Method::Post | Method::Put | Method::Patch | Method::Delete | Method::Other => {
+            Err(ApiRefusal::NoMethod)
+        }
+    }
+}
+
+/// `/info`, by its methods.
+fn info(method: Method) -> Result<Call, ApiRefusal>
+    ensures { result ≡ spec.info method }
+{
+    match method {
+        Method::Get => Ok(Call::C2),
+        Method::Post | Method::Put | Method::Patch | Method::Delete | Method::Other => {
+            Err(ApiRefusal::NoMethod)
+        }
+    }
+}
+
+/// `/user`, by its methods.
+fn identity(alloc: Global, method: Method, request: &Request) -> Result<Call, ApiRefusal>
+    ensures { Gives result (spec.identity method request.now) }
+{
+    match method {
+        Method::Get => get_identity(alloc, request),
+        Method::Post | Method::Put | Method::Patch | Method::Delete | Method::Other => {
+            Err(ApiRefusal::NoMethod)
+        }
+    }
+}
+
+#[tactic(auto, unfolding(crate::specs::Readings::get_identity))]
+fn get_identity(alloc: Global, request: &Request) -> Result<Call, ApiRefusal>
+    ensures { Gives result (calls.get_identity request.now) }
+{
+    let for_server = server_of(alloc, request)?;
+    Ok(Call::C3 { for_server })
+}
+
+/// The call of a row of the table of paths.
+#[tactic(auto, unfolding(crate::specs::Calls::at_row))]
+fn at_row(alloc: Global, row: usize, method: Method, request: &Request) -> Result<Call, ApiRefusal>
+    ensures { Gives result (spec.at_row row method request.now) }
 {
     match row {
-        2 => Call::C3,
-        _ => Call::C1,
+        2 => info(method),
+        3 => identity(alloc, method, request),
+        4 => users(alloc, method, request),
+        5 => user(alloc, method, request),
+        6 => groups(alloc, method, request),
+        7 => group(alloc, method, request),
+        8 => members(alloc, method, request),
+        9 => services(alloc, method, request),
+        10 => service(alloc, method, request),
+        11 => roles(alloc, method, request),
+        12 => role(alloc, method, request),
+        _ => root(method),
     }
 }
 
-fn call_of(row: Option<usize>, method: &str) -> Result<Call, ApiRefusal>
-    ensures { result ≡ spec.call_of row method.now }
+fn call_of(alloc: Global, row: Option<usize>, request: &Request) -> Result<Call, ApiRefusal>
+    ensures { Gives result (spec.call_of row request.now) }
 {
-    let Some(row) = row else {
-        return Err(ApiRefusal::NoPath);
-    };
-    if method == "GET" {
-        Ok(get_call(row))
-    } else {
-        Err(ApiRefusal::NoMethod)
+    match row {
+        Some(row) => at_row(alloc, row, method_of(request.method.as_str()), request),
+        None => Err(ApiRefusal::NoPath),
     }
 }
 
-/// The call that a request asks, with the token and the revision that it brings: 404 `no such path` where the path isn't
-/// in the table, then 405 where its method isn't. Takes no memory.
-pub fn read_call(router: &ApiRouter, request: Request) -> Result<Asked, ApiRefusal>
+/// The call that a request asks, with the token and the revision that it brings, or the first refusal: of its path, its
+/// method, the names in its path, its query, its body, its scopes. A call looks at those keys of the query and of the body
+/// alone that it has.
+#[tactic(auto, unfolding(crate::specs::Calls::call_read))]
+pub fn read_call(alloc: Global, router: &ApiRouter, request: Request) -> Result<Asked, ApiRefusal>
     requires { router.now ≡ hub_rows }
-    ensures { result ≡ spec.call_read request }
+    ensures { Gives result (spec.call_read request) }
 {
-    let call = call_of(
-        row_of(router, request.path.as_str()),
-        request.method.as_str(),
-    )?;
+    let row = row_of(router, request.path.as_str());
+    let call = call_of(alloc, row, &request)?;
     Ok(Asked {
         token: request.token,
         seen: request.seen,
@@ -49,10 +109,8 @@ pub fn read_call(router: &ApiRouter, request: Request) -> Result<Asked, ApiRefus
 }
 
 /// Whether a call draws random bytes before its visit. None of the calls that are built does.
-pub fn draws(call: &Call) -> bool
+pub fn draws(_: &Call) -> bool
     ensures { result ≡ false }
 {
-    match call {
-        Call::C1 | Call::C3 => false,
-    }
+    false
 }

@@ -1,13 +1,13 @@
 //! The bytes of replies.
 ghost use Rattle.std.specs.Prelude.{◌≡◌, ◌++◌, OnOk, IfOk, decimal};
 ghost use Rattle.hub_view.specs.Body.{body_tokens};
-ghost use Rattle.hub_core.specs.Answers.{reply_view};
+ghost use Rattle.hub_machine.specs.Answers.{reply_view};
 ghost use Rattle.hub_api.specs.ReplyText as spec;
 
 use http::StatusCode;
-use hub_core::Reply;
 use hub_kit::bytes::Bytes;
 use hub_kit::text::Text;
+use hub_machine::reply::Reply;
 use hub_view::{Body, body_text};
 use std::alloc::{AllocError, Global};
 

@@ -3,6 +3,7 @@
 //! and the token of the words, and the status is that of its end. The program `hub` stands above.
 #![tactic(auto)]
 
+mod opening;
 pub mod run;
 pub mod standard;
 pub mod words;

@@ -1,15 +1,15 @@
 //! The hub's commands, over the outside that the program makes.
 ghost use Rattle.std.specs.Prelude.{◌≡◌, ◌≤◌, ℕ, Some};
-ghost use Rattle.hub_core.specs.State.{Hub};
+ghost use Rattle.hub_machine.specs.State.{Hub};
 ghost use Rattle.hub_devices.specs.Faults.{Rises};
 ghost use Rattle.hub_main.specs.Sessions.{RunEnds, SessionEnds, Served as IsServed};
 ghost use Rattle.hub_main.specs.Sessions as spec;
 ghost use Rattle.hub_main.specs.Words.{session_read};
 
+use crate::opening::{SessionBook, open_book, refusal_status};
 use crate::words::{SessionWords, WordError, read_session};
 use desk::{Desk, Pass};
 use http_wire::error::SessionFault;
-use hub_core::{Book, HubConfig};
 use hub_devices::mem_clock::FixedClock;
 use hub_devices::sink::Sink;
 use hub_devices::source::Source;
@@ -54,14 +54,9 @@ fn run_session<I: Source + Drop, O: Sink + Drop, W: Wait>(
     ensures write_fault { result ≡ 6 → Rises (O.faults outside.old.output) (O.faults outside.new.output) }
 {
     let now = words.now;
-    let config = HubConfig {
-        user: words.user,
-        admin: words.admin,
-        token: words.token,
-        expires_at: None,
-    };
-    let Ok(book) = Book::open(alloc, &config, now) else {
-        return 7;
+    let book = match open_book(alloc, words) {
+        Ok(book) => book,
+        Err(error) => return refusal_status(&error),
     };
     match Desk::open(alloc, book) {
         Ok((desk, pass)) => serve_alone(rt, alloc, desk, pass, now, outside),
@@ -73,8 +68,8 @@ fn run_session<I: Source + Drop, O: Sink + Drop, W: Wait>(
 fn serve_alone<I: Source + Drop, O: Sink + Drop, W: Wait>(
     rt: &W,
     alloc: Global,
-    desk: Desk<Book>,
-    mut pass: Pass<Book>,
+    desk: Desk<SessionBook>,
+    mut pass: Pass<SessionBook>,
     now: Moment,
     outside: &mut Outside<I, O>,
 ) -> u8
@@ -100,8 +95,9 @@ fn serve_alone<I: Source + Drop, O: Sink + Drop, W: Wait>(
     status_of(&served)
 }
 
-/// Runs the command that the words name. The status is 2 where the words are refused and 7 where memory is wanting before
-/// the session; nothing is read or written then. Otherwise it is that of the session.
+/// Runs the command that the words name. The status is 2 where the words are refused, 7 where memory is wanting before the
+/// session, and 3 or 4 where the opening refuses the rows or the keeper fails; nothing is read or written then. Otherwise it is
+/// that of the session.
 pub fn run<I: Source + Drop, O: Sink + Drop, W: Wait>(
     rt: &W,
     alloc: Global,

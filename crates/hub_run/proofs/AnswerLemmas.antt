@@ -1,20 +1,20 @@
 -- A request and what is said to it make a turn.
-use Rattle.std.proofs.Common.{◌≡◌, inl, inr, ◌||◌, ℕ, Bool, true, List, ◌++◌, length, Option, Result, Ok, Err, refl, sym, ap, ◌∙◌, subst, arith}
+use Rattle.std.proofs.Common.{◌≡◌, inl, inr, ◌||◌, ℕ, Bool, true, List, ◌++◌, length, Option, Some, None, Result, Ok, Err, refl, sym, ap, ◌∙◌, subst, arith}
 use Rattle.http_wire.specs.declared.error.WireError.{WireError}
 use Rattle.http_wire.specs.declared.request.Request.{Request}
 use Rattle.http_wire.specs.Request.{IsRequestText}
 use Rattle.http_wire.specs.Body.{WithinRequest, AtMostDue, RequestRefusedAt}
-use Rattle.hub_core.specs.State.{Hub}
-use Rattle.hub_core.specs.Visits.{Entry}
-use Rattle.hub_core.specs.declared.call.Asked.{Asked}
-use Rattle.hub_core.specs.declared.reply.Outcome.{Outcome}
+use Rattle.hub_machine.specs.State.{Hub}
+use Rattle.hub_core.specs.Visits.{Entry, VisitedAt}
+use Rattle.hub_machine.specs.declared.call.Asked.{Asked}
+use Rattle.hub_machine.specs.declared.reply.Outcome.{Outcome}
 use Rattle.hub_api.specs.Calls.{call_read}
 use Rattle.hub_api.specs.Refusals.{api_refusal}
 use Rattle.hub_api.specs.ReplyText.{reply_text, no_memory}
 use Rattle.hub_api.specs.declared.refusal.ApiRefusal.{ApiRefusal}
-use Rattle.hub_core.specs.Replies.{Reply}
+use Rattle.hub_machine.specs.Replies.{Reply}
 use Rattle.hub_run.specs.Turns.{Turn, visited, declined, refused, wanting, View, Visits, Moves, TurnAt, closes, turn_text, refusal_text}
-use Rattle.hub_run.specs.Steps.{Says, SaysOutcome, Answers, Refuses, StopsAt, TurnEnds}
+use Rattle.hub_run.specs.Steps.{Says, SaysOutcome, Refuses, StopsAt, TurnEnds}
 use Rattle.hub_run.specs.declared.served.TurnEnd.{TurnEnd}
 use Rattle.hub_run.specs.declared.served.TurnEnd.TheVariants as end
 use Rattle.desk.specs.Passes.{PassState}
@@ -45,7 +45,7 @@ made_wanting start x y request text last said closed is moves text_is closed_is 
 pub made_visited : {E : Type 0} (start : Hub) (x y : View) (request : Request) (text : List ℕ) (asked : Asked) (moment : ℕ) (before after : List Entry)
     (outcome : Result Outcome E) (last : Bool) (said : List ℕ) (closed : Bool)
     → IsRequestText request text → call_read request ≡ Ok asked → Visits x moment before after y
-    → Answers start moment before after asked outcome → SaysOutcome outcome (request.close || last) said closed
+    → VisitedAt start before after moment None asked outcome → SaysOutcome outcome (request.close || last) said closed
     → Made start x y text last said closed
 made_visited start x y request text asked moment before after (Ok o) last said closed is read visits answers (r, viewed, inl (text_is, closed_is)) = (
   visited text request moment before after r,
@@ -97,3 +97,15 @@ stops start x y left held bytes end.Ended at same = (at, same, refl)
 stops start x y left held bytes end.Cut at same = (at, same, refl)
 stops start x y left held bytes end.ReadFault at same = (at, same, refl)
 stops start x y left held bytes end.WriteFault at same = absurd at
+
+-- ---- a visit
+
+same_start : (base : Option Hub) (found start : Hub) → base ≡ Some found → base ≡ Some start → found ≡ start
+same_start base found start first second = cc
+
+-- the book that a visit found has the base that its pass knows
+pub from_start : {E : Type 0} (base : Option Hub) (found start : Hub) (before after : List Entry) (moment : ℕ) (asked : Asked) (outcome : Result Outcome E)
+    → base ≡ Some found → base ≡ Some start
+    → VisitedAt found before after moment None asked outcome → VisitedAt start before after moment None asked outcome
+from_start base found start before after moment asked outcome first second at =
+    subst (λ (s : Hub). VisitedAt s before after moment None asked outcome) (same_start base found start first second) at

@@ -10,13 +10,17 @@ use Rattle.http_wire.specs.declared.request.Request.{Request}
 use Rattle.hub_api.specs.Calls.{call_read, asked}
 use Rattle.hub_api.specs.Refusals.{wire_refusal}
 use Rattle.hub_api.specs.declared.refusal.ApiRefusal.{ApiRefusal}
-use Rattle.hub_core.specs.Answer.{answer, is_past}
-use Rattle.hub_core.specs.Replies.{Reply, Answer, answered, reply_of}
-use Rattle.hub_core.specs.State.{Hub, good_token}
-use Rattle.hub_core.specs.Visits.{Entry}
-use Rattle.hub_core.specs.declared.call.Asked.{Asked}
-use Rattle.hub_core.specs.declared.call.Call.TheVariants.{C3}
-use Rattle.hub_core.specs.declared.rows.Token.{Token}
+use Rattle.hub_calls.specs.Users.{get_identity}
+use Rattle.hub_core.specs.Answer.{answer, is_past, good_token, Judgement}
+use Rattle.hub_core.specs.History.{Answers, change_of}
+use Rattle.hub_machine.specs.Replies.{Reply, Answer, Good, gives, answered, reply_of}
+use Rattle.hub_machine.specs.State.{Hub}
+use Rattle.hub_core.specs.Visits.{Entry, Reached}
+use Rattle.hub_kit.specs.declared.names.ServerKey.{ServerKey}
+use Rattle.hub_machine.specs.declared.change.Change.{Change}
+use Rattle.hub_machine.specs.declared.call.Asked.{Asked}
+use Rattle.hub_machine.specs.declared.call.Call.TheVariants.{C3}
+use Rattle.hub_rows.specs.declared.records.Token.{Token}
 use Rattle.hub_run.specs.Complete.{IsOf, MayBeTold}
 use Rattle.hub_run.specs.Turns.{Turn, visited, declined, refused, wanting, TurnAt, IsAnswered}
 
@@ -79,9 +83,11 @@ its_turn one start left text more rest request wanting is at = _
 
 -- ---- a good request
 
-good_status : (state : Hub) (moment n : ℕ) (request : Request) (token : Token) → is_past state.length request.seen ≡ false
-    → good_token state moment request.token ≡ Some token → (reply_of n (answer state moment None (asked request C3))).status ≡ 200
-good_status state moment n request token past good = rw (past, good) refl
+-- what a good token is answered to the call for its owner
+good_answer_is : (state : Hub) (moment : ℕ) (j : Judgement) (request : Request) (server : Option ServerKey) (token : Token)
+    → is_past state.length request.seen ≡ false → good_token state.tables moment request.token ≡ Some token
+    → answer state moment None j (asked request (C3 server)) ≡ get_identity state j.may token server
+good_answer_is state moment j request server token past good = rw (past, good) refl
 
 same_asked : (a b : Asked) (e : Result Asked ApiRefusal) → e ≡ Ok a → e ≡ Ok b → a ≡ b
 same_asked a b e first second = cc
@@ -89,12 +95,32 @@ same_asked a b e first second = cc
 same_reply : (a b : Reply) → answered a ≡ answered b → a ≡ b
 same_reply a b e = cc
 
+-- a visit that answered a good request answered who the owner is
+its_answer : (start : Hub) (request : Request) (moment : ℕ) (before : List Entry) (state : Hub) (call : Asked) (r : Answer)
+    → Reached start before state → Answers state moment None call r → call_read request ≡ Ok call → (good : MayBeTold start request moment before)
+    → (g : Good) × (r ≡ gives g) × (g.status ≡ 200)
+its_answer start request moment before state call r reached answers read good =
+    let token = good.token state reached in
+    let is : call ≡ asked request (C3 good.server) = same_asked call (asked request (C3 good.server)) (call_read request) read good.call in (
+      _,
+      answers.is ∙ (ap (λ (c : Asked). answer state moment None answers.judgement c) is
+          ∙ good_answer_is state moment answers.judgement request good.server token.0 (good.seen state reached) token.1),
+      refl,
+    )
+
+-- it makes no entry, so no keeper was asked
+no_change : (r : Answer) (g : Good) (c : Change) → r ≡ gives g → change_of r ≡ Some c → ⊥
+no_change r g c is has = none_is_some c (ap change_of (sym is) ∙ has)
+  where
+    none_is_some : (c : Change) → change_of (gives g) ≡ Some c → ⊥
+    none_is_some c e = cc
+
 pub good_answer : (start : Hub) (request : Request) (moment : ℕ) (before after : List Entry) (r : Reply)
     → IsAnswered start request moment before after r → MayBeTold start request moment before → r.status ≡ 200
-good_answer start request moment before after r (call, o, read, at, viewed) good =
-    let is : call ≡ asked request C3 = same_asked call (asked request C3) (call_read request) read good.call in
+good_answer start request moment before after r (call, o, read, inl at, viewed) good =
     let said : r ≡ reply_of (length after) at.answer = same_reply r (reply_of (length after) at.answer) (sym viewed ∙ at.outcome) in
-    let token = good.token at.state at.reached in
-    ap (λ (x : Reply). x.status) (said ∙ (ap (λ (a : Answer). reply_of (length after) a) at.answers
-    ∙ ap (λ (c : Asked). reply_of (length after) (answer at.state moment None c)) is))
-    ∙ good_status at.state moment (length after) request token.0 (good.seen at.state at.reached) token.1
+    let found = its_answer start request moment before at.state call at.answer at.reached at.answers read good in
+    ap (λ (x : Reply). x.status) (said ∙ ap (λ (a : Answer). reply_of (length after) a) found.1) ∙ found.2
+good_answer start request moment before after r (call, o, read, inr at, viewed) good =
+    let found = its_answer start request moment before at.state call at.answer at.reached at.answers read good in
+    absurd (no_change at.answer found.0 at.change found.1 at.has)

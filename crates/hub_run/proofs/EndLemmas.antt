@@ -8,7 +8,7 @@ use Rattle.http_wire.specs.Head.{head_of}
 use Rattle.http_wire.specs.Request.{body_due_of}
 use Rattle.http_wire.specs.declared.error.WireError.{WireError}
 use Rattle.http_wire.specs.declared.error.WireError.TheVariants as wire
-use Rattle.hub_core.specs.State.{Hub}
+use Rattle.hub_machine.specs.State.{Hub}
 use Rattle.hub_run.proofs.RanLemmas.{Ran_start, Ran_wrote}
 use Rattle.hub_run.specs.Connections.{Ran}
 use Rattle.hub_run.specs.Turns.{Turn, View, Turns}

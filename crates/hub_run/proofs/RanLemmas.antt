@@ -6,7 +6,7 @@ use Rattle.std.proofs.lemmas.List.Elements.{All-nil, All-push}
 use Rattle.hub_devices.specs.Streams.{Appends}
 use Rattle.hub_devices.proofs.StreamLemmas.{Takes_none, Takes_then, Appends_none, Appends_then}
 use Rattle.http_wire.specs.Took.{Took}
-use Rattle.hub_core.specs.State.{Hub}
+use Rattle.hub_machine.specs.State.{Hub}
 use Rattle.hub_run.specs.Turns.{Turn, visited, declined, refused, wanting, TurnAt, closes, turn_text, request_bytes}
 use Rattle.hub_run.specs.Connections.{Ran, IsOpenTurn}
 

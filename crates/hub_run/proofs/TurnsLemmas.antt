@@ -1,6 +1,6 @@
 -- One turn more.
 use Rattle.std.proofs.Common.{List, [], ◌∷◌, ◌++◌, refl, subst}
-use Rattle.hub_core.specs.State.{Hub}
+use Rattle.hub_machine.specs.State.{Hub}
 use Rattle.hub_run.specs.Turns.{Turn, View, Turns, Moves}
 
 pub turns_more : (start : Hub) (x y z : View) (ts : List Turn) (t : Turn) → Turns start x ts y → Moves start y t z → Turns start x (ts ++ t ∷ []) z

@@ -1,12 +1,13 @@
 -- Which requests have to be answered, and by what.
-use Rattle.std.specs.Prelude.{◌≡◌, ℕ, false, List, Some, Ok}
+use Rattle.std.specs.Prelude.{◌≡◌, ℕ, false, List, Option, Some, Ok}
+use Rattle.hub_kit.specs.declared.names.ServerKey.{ServerKey}
 use Rattle.http_wire.specs.declared.request.Request.{Request}
 use Rattle.hub_api.specs.Calls.{call_read, asked}
-use Rattle.hub_core.specs.Answer.{is_past}
-use Rattle.hub_core.specs.State.{Hub, good_token}
+use Rattle.hub_core.specs.Answer.{is_past, good_token}
+use Rattle.hub_machine.specs.State.{Hub}
 use Rattle.hub_core.specs.Visits.{Entry, Reached}
-use Rattle.hub_core.specs.declared.call.Call.TheVariants.{C3}
-use Rattle.hub_core.specs.declared.rows.Token.{Token}
+use Rattle.hub_machine.specs.declared.call.Call.TheVariants.{C3}
+use Rattle.hub_rows.specs.declared.records.Token.{Token}
 use Rattle.hub_run.specs.Turns.{Turn, visited, declined, refused, wanting}
 
 -- the turn is of this request, or a 507
@@ -16,8 +17,10 @@ IsOf request (declined text q e) = q ≡ request
 IsOf request (refused e) = ⊥
 IsOf request wanting = Unit {0}
 
--- the request asks who its caller is, and in the state that the entries left, at this moment, it names no revision past the history and its token is good
+-- the request asks who the owner of its token is, and in the state that the entries left, at this moment, it names no revision past the history and
+-- its token is kept and good
 pub record MayBeTold (start : Hub) (request : Request) (moment : ℕ) (before : List Entry) : Type 0 where
-  pub call : call_read request ≡ Ok (asked request C3)
+  pub server : Option ServerKey
+  pub call : call_read request ≡ Ok (asked request (C3 server))
   pub seen : (state : Hub) → Reached start before state → is_past state.length request.seen ≡ false
-  pub token : (state : Hub) → Reached start before state → (token : Token) × (good_token state moment request.token ≡ Some token)
+  pub token : (state : Hub) → Reached start before state → (token : Token) × (good_token state.tables moment request.token ≡ Some token)

@@ -7,7 +7,7 @@ use Rattle.http_wire.specs.Body.{RequestRefusedAt}
 use Rattle.http_wire.specs.declared.error.WireError.TheVariants as wire
 use Rattle.http_wire.specs.declared.error.SessionFault.{SessionFault}
 use Rattle.http_wire.specs.declared.error.SessionFault.TheVariants.{ReadFault, WriteFault}
-use Rattle.hub_core.specs.State.{Hub}
+use Rattle.hub_machine.specs.State.{Hub}
 use Rattle.hub_run.specs.Turns.{Turn, View, Turns, TurnAt, IsRight, closes, turn_text, request_bytes}
 use Rattle.hub_run.specs.declared.served.Served.{Served}
 use Rattle.hub_run.specs.declared.served.Served.TheVariants.{Ended, Cut, Closed}

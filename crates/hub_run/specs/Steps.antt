@@ -1,15 +1,13 @@
 -- What the parts of a turn say and leave.
-use Rattle.std.specs.Prelude.{◌≡◌, ◌⊎◌, ◌++◌, ℕ, Bool, true, List, None, Some, Result, Ok, Err, Option}
+use Rattle.std.specs.Prelude.{◌≡◌, ◌⊎◌, ◌++◌, ℕ, Bool, true, List, Some, Result, Ok, Err, Option}
 use Rattle.hub_devices.specs.Streams.{Appends}
 use Rattle.http_wire.specs.Body.{RequestRefusedAt}
 use Rattle.http_wire.specs.declared.error.WireError.{WireError}
 use Rattle.http_wire.specs.declared.error.WireError.TheVariants as wire
-use Rattle.hub_core.specs.State.{Hub}
-use Rattle.hub_core.specs.Replies as spec
-use Rattle.hub_core.specs.Answers.{outcome_view}
-use Rattle.hub_core.specs.Visits.{Entry, AnsweredAt}
-use Rattle.hub_core.specs.declared.call.Asked.{Asked}
-use Rattle.hub_core.specs.declared.reply.Outcome.{Outcome}
+use Rattle.hub_machine.specs.State.{Hub}
+use Rattle.hub_machine.specs.Replies as spec
+use Rattle.hub_machine.specs.Answers.{outcome_view}
+use Rattle.hub_machine.specs.declared.reply.Outcome.{Outcome}
 use Rattle.hub_api.specs.Refusals.{wire_refusal}
 use Rattle.hub_api.specs.ReplyText.{reply_text, no_memory}
 use Rattle.hub_run.specs.Turns.{Turn, View, Moves, TurnAt, turn_text}
@@ -24,11 +22,6 @@ Says r close text closed = ((text ≡ reply_text r close) × (closed ≡ close))
 abbrev pub SaysOutcome : {E : Type 0} → Result Outcome E → Bool → List ℕ → Bool → Type 0
 SaysOutcome (Ok o) close text closed = (r : spec.Reply) × (outcome_view o ≡ spec.answered r) × Says r close text closed
 SaysOutcome (Err e) close text closed = (text ≡ no_memory) × (closed ≡ true)
-
--- a visit gave this, or found no memory and left the entries as they were
-abbrev pub Answers : {E : Type 0} → Hub → ℕ → List Entry → List Entry → Asked → Result Outcome E → Type 0
-Answers start moment before after asked (Ok o) = AnsweredAt start before after moment None asked o
-Answers start moment before after asked (Err e) = after ≡ before
 
 -- the refusal's text, or a 507
 abbrev pub Refuses : WireError → List ℕ → Type 0

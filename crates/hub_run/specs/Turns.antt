@@ -8,12 +8,12 @@ use Rattle.http_wire.specs.declared.error.WireError.{WireError}
 use Rattle.http_wire.specs.declared.request.Request.{Request}
 use Rattle.http_wire.specs.Request.{IsRequestText}
 use Rattle.http_wire.specs.Body.{RequestRefusedAt, WithinRequest}
-use Rattle.hub_core.specs.State.{Hub}
-use Rattle.hub_core.specs.Replies.{Reply, answered}
-use Rattle.hub_core.specs.Answers.{outcome_view}
-use Rattle.hub_core.specs.Visits.{Entry, AnsweredAt}
-use Rattle.hub_core.specs.declared.call.Asked.{Asked}
-use Rattle.hub_core.specs.declared.reply.Outcome.{Outcome}
+use Rattle.hub_machine.specs.State.{Hub}
+use Rattle.hub_machine.specs.Replies.{Reply, answered}
+use Rattle.hub_machine.specs.Answers.{outcome_view}
+use Rattle.hub_core.specs.Visits.{Entry, AnsweredAt, FaultedAt}
+use Rattle.hub_machine.specs.declared.call.Asked.{Asked}
+use Rattle.hub_machine.specs.declared.reply.Outcome.{Outcome}
 use Rattle.hub_api.specs.Calls.{call_read}
 use Rattle.hub_api.specs.Refusals.{api_refusal, wire_refusal}
 use Rattle.hub_api.specs.ReplyText.{reply_text, no_memory}
@@ -51,10 +51,15 @@ closes wanting = true
 
 -- ---- what is read
 
--- the reply is that of the machine in the state that the entries before the visit left
+-- a visit at this moment found the entries `before`, left `after`, and gave this: what the state that `before` left answers, or a 503 where the
+-- keeper refused the rows of an answer that has some
+abbrev pub GivenAt : Hub → ℕ → List Entry → List Entry → Asked → Outcome → Type 0
+GivenAt start moment before after asked o = AnsweredAt start before after moment None asked o ⊎ FaultedAt start before after moment None asked o
+
+-- the reply says what the visit gave to the call of the request
 abbrev pub IsAnswered : Hub → Request → ℕ → List Entry → List Entry → Reply → Type 0
 IsAnswered start q moment before after r =
-    (asked : Asked) × (o : Outcome) × (call_read q ≡ Ok asked) × AnsweredAt start before after moment None asked o × (outcome_view o ≡ answered r)
+    (asked : Asked) × (o : Outcome) × (call_read q ≡ Ok asked) × GivenAt start moment before after asked o × (outcome_view o ≡ answered r)
 
 -- the bytes of a turn's request
 abbrev pub request_bytes : Turn → List ℕ
@@ -96,10 +101,10 @@ pub record Visits (x : View) (moment : ℕ) (before after : List Entry) (y : Vie
   pub mine : y.pass.mine ≡ x.pass.mine ++ added before after
   pub told : Tells x.clock moment y.clock
 
--- the entries that a visit left are those that it found, or those of an answer
+-- the entries that a visit left are those that it found, or those of what it gave
 abbrev pub IsLeft : Hub → ℕ → List Entry → List Entry → Type 0
 IsLeft start moment before after =
-    (after ≡ before) ⊎ ((asked : Asked) × (o : Outcome) × AnsweredAt start before after moment None asked o)
+    (after ≡ before) ⊎ ((asked : Asked) × (o : Outcome) × GivenAt start moment before after asked o)
 
 abbrev pub Moves : Hub → View → Turn → View → Type 0
 Moves start x (visited text q moment before after r) y = Visits x moment before after y

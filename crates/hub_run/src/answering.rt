@@ -2,7 +2,7 @@
 ghost use Rattle.std.specs.Prelude.{◌≡◌, ◌||◌, ◌++◌, ℕ, true, List, Option, Some};
 ghost use Rattle.http_wire.specs.Request.{IsRequestText};
 ghost use Rattle.hub_api.specs.Paths.{hub_rows};
-ghost use Rattle.hub_core.specs.State.{Hub};
+ghost use Rattle.hub_machine.specs.State.{Hub};
 ghost use Rattle.hub_run.specs.Turns.{Turn, TurnAt, Moves, turn_text, closes};
 ghost use Rattle.hub_run.specs.Written.{written_bytes};
 
@@ -10,19 +10,22 @@ use crate::visit::ask;
 use crate::written::{Written, text_of_outcome, text_of_refusal};
 use desk::{Desk, Pass};
 use http_wire::request::Request;
-use hub_api::{ApiRouter, read_call};
-use hub_core::Book;
+use hub_api::{ApiRefusal, ApiRouter, read_call};
+use hub_core::book::Book;
 use hub_devices::clock::Clock;
+use hub_machine::change::Change;
+use keeper::keeper::Keeper;
+use keeper::trail::Trail;
 use std::alloc::Global;
 use std::sync::Wait;
 
 /// The reply to a request, with whether the connection is to be closed.
-pub(crate) fn answer<C: Clock, W: Wait>(
+pub(crate) fn answer<K: Keeper, T: Trail<Entry = Change>, C: Clock, W: Wait>(
     rt: &W,
     alloc: Global,
     router: &ApiRouter,
-    desk: &Desk<Book>,
-    pass: &mut Pass<Book>,
+    desk: &Desk<Book<K, T>>,
+    pass: &mut Pass<Book<K, T>>,
     clock: &mut C,
     request: Request,
     last: bool,
@@ -38,11 +41,12 @@ pub(crate) fn answer<C: Clock, W: Wait>(
         × (result.1 ≡ (closes turn || last)) × (written_bytes result.0 ≡ turn_text turn result.1) }
 {
     let close = closes_after(&request, last);
-    match read_call(router, request) {
+    match read_call(alloc, router, request) {
         Ok(asked) => {
             let outcome = ask(rt, alloc, desk, pass, clock, asked);
             text_of_outcome(alloc, &outcome, close)
         }
+        Err(ApiRefusal::Memory) => (Written::NoMemory, true),
         Err(refusal) => text_of_refusal(alloc, refusal, close),
     }
 }

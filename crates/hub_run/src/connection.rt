@@ -1,7 +1,7 @@
 //! One connection from its first request to its end.
 ghost use Rattle.std.specs.Prelude.{◌≡◌, ◌≤◌, ℕ, Some, Err};
 ghost use Rattle.hub_api.specs.Paths.{hub_rows};
-ghost use Rattle.hub_core.specs.State.{Hub};
+ghost use Rattle.hub_machine.specs.State.{Hub};
 ghost use Rattle.hub_devices.specs.Faults.{Rises};
 ghost use Rattle.hub_run.specs.Connections.{ConnectionEnds};
 
@@ -12,10 +12,13 @@ use http_wire::buffer::WireBuffer;
 use http_wire::error::SessionFault;
 use http_wire::writes::write_all;
 use hub_api::{ApiRouter, new_router, no_memory};
-use hub_core::Book;
+use hub_core::book::Book;
 use hub_devices::clock::Clock;
 use hub_devices::sink::Sink;
 use hub_devices::source::Source;
+use hub_machine::change::Change;
+use keeper::keeper::Keeper;
+use keeper::trail::Trail;
 use std::alloc::Global;
 use std::sync::Wait;
 
@@ -25,11 +28,11 @@ pub const REPLY_LIMIT: u64 = 1000;
 /// Serves one connection: reads requests one after the other and writes one reply for each. It ends where the input ends,
 /// after a reply that closes the connection (one that a request asks to be the last, one to HTTP/1.0, a refusal of the
 /// wire, a 507, or the thousandth), or at the first fault of the source or the sink.
-pub fn serve_connection<I: Source, O: Sink, C: Clock, W: Wait>(
+pub fn serve_connection<K: Keeper, T: Trail<Entry = Change>, I: Source, O: Sink, C: Clock, W: Wait>(
     rt: &W,
     alloc: Global,
-    desk: &Desk<Book>,
-    pass: &mut Pass<Book>,
+    desk: &Desk<Book<K, T>>,
+    pass: &mut Pass<Book<K, T>>,
     input: &mut I,
     output: &mut O,
     clock: &mut C,
@@ -56,12 +59,12 @@ pub fn serve_connection<I: Source, O: Sink, C: Clock, W: Wait>(
 }
 
 /// The turns of a connection, by a router of its own.
-fn serve_turns<I: Source, O: Sink, C: Clock, W: Wait>(
+fn serve_turns<K: Keeper, T: Trail<Entry = Change>, I: Source, O: Sink, C: Clock, W: Wait>(
     rt: &W,
     alloc: Global,
     router: &ApiRouter,
-    desk: &Desk<Book>,
-    pass: &mut Pass<Book>,
+    desk: &Desk<Book<K, T>>,
+    pass: &mut Pass<Book<K, T>>,
     input: &mut I,
     output: &mut O,
     clock: &mut C,

@@ -2,8 +2,8 @@
 ghost use Rattle.std.specs.Prelude.{◌≡◌, ◌++◌, ℕ, List, Option};
 ghost use Rattle.http_wire.specs.Request.{IsRequestText};
 ghost use Rattle.http_wire.specs.declared.request.Request.{Request};
-ghost use Rattle.hub_core.specs.Replies.{Reply};
-ghost use Rattle.hub_core.specs.State.{Hub};
+ghost use Rattle.hub_machine.specs.Replies.{Reply};
+ghost use Rattle.hub_machine.specs.State.{Hub};
 ghost use Rattle.hub_core.specs.Visits.{Entry};
 ghost use Rattle.hub_run.specs.Complete.{IsOf, MayBeTold};
 ghost use Rattle.hub_run.specs.Turns.{Turn, TurnAt, IsAnswered};
@@ -18,8 +18,8 @@ pub fn a_request_gets_its_turn()
     next_request_is_one()
 }
 
-/// A visited request for the identity, with a good token and with no revision named that is past the history, is answered
-/// 200. So where no count of faults rose, it is answered 200 or 507.
+/// A visited request for the identity, with a token that is kept and good and with no revision named that is past the history,
+/// is answered 200. So where no count of faults rose, it is answered 200 or 507.
 pub fn a_good_request_is_answered()
     ensures { (start : Hub) (request : Request) (moment : ℕ) (before after : List Entry) (r : Reply)
         → IsAnswered start request moment before after r → MayBeTold start request moment before → r.status ≡ 200 }

@@ -5,7 +5,7 @@ ghost use Rattle.hub_devices.specs.Faults.{Rises};
 ghost use Rattle.http_wire.specs.Took.{Took};
 ghost use Rattle.http_wire.specs.Request.{IsRequestText};
 ghost use Rattle.hub_api.specs.Paths.{hub_rows};
-ghost use Rattle.hub_core.specs.State.{Hub};
+ghost use Rattle.hub_machine.specs.State.{Hub};
 ghost use Rattle.hub_run.specs.Steps.{StopsAt, TurnEnds};
 ghost use Rattle.hub_run.specs.Turns.{Turn, TurnAt, Moves, turn_text, closes};
 ghost use Rattle.hub_run.specs.Written.{written_bytes};
@@ -19,20 +19,23 @@ use http_wire::error::WireError;
 use http_wire::requests::read_request;
 use http_wire::writes::write_all;
 use hub_api::ApiRouter;
-use hub_core::Book;
+use hub_core::book::Book;
 use hub_devices::clock::Clock;
 use hub_devices::sink::Sink;
 use hub_devices::source::Source;
+use hub_machine::change::Change;
+use keeper::keeper::Keeper;
+use keeper::trail::Trail;
 use std::alloc::Global;
 use std::sync::Wait;
 
 /// Reads what comes next, and makes its reply. `true` says that the connection is to be closed.
-fn next_reply<I: Source, C: Clock, W: Wait>(
+fn next_reply<K: Keeper, T: Trail<Entry = Change>, I: Source, C: Clock, W: Wait>(
     rt: &W,
     alloc: Global,
     router: &ApiRouter,
-    desk: &Desk<Book>,
-    pass: &mut Pass<Book>,
+    desk: &Desk<Book<K, T>>,
+    pass: &mut Pass<Book<K, T>>,
     input: &mut I,
     kept: &mut WireBuffer,
     clock: &mut C,
@@ -62,12 +65,12 @@ fn next_reply<I: Source, C: Clock, W: Wait>(
 }
 
 /// Reads what comes next and writes its reply. `true` says that the connection is to be closed.
-pub(crate) fn turn<I: Source, O: Sink, C: Clock, W: Wait>(
+pub(crate) fn turn<K: Keeper, T: Trail<Entry = Change>, I: Source, O: Sink, C: Clock, W: Wait>(
     rt: &W,
     alloc: Global,
     router: &ApiRouter,
-    desk: &Desk<Book>,
-    pass: &mut Pass<Book>,
+    desk: &Desk<Book<K, T>>,
+    pass: &mut Pass<Book<K, T>>,
     input: &mut I,
     output: &mut O,
     kept: &mut WireBuffer,

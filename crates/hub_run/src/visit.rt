@@ -1,22 +1,27 @@
 //! The visit of an asked call.
-ghost use Rattle.std.specs.Prelude.{◌≡◌, ℕ, List, Some};
-ghost use Rattle.hub_core.specs.State.{Hub};
-ghost use Rattle.hub_core.specs.Visits.{Entry};
+ghost use Rattle.std.specs.Prelude.{◌≡◌, ℕ, List, Some, None};
+ghost use Rattle.hub_machine.specs.State.{Hub};
+ghost use Rattle.hub_core.specs.Visits.{Entry, VisitedAt};
 ghost use Rattle.hub_run.specs.Turns.{View, Visits};
-ghost use Rattle.hub_run.specs.Steps.{Answers};
 
 use desk::{Desk, Pass};
-use hub_core::{Ask, Asked, Book, Outcome};
+use hub_core::ask::Ask;
+use hub_core::book::Book;
 use hub_devices::clock::Clock;
+use hub_machine::call::Asked;
+use hub_machine::change::Change;
+use hub_machine::reply::Outcome;
+use keeper::keeper::Keeper;
+use keeper::trail::Trail;
 use std::alloc::{AllocError, Global};
 use std::sync::Wait;
 
 /// Reads the clock, and visits the book with the call.
-pub(crate) fn ask<C: Clock, W: Wait>(
+pub(crate) fn ask<K: Keeper, T: Trail<Entry = Change>, C: Clock, W: Wait>(
     rt: &W,
     alloc: Global,
-    desk: &Desk<Book>,
-    pass: &mut Pass<Book>,
+    desk: &Desk<Book<K, T>>,
+    pass: &mut Pass<Book<K, T>>,
     clock: &mut C,
     asked: Asked,
 ) -> Result<Outcome, AllocError>
@@ -25,7 +30,7 @@ pub(crate) fn ask<C: Clock, W: Wait>(
     ensures base { pass.new.base ≡ pass.old.base }
     ensures answers { (start : Hub) → pass.old.base ≡ Some start → (moment : ℕ) × (before after : List Entry)
         × Visits (record { pass = pass.old; clock = C.to_come clock.old }) moment before after (record { pass = pass.new; clock = C.to_come clock.new })
-        × Answers start moment before after asked result }
+        × VisitedAt start before after moment None asked result }
 {
     let now = clock.now();
     let mut ask = Ask::new(alloc, now, None, asked);

@@ -1,14 +1,14 @@
 //! What is written in a turn.
 ghost use Rattle.std.specs.Prelude.{◌≡◌, true};
 ghost use Rattle.hub_api.specs.Refusals.{api_refusal};
-ghost use Rattle.hub_core.specs.Answers.{reply_view};
+ghost use Rattle.hub_machine.specs.Answers.{reply_view};
 ghost use Rattle.hub_run.specs.Steps.{Says, SaysOutcome, Refuses};
 ghost use Rattle.hub_run.specs.Written.{written_bytes};
 
 use http_wire::error::WireError;
 use hub_api::{ApiRefusal, no_memory, refusal_reply, reply_text, wire_refusal_reply};
-use hub_core::{Outcome, Reply};
 use hub_kit::bytes::Bytes;
+use hub_machine::reply::{Outcome, Reply};
 use std::alloc::{AllocError, Global};
 
 /// A reply's text, or what is sent where there is no memory for one.

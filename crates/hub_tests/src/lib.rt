@@ -8,3 +8,7 @@ mod of_hub_api;
 mod of_hub_main;
 #[cfg(test)]
 mod of_hub_run;
+#[cfg(test)]
+mod of_sessions;
+#[cfg(test)]
+mod talk;

@@ -1,11 +1,13 @@
 //! The texts of replies, and requests that ask calls or none.
 use http_wire::error::WireError;
 use http_wire::request::Request;
-use hub_api::{new_router, read_call, refusal_reply, reply_text, wire_refusal_reply};
-use hub_core::Reply;
+use hub_api::{ApiRefusal, new_router, read_call, refusal_reply, reply_text, wire_refusal_reply};
 use hub_kit::bytes::Bytes;
 use hub_kit::text::Text;
+use hub_machine::call::{Asked, Call};
+use hub_machine::reply::Reply;
 use hub_view::{Body, add_member, line, lines, message_body};
+use scope_filters::scope::ScopeError;
 use std::alloc::{AllocError, Global};
 use std::test::Fail;
 
@@ -76,23 +78,30 @@ fn a_wire_refusal_as_text(rt: HostRuntime) -> Result<(), Fail> {
     Ok(())
 }
 
-fn request(alloc: Global, method: &str, path: &str) -> Result<Request, AllocError> {
-    Ok(Request {
+/// What a request asks.
+fn asked(
+    alloc: Global,
+    method: &str,
+    target: (&str, &str),
+    body: &[u8],
+) -> Result<Result<Asked, ApiRefusal>, AllocError> {
+    let router = new_router(alloc)?;
+    let request = Request {
         method: Text::from_str(alloc, method)?,
-        path: Text::from_str(alloc, path)?,
-        query: Text::new(alloc),
+        path: Text::from_str(alloc, target.0)?,
+        query: Text::from_str(alloc, target.1)?,
         token: None,
         seen: None,
         paged: false,
         close: false,
-        body: Bytes::new(alloc),
-    })
+        body: Bytes::from_slice(alloc, body)?,
+    };
+    Ok(read_call(alloc, &router, request))
 }
 
-/// The text of the refusal of a request, or nothing where it asks a call.
+/// The text of the reply to a request that asks no call, or nothing where it asks one.
 fn refusal_text(alloc: Global, method: &str, path: &str) -> Result<Bytes, AllocError> {
-    let router = new_router(alloc)?;
-    match read_call(&router, request(alloc, method, path)?) {
+    match asked(alloc, method, (path, ""), b"")? {
         Ok(_) => Ok(Bytes::new(alloc)),
         Err(refusal) => reply_text(alloc, &refusal_reply(alloc, refusal)?, false),
     }
@@ -106,10 +115,85 @@ fn requests_that_ask_no_call(rt: HostRuntime) -> Result<(), Fail> {
         text.as_slice()
             == b"HTTP/1.1 405 Method Not Allowed\r\nContent-Type: application/json\r\nContent-Length: 45\r\n\r\n{\"message\":\"method not allowed\",\"status\":405}".as_slice()
     );
-    let text = refusal_text(alloc, "PUT", "/hub/api/nothing")?;
+    let text = refusal_text(alloc, "GET", "/hub/api/nothing")?;
     assert!(rt;
         text.as_slice()
             == b"HTTP/1.1 404 Not Found\r\nContent-Type: application/json\r\nContent-Length: 39\r\n\r\n{\"message\":\"no such path\",\"status\":404}".as_slice()
     );
+    let text = refusal_text(alloc, "GET", "/hub/api/users/Zed")?;
+    assert!(rt;
+        text.as_slice()
+            == b"HTTP/1.1 400 Bad Request\r\nContent-Type: application/json\r\nContent-Length: 35\r\n\r\n{\"message\":\"bad name\",\"status\":400}".as_slice()
+    );
+    Ok(())
+}
+
+/// Whether a request asks no call, for this reason.
+fn is_refused(
+    alloc: Global,
+    method: &str,
+    target: (&str, &str),
+    body: &[u8],
+    reason: ApiRefusal,
+) -> Result<bool, AllocError> {
+    match asked(alloc, method, target, body)? {
+        Ok(_) => Ok(false),
+        Err(refusal) => Ok(refusal == reason),
+    }
+}
+
+#[test]
+fn the_parts_of_requests(rt: HostRuntime) -> Result<(), Fail> {
+    let alloc = rt.alloc();
+    let list = ("/hub/api/users", "limit=0");
+    assert!(rt; is_refused(alloc, "GET", list, b"", ApiRefusal::BadQuery)?);
+    let ann = ("/hub/api/users/ann", "");
+    assert!(rt;
+        is_refused(
+            alloc,
+            "PATCH",
+            ann,
+            b"{\"admin\":null}",
+            ApiRefusal::BadBody
+        )?
+    );
+    let role = ("/hub/api/roles/guests", "");
+    let reason = ApiRefusal::BadScope {
+        index: 1,
+        error: ScopeError::UnknownName,
+    };
+    assert!(rt;
+        is_refused(
+            alloc,
+            "PUT",
+            role,
+            b"{\"scopes\":[\"self\",\"reed:users\"]}",
+            reason
+        )?
+    );
+    match asked(
+        alloc,
+        "PUT",
+        role,
+        b"{\"scopes\":[\"self\"],\"users\":[\"ann\",\"bob\"]}",
+    )? {
+        Ok(
+            Asked {
+                call: Call::C33 {
+                    r,
+                    scopes,
+                    users,
+                    groups,
+                    services,
+                },
+                ..
+            },
+        ) => {
+            assert!(rt; r.as_bytes() == b"guests".as_slice());
+            assert!(rt; scopes.len() == 1 && users.len() == 2);
+            assert!(rt; groups.is_empty() && services.is_empty());
+        }
+        _ => panic!(rt; "no role is asked"),
+    }
     Ok(())
 }

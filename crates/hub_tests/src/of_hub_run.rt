@@ -1,14 +1,22 @@
 //! Whole connections over memory: what is written, and how they end.
+use crate::talk::{ask, refuse, say, user};
 use desk::Desk;
 use http_wire::error::SessionFault;
-use hub_core::{Book, HubConfig};
+use hub_core::book::Book;
+use hub_core::config::{ConfigToken, ConfigUser, HubConfig, greatest_limits};
 use hub_devices::mem_bytes::{MemSink, MemSource};
 use hub_devices::mem_clock::FixedClock;
 use hub_kit::bytes::Bytes;
+use hub_kit::list::List;
 use hub_kit::moments::moment;
 use hub_kit::names::read_user;
 use hub_kit::text::Text;
+use hub_machine::change::Change;
 use hub_run::{Served, serve_connection};
+use keeper::mem_keeper::MemKeeper;
+use keeper::trail::ListTrail;
+use scope_filters::holder::Owner;
+use scope_filters::scope::RawScope;
 use std::alloc::Global;
 use std::sync::Wait;
 use std::test::Fail;
@@ -19,10 +27,50 @@ const IDENTITY: &[u8] =
 const IDENTITY_REPLY: &[u8] =
     b"HTTP/1.1 200 OK\r\nContent-Type: application/json\r\nContent-Length: 142\r\nX-Hub-Revision: 0\r\n\r\n{\"admin\":false,\"created\":\"2023-11-14T22:13:20Z\",\"groups\":[],\"kind\":\"user\",\"last_activity\":null,\"name\":\"ann\",\"scopes\":[\"inherit\"],\"servers\":{}}";
 
-/// Serves one connection for ann. The numbers are those of the read and the write that are to fail.
-fn serve<W: Wait>(
+type MemBook = Book<MemKeeper, ListTrail<Change>>;
+
+/// A book of ann and a token of ann's. The keeper fails at the calls with these numbers, of which the opening makes the first two.
+fn open_book(
+    alloc: Global,
+    admin: bool,
+    trail_bytes: u64,
+    failing: &[u64],
+) -> Result<MemBook, Fail> {
+    let Some(now) = moment(1_700_000_000) else {
+        return Err("no moment".into());
+    };
+    let Ok(name) = read_user(b"ann") else {
+        return Err("no name".into());
+    };
+    let user = ConfigUser { name, admin };
+    let token = ConfigToken {
+        text: Text::from_str(alloc, "secret-token-ann")?,
+        owner: Owner::User(name),
+        scopes: List::from_vec(vec![in alloc; RawScope::Inherit]?),
+        expires_at: None,
+    };
+    let mut limits = greatest_limits();
+    limits.trail_bytes = trail_bytes.min(1_073_741_824);
+    let config = HubConfig {
+        pool: List::new(alloc),
+        hub_url: None,
+        limits,
+        no_trail: false,
+        users: List::from_vec(vec![in alloc; user]?),
+        tokens: List::from_vec(vec![in alloc; token]?),
+    };
+    let keeper = MemKeeper::new(alloc, Vec::new(alloc), Vec::from_slice(alloc, failing)?)?;
+    match Book::open(alloc, keeper, ListTrail::new(alloc), &config, now) {
+        Ok(book) => Ok(book),
+        Err(_) => Err("no book".into()),
+    }
+}
+
+/// Serves one connection over this book. The numbers are those of the read and the write that are to fail.
+fn serve_book<W: Wait>(
     rt: &W,
     alloc: Global,
+    book: MemBook,
     input: &[u8],
     cut: usize,
     failing_read: u64,
@@ -31,16 +79,7 @@ fn serve<W: Wait>(
     let Some(now) = moment(1_700_000_000) else {
         return Err("no moment".into());
     };
-    let Ok(user) = read_user(b"ann") else {
-        return Err("no name".into());
-    };
-    let config = HubConfig {
-        user,
-        admin: false,
-        token: Text::from_str(alloc, "secret-token-ann")?,
-        expires_at: None,
-    };
-    let Ok((desk, mut pass)) = Desk::open(alloc, Book::open(alloc, &config, now)?) else {
+    let Ok((desk, mut pass)) = Desk::open(alloc, book) else {
         return Err("no desk".into());
     };
     let mut source = MemSource::new(
@@ -60,6 +99,74 @@ fn serve<W: Wait>(
         &mut clock,
     );
     Ok((served, sink))
+}
+
+/// Serves one connection for ann, who is no admin.
+fn serve<W: Wait>(
+    rt: &W,
+    alloc: Global,
+    input: &[u8],
+    cut: usize,
+    failing_read: u64,
+    failing_write: u64,
+) -> Result<(Result<Served, SessionFault>, MemSink), Fail> {
+    let book = open_book(alloc, false, 1_073_741_824, &[])?;
+    serve_book(rt, alloc, book, input, cut, failing_read, failing_write)
+}
+
+#[test]
+fn a_commit_fails_once(rt: HostRuntime) -> Result<(), Fail> {
+    let alloc = rt.alloc();
+    let mut input = Bytes::new(alloc);
+    ask(alloc, &mut input, "POST /hub/api/users/zed", "")?;
+    ask(alloc, &mut input, "GET /hub/api/users/zed", "")?;
+    ask(alloc, &mut input, "POST /hub/api/users/zed", "")?;
+    ask(alloc, &mut input, "POST /hub/api/users/zed", "")?;
+    let mut replies = Bytes::new(alloc);
+    let zed = user(alloc, "zed", false, "\"user\"")?;
+    refuse(
+        alloc,
+        &mut replies,
+        "503 Service Unavailable",
+        "0",
+        "keeper",
+    )?;
+    refuse(alloc, &mut replies, "404 Not Found", "0", "not found")?;
+    say(alloc, &mut replies, "201 Created", "1", zed.as_str())?;
+    refuse(alloc, &mut replies, "409 Conflict", "1", "exists: zed")?;
+    let book = open_book(alloc, true, 1_073_741_824, &[2])?;
+    let (served, sink) = serve_book(&rt, alloc, book, input.as_slice(), 100, 999, 999)?;
+    assert!(rt; served == Ok(Served::Ended(4)));
+    assert!(rt; sink.as_slice() == replies.as_slice());
+    Ok(())
+}
+
+#[test]
+fn a_full_trail_still_answers(rt: HostRuntime) -> Result<(), Fail> {
+    let alloc = rt.alloc();
+    let mut input = Bytes::new(alloc);
+    ask(alloc, &mut input, "POST /hub/api/users/zed", "")?;
+    input.push_all(IDENTITY)?;
+    let mut replies = Bytes::new(alloc);
+    refuse(
+        alloc,
+        &mut replies,
+        "500 Internal Server Error",
+        "0",
+        "trail full",
+    )?;
+    say(
+        alloc,
+        &mut replies,
+        "200 OK",
+        "0",
+        "{\"admin\":true,\"created\":\"2023-11-14T22:13:20Z\",\"groups\":[],\"kind\":\"user\",\"last_activity\":null,\"name\":\"ann\",\"roles\":[\"admin\",\"user\"],\"scopes\":[\"inherit\"],\"servers\":{}}",
+    )?;
+    let book = open_book(alloc, true, 63, &[])?;
+    let (served, sink) = serve_book(&rt, alloc, book, input.as_slice(), 100, 999, 999)?;
+    assert!(rt; served == Ok(Served::Ended(2)));
+    assert!(rt; sink.as_slice() == replies.as_slice());
+    Ok(())
 }
 
 #[test]

@@ -1,3 +1,4 @@
 pub mod Collecting
 pub mod EachEntry
 pub mod Looked
+mod SharesOf

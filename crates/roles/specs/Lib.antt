@@ -1,3 +1,4 @@
 pub mod Lending
 pub mod Looks
+pub mod Received
 pub mod Rights

@@ -9,9 +9,9 @@ ghost use Rattle.hub_tables.specs.Lookups.{is_admin};
 ghost use Rattle.roles.specs.Rights.{context, roles_held, shares_received};
 ghost use Rattle.roles.specs.Rights as spec;
 
+use crate::received::push_received;
 use hub_kit::names::UserName;
-use hub_rows::keys::Recipient;
-use hub_rows::records::{Role, Share};
+use hub_rows::records::Role;
 use hub_tables::tables::Tables;
 use scope_filters::holder::Owner;
 use scope_filters::members::Members;
@@ -30,7 +30,7 @@ pub(crate) fn scopes_held(
     let mut scopes = Vec::new(alloc);
     push_fixed(&mut scopes, t, owner)?;
     push_roles(&mut scopes, t, owner)?;
-    push_shares(&mut scopes, t, owner)?;
+    push_shares(alloc, &mut scopes, t, owner)?;
     Ok(scopes)
 }
 
@@ -133,40 +133,18 @@ fn names_group_of(t: &Tables, role: &Role, user: &UserName) -> bool
 }
 
 /// Appends the scopes of the shares that the owner received.
-fn push_shares(scopes: &mut Vec<RawScope>, t: &Tables, owner: &Owner) -> Result<(), AllocError>
-    ensures { OnOk result (scopes.new.items ≡ scopes.old.items ++ flat_map (λ share. share.scopes) (shares_received t.now owner.now)) }
-{
-    for share in t.shares() {
-        push_share(scopes, t, owner, share)?;
-    }
-    Ok(())
-}
-
-fn push_share(
+fn push_shares(
+    alloc: Global,
     scopes: &mut Vec<RawScope>,
     t: &Tables,
     owner: &Owner,
-    share: &Share,
 ) -> Result<(), AllocError>
-    ensures { OnOk result (scopes.new.items ≡ scopes.old.items ++ (if spec.received t.now owner.now share.now.key.to then share.now.scopes else [])) }
+    ensures { OnOk result (scopes.new.items ≡ scopes.old.items ++ flat_map (λ share. share.scopes) (shares_received t.now owner.now)) }
 {
-    if received(t, owner, &share.key.to) {
-        return scopes.extend_from_slice(share.scopes.as_slice());
+    if let Owner::User(user) = owner {
+        push_received(alloc, scopes, t, user)?;
     }
     Ok(())
-}
-
-/// Whether it was shared to the owner, or to a group that the owner is in.
-fn received(t: &Tables, owner: &Owner, to: &Recipient) -> bool
-    ensures { result ≡ spec.received t.now owner.now to.now }
-{
-    match owner {
-        Owner::User(user) => match to {
-            Recipient::User(other) => *user == *other,
-            Recipient::Group(group) => t.is_member(user, group),
-        },
-        Owner::Service(_) => false,
-    }
 }
 
 /// The actions of the table, none of them a custom one.

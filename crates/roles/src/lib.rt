@@ -7,3 +7,4 @@ pub mod cache;
 pub mod grants;
 pub mod held;
 pub mod names;
+mod received;

@@ -11,6 +11,8 @@ mod of_keyed_rows;
 #[cfg(test)]
 mod of_record_texts;
 #[cfg(test)]
+mod of_roles;
+#[cfg(test)]
 mod of_scope_expand;
 #[cfg(test)]
 mod of_scope_filters;

@@ -1,5 +1,5 @@
 use Rattle.std.proofs.Common.{◌≡◌, ◌≤◌, ◌<◌, ◌-◌, [], List, length, Some}
-use Rattle.hub_core.specs.State.{Hub}
+use Rattle.hub_machine.specs.State.{Hub}
 use Rattle.hub_run.specs.Turns.{Turn, Turns}
 use Rattle.hub_run.specs.Connections.{Ran}
 use Rattle.hub_run.proofs.connection.serve_turns.Given as goal

@@ -1,0 +1,14 @@
+use Rattle.std.proofs.Common.{ap, sym, ◌∙◌, Option, ℕ, Result, Ok}
+use Rattle.hub_machine.specs.declared.call.Call.{Call}
+use Rattle.request_parts.specs.Steps.{◌>>=◌}
+use Rattle.hub_api.specs.Calls.{asked, call_of, call_read}
+use Rattle.hub_api.specs.Paths.{row_of}
+use Rattle.hub_api.specs.declared.refusal.ApiRefusal.{ApiRefusal}
+use Rattle.hub_api.proofs.reading.read_call.Goals as goal
+
+pub returns : goal.returns
+unfolding call_read
+returns c =
+    let q = c.args.request in
+    ap (λ (row : Option ℕ). call_of row q >>= (λ call. Ok (asked q call))) (sym (c.row_of-row.ensures ∙ ap row_of c.as_str.ensures))
+    ∙ ap (λ (call : Result Call ApiRefusal). call >>= (λ call. Ok (asked q call))) c.in_ok-call.ensures

@@ -1,0 +1,71 @@
+-- The bodies of the calls.
+use Rattle.std.specs.Prelude.{ℕ, Bool, true, false, not, ◌&&◌, nat_le, List, [], ◌∷◌, length, codes, bytes_eq, Option, Some, Result, Ok, Err, ok_or}
+use Rattle.std.specs.List.{list_any}
+use Rattle.serde_json.specs.Data.{Data}
+use Rattle.http_wire.specs.declared.request.Request.{Request}
+use Rattle.scope_filters.specs.declared.scope.RawScope.{RawScope}
+use Rattle.request_parts.specs.Steps.{◌>>=◌}
+use Rattle.request_parts.specs.Names.{name_of}
+use Rattle.request_parts.specs.Bodies.{body_object, truth_at, truth_or, list_at}
+use Rattle.request_parts.specs.Scopes.{scopes_read}
+use Rattle.request_parts.specs.declared.scopes.ScopeFault.{ScopeFault}
+use Rattle.hub_api.specs.declared.refusal.ApiRefusal.{ApiRefusal}
+use Rattle.hub_api.specs.declared.refusal.ApiRefusal.TheVariants.{BadBody, BadScope}
+
+-- the value, if it passes the test
+abbrev pub if_of_form : {T : Type 0} → Bool → T → Result T ApiRefusal
+if_of_form true value = Ok value
+if_of_form false value = Err BadBody
+
+-- the one JSON object that the body is
+unfoldable pub body_of : Request → Result Data ApiRefusal
+body_of q = ok_or (body_object q.body) BadBody
+
+-- a truth value whose key has to stand there
+unfoldable pub needed_truth : List ℕ → Data → Result Bool ApiRefusal
+needed_truth key body = ok_or (truth_at key body) BadBody
+
+-- a truth value that is false where its key is absent
+unfoldable pub truth : List ℕ → Data → Result Bool ApiRefusal
+truth key body = ok_or (truth_or false key body) BadBody
+
+-- a list of texts of a form, which is empty where its key is absent
+unfoldable pub list : {N : Type 0} → (List ℕ → Option N) → List ℕ → Data → Result (List N) ApiRefusal
+list reads key body = ok_or (list_at reads key body) BadBody
+
+-- a list of names
+abbrev pub names : List ℕ → Data → Result (List (List ℕ)) ApiRefusal
+names key body = list name_of key body
+
+-- a list of 1 to 1,000 names
+abbrev pub are_some : List (List ℕ) → Bool
+are_some names = nat_le 1 (length names) && nat_le (length names) 1000
+
+unfoldable pub some_names : List ℕ → Data → Result (List (List ℕ)) ApiRefusal
+some_names key body = do
+  read ← names key body
+  if_of_form (are_some read) read
+
+abbrev pub are_distinct : List (List ℕ) → Bool
+are_distinct [] = true
+are_distinct (name ∷ rest) = not (list_any (λ other. bytes_eq other name) rest) && are_distinct rest
+
+-- a list of 1 to 1,000 distinct names
+unfoldable pub distinct_names : List ℕ → Data → Result (List (List ℕ)) ApiRefusal
+distinct_names key body = do
+  read ← some_names key body
+  if_of_form (are_distinct read) read
+
+-- at most 64 texts that are to be scopes
+unfoldable pub scope_texts : Data → Result (List (List ℕ)) ApiRefusal
+scope_texts body = do
+  texts ← list Some (codes "scopes") body
+  if_of_form (nat_le (length texts) 64) texts
+
+abbrev pub scopes_or : Result (List RawScope) ScopeFault → Result (List RawScope) ApiRefusal
+scopes_or (Ok scopes) = Ok scopes
+scopes_or (Err fault) = Err (BadScope fault.index fault.error)
+
+-- the scopes that the texts are
+unfoldable pub scopes : List (List ℕ) → Result (List RawScope) ApiRefusal
+scopes texts = scopes_or (scopes_read texts)

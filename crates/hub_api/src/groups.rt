@@ -1,0 +1,106 @@
+//! The calls on groups.
+ghost use Rattle.hub_api.specs.Refusals.{Gives};
+ghost use Rattle.hub_api.specs.Readings as spec;
+ghost use Rattle.hub_api.specs.Calls as paths;
+
+use crate::method::Method;
+use crate::parts::{body_of, list, name_at, page_of, some_names};
+use crate::refusal::ApiRefusal;
+use http_wire::request::Request;
+use hub_kit::list::List;
+use hub_kit::names::{GroupName, UserName};
+use hub_machine::call::Call;
+use std::alloc::Global;
+
+/// `/groups`, by its methods.
+pub(crate) fn groups(alloc: Global, method: Method, request: &Request) -> Result<Call, ApiRefusal>
+    ensures { Gives result (paths.groups method request.now) }
+{
+    match method {
+        Method::Get => list_groups(alloc, request),
+        Method::Post | Method::Put | Method::Patch | Method::Delete | Method::Other => {
+            Err(ApiRefusal::NoMethod)
+        }
+    }
+}
+
+/// `/groups/{g}`, by its methods.
+pub(crate) fn group(alloc: Global, method: Method, request: &Request) -> Result<Call, ApiRefusal>
+    ensures { Gives result (paths.group method request.now) }
+{
+    match method {
+        Method::Get => get_group(alloc, request),
+        Method::Post => add_group(alloc, request),
+        Method::Delete => delete_group(alloc, request),
+        Method::Put | Method::Patch | Method::Other => Err(ApiRefusal::NoMethod),
+    }
+}
+
+/// `/groups/{g}/users`, by its methods.
+pub(crate) fn members(alloc: Global, method: Method, request: &Request) -> Result<Call, ApiRefusal>
+    ensures { Gives result (paths.members method request.now) }
+{
+    match method {
+        Method::Post => join_group(alloc, request),
+        Method::Delete => leave_group(alloc, request),
+        Method::Get | Method::Put | Method::Patch | Method::Other => Err(ApiRefusal::NoMethod),
+    }
+}
+
+#[tactic(auto, unfolding(crate::specs::Readings::list_groups))]
+fn list_groups(alloc: Global, request: &Request) -> Result<Call, ApiRefusal>
+    ensures { Gives result (spec.list_groups request.now) }
+{
+    let page = page_of(alloc, request)?;
+    Ok(Call::C21 {
+        offset: page.offset,
+        limit: page.limit,
+        paged: request.paged,
+    })
+}
+
+#[tactic(auto, unfolding(crate::specs::Readings::get_group))]
+fn get_group(alloc: Global, request: &Request) -> Result<Call, ApiRefusal>
+    ensures { Gives result (spec.get_group request.now) }
+{
+    let g: GroupName = name_at(alloc, request, 4)?;
+    Ok(Call::C22 { g })
+}
+
+#[tactic(auto, unfolding(crate::specs::Readings::add_group))]
+fn add_group(alloc: Global, request: &Request) -> Result<Call, ApiRefusal>
+    ensures { Gives result (spec.add_group request.now) }
+{
+    let g: GroupName = name_at(alloc, request, 4)?;
+    let body = body_of(alloc, request)?;
+    let users: List<UserName> = list(alloc, &body, "users")?;
+    Ok(Call::C23 { g, users })
+}
+
+#[tactic(auto, unfolding(crate::specs::Readings::delete_group))]
+fn delete_group(alloc: Global, request: &Request) -> Result<Call, ApiRefusal>
+    ensures { Gives result (spec.delete_group request.now) }
+{
+    let g: GroupName = name_at(alloc, request, 4)?;
+    Ok(Call::C24 { g })
+}
+
+#[tactic(auto, unfolding(crate::specs::Readings::join_group))]
+fn join_group(alloc: Global, request: &Request) -> Result<Call, ApiRefusal>
+    ensures { Gives result (spec.join_group request.now) }
+{
+    let g: GroupName = name_at(alloc, request, 4)?;
+    let body = body_of(alloc, request)?;
+    let users = some_names(alloc, &body, "users")?;
+    Ok(Call::C25 { g, users })
+}
+
+#[tactic(auto, unfolding(crate::specs::Readings::leave_group))]
+fn leave_group(alloc: Global, request: &Request) -> Result<Call, ApiRefusal>
+    ensures { Gives result (spec.leave_group request.now) }
+{
+    let g: GroupName = name_at(alloc, request, 4)?;
+    let body = body_of(alloc, request)?;
+    let users = some_names(alloc, &body, "users")?;
+    Ok(Call::C26 { g, users })
+}

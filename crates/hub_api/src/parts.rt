@@ -1,0 +1,205 @@
+//! What a request says, with the refusal where it isn't of its form: the names in its path, the values of its query, and the
+//! members of its body.
+ghost use Rattle.std.specs.Prelude.{◌≡◌, Some};
+ghost use Rattle.serde_json.specs.View.{view};
+ghost use Rattle.hub_api.specs.Refusals.{Gives, GivesView};
+ghost use Rattle.hub_api.specs.Names.{read_at};
+ghost use Rattle.hub_api.specs.Queries as spec_queries;
+ghost use Rattle.hub_api.specs.Bodies as spec;
+
+use crate::refusal::ApiRefusal;
+use http_wire::request::Request;
+use hub_kit::list::List;
+use hub_kit::names::{ServerKey, UserName, read_key};
+use hub_kit::text::Text;
+use request_parts::body::{body_object, list_at, truth_at, truth_or};
+use request_parts::from_text::FromText;
+use request_parts::path::read_in_path;
+use request_parts::query::{query_number, query_value};
+use request_parts::scopes::read_scopes;
+use scope_filters::scope::RawScope;
+use serde_json::Value;
+use std::alloc::Global;
+
+/// A part of a list.
+#[derive(Clone, Copy, Debug, PartialEq, Eq)]
+pub(crate) struct Page {
+    pub(crate) offset: u64,
+    /// How many objects at most, of which there is one at least.
+    pub(crate) limit: u64,
+}
+
+/// What segment n of the path is. `BadName` has that number where it isn't of the form.
+#[tactic(auto, unfolding(crate::specs::Names::read_at))]
+pub(crate) fn name_at<N: FromText>(
+    alloc: Global,
+    request: &Request,
+    n: usize,
+) -> Result<N, ApiRefusal>
+    ensures { Gives result (read_at N.reads n request.now) }
+{
+    match read_in_path(alloc, request.path.as_str(), n)? {
+        Some(name) => Ok(name),
+        None => Err(ApiRefusal::BadName(n)),
+    }
+}
+
+/// The part of a list that the query asks.
+#[tactic(auto, unfolding(crate::specs::Queries::page_of))]
+pub(crate) fn page_of(alloc: Global, request: &Request) -> Result<Page, ApiRefusal>
+    ensures { Gives result (spec_queries.page_of request.now) }
+{
+    let offset = number_of(alloc, request, "offset", 0)?;
+    let limit = number_of(alloc, request, "limit", 50)?;
+    if limit == 0 {
+        return Err(ApiRefusal::BadQuery);
+    }
+    Ok(Page { offset, limit })
+}
+
+/// A number of the query, or a default where its key is absent.
+#[tactic(auto, unfolding(crate::specs::Queries::number_of))]
+fn number_of(alloc: Global, request: &Request, key: &str, default: u64) -> Result<u64, ApiRefusal>
+    ensures { Gives result (spec_queries.number_of key.now default request.now) }
+{
+    match query_number(alloc, request.query.as_str(), key, default)? {
+        Some(number) => Ok(number),
+        None => Err(ApiRefusal::BadQuery),
+    }
+}
+
+/// The server that the key `for` of the query names.
+#[tactic(auto, unfolding(crate::specs::Queries::server_of))]
+pub(crate) fn server_of(alloc: Global, request: &Request) -> Result<Option<ServerKey>, ApiRefusal>
+    ensures { Gives result (spec_queries.server_of request.now) }
+{
+    match query_value(alloc, request.query.as_str(), "for")? {
+        None => Ok(None),
+        Some(text) => match read_key(text.as_bytes()) {
+            Ok(key) => Ok(Some(key)),
+            Err(_) => Err(ApiRefusal::BadQuery),
+        },
+    }
+}
+
+/// The one JSON object that the body is.
+#[tactic(auto, unfolding(crate::specs::Bodies::body_of))]
+pub(crate) fn body_of(alloc: Global, request: &Request) -> Result<Value, ApiRefusal>
+    ensures { GivesView result (spec.body_of request.now) }
+{
+    match body_object(alloc, request.body.as_slice())? {
+        Some(body) => Ok(body),
+        None => Err(ApiRefusal::BadBody),
+    }
+}
+
+/// A truth value whose key has to stand in the body.
+#[tactic(auto, unfolding(crate::specs::Bodies::needed_truth))]
+pub(crate) fn needed_truth(body: &Value, key: &str) -> Result<bool, ApiRefusal>
+    ensures { result ≡ spec.needed_truth key.now (view body.now) }
+{
+    match truth_at(body, key) {
+        Some(value) => Ok(value),
+        None => Err(ApiRefusal::BadBody),
+    }
+}
+
+/// A truth value of the body that is false where its key is absent.
+#[tactic(auto, unfolding(crate::specs::Bodies::truth))]
+pub(crate) fn truth(body: &Value, key: &str) -> Result<bool, ApiRefusal>
+    ensures { result ≡ spec.truth key.now (view body.now) }
+{
+    match truth_or(body, key, false) {
+        Some(value) => Ok(value),
+        None => Err(ApiRefusal::BadBody),
+    }
+}
+
+/// A list of texts of a form, which is empty where its key is absent.
+#[tactic(auto, unfolding(crate::specs::Bodies::list))]
+pub(crate) fn list<N: FromText>(
+    alloc: Global,
+    body: &Value,
+    key: &str,
+) -> Result<List<N>, ApiRefusal>
+    ensures { Gives result (spec.list N.reads key.now (view body.now)) }
+{
+    match list_at(alloc, body, key)? {
+        Some(items) => Ok(items),
+        None => Err(ApiRefusal::BadBody),
+    }
+}
+
+/// A list of 1 to 1,000 names.
+#[tactic(auto, unfolding(crate::specs::Bodies::some_names))]
+pub(crate) fn some_names(
+    alloc: Global,
+    body: &Value,
+    key: &str,
+) -> Result<List<UserName>, ApiRefusal>
+    ensures { Gives result (spec.some_names key.now (view body.now)) }
+{
+    let names: List<UserName> = list(alloc, body, key)?;
+    if 1 <= names.len() && names.len() <= 1000 {
+        Ok(names)
+    } else {
+        Err(ApiRefusal::BadBody)
+    }
+}
+
+/// A list of 1 to 1,000 distinct names.
+#[tactic(auto, unfolding(crate::specs::Bodies::distinct_names))]
+pub(crate) fn distinct_names(
+    alloc: Global,
+    body: &Value,
+    key: &str,
+) -> Result<List<UserName>, ApiRefusal>
+    ensures { Gives result (spec.distinct_names key.now (view body.now)) }
+{
+    let names = some_names(alloc, body, key)?;
+    if are_distinct(names.as_slice()) {
+        Ok(names)
+    } else {
+        Err(ApiRefusal::BadBody)
+    }
+}
+
+/// Whether no name stands twice in a list.
+#[tactic(auto, using(crate::proofs::Distinct::twice, crate::proofs::Distinct::once))]
+fn are_distinct(names: &[UserName]) -> bool
+    ensures { result ≡ spec.are_distinct names.now }
+{
+    for i in 0..names.len() {
+        if names[i + 1..].contains(&names[i]) {
+            return false;
+        }
+    }
+    true
+}
+
+/// At most 64 texts that are to be scopes.
+#[tactic(auto, unfolding(crate::specs::Bodies::scope_texts))]
+pub(crate) fn scope_texts(alloc: Global, body: &Value) -> Result<List<Text>, ApiRefusal>
+    ensures { Gives result (spec.scope_texts (view body.now)) }
+{
+    let texts: List<Text> = list(alloc, body, "scopes")?;
+    if texts.len() <= 64 {
+        Ok(texts)
+    } else {
+        Err(ApiRefusal::BadBody)
+    }
+}
+
+/// The scopes that the texts are. `BadScope` tells the first that is none.
+#[tactic(auto, unfolding(crate::specs::Bodies::scopes))]
+pub(crate) fn scopes(alloc: Global, texts: &List<Text>) -> Result<List<RawScope>, ApiRefusal>
+    ensures { Gives result (spec.scopes texts.now) }
+{
+    match read_scopes(alloc, texts.as_slice())? {
+        Ok(scopes) => Ok(scopes),
+        Err(fault) => Err(ApiRefusal::BadScope {
+            index: fault.index,
+            error: fault.error,
+        }),
+    }
+}

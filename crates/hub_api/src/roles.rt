@@ -1,0 +1,86 @@
+//! The calls on roles.
+ghost use Rattle.hub_api.specs.Refusals.{Gives};
+ghost use Rattle.hub_api.specs.Readings as spec;
+ghost use Rattle.hub_api.specs.Calls as paths;
+
+use crate::method::Method;
+use crate::parts::{body_of, list, name_at, page_of, scope_texts, scopes};
+use crate::refusal::ApiRefusal;
+use http_wire::request::Request;
+use hub_kit::list::List;
+use hub_kit::names::{GroupName, RoleName, ServiceName, UserName};
+use hub_machine::call::Call;
+use std::alloc::Global;
+
+/// `/roles`, by its methods.
+pub(crate) fn roles(alloc: Global, method: Method, request: &Request) -> Result<Call, ApiRefusal>
+    ensures { Gives result (paths.roles method request.now) }
+{
+    match method {
+        Method::Get => list_roles(alloc, request),
+        Method::Post | Method::Put | Method::Patch | Method::Delete | Method::Other => {
+            Err(ApiRefusal::NoMethod)
+        }
+    }
+}
+
+/// `/roles/{r}`, by its methods.
+pub(crate) fn role(alloc: Global, method: Method, request: &Request) -> Result<Call, ApiRefusal>
+    ensures { Gives result (paths.role method request.now) }
+{
+    match method {
+        Method::Get => get_role(alloc, request),
+        Method::Put => put_role(alloc, request),
+        Method::Delete => delete_role(alloc, request),
+        Method::Post | Method::Patch | Method::Other => Err(ApiRefusal::NoMethod),
+    }
+}
+
+#[tactic(auto, unfolding(crate::specs::Readings::list_roles))]
+fn list_roles(alloc: Global, request: &Request) -> Result<Call, ApiRefusal>
+    ensures { Gives result (spec.list_roles request.now) }
+{
+    let page = page_of(alloc, request)?;
+    Ok(Call::C31 {
+        offset: page.offset,
+        limit: page.limit,
+        paged: request.paged,
+    })
+}
+
+#[tactic(auto, unfolding(crate::specs::Readings::get_role))]
+fn get_role(alloc: Global, request: &Request) -> Result<Call, ApiRefusal>
+    ensures { Gives result (spec.get_role request.now) }
+{
+    let r: RoleName = name_at(alloc, request, 4)?;
+    Ok(Call::C32 { r })
+}
+
+/// The body is read whole before its scopes are.
+#[tactic(auto, unfolding(crate::specs::Readings::put_role))]
+fn put_role(alloc: Global, request: &Request) -> Result<Call, ApiRefusal>
+    ensures { Gives result (spec.put_role request.now) }
+{
+    let r: RoleName = name_at(alloc, request, 4)?;
+    let body = body_of(alloc, request)?;
+    let texts = scope_texts(alloc, &body)?;
+    let users: List<UserName> = list(alloc, &body, "users")?;
+    let groups: List<GroupName> = list(alloc, &body, "groups")?;
+    let services: List<ServiceName> = list(alloc, &body, "services")?;
+    let scopes = scopes(alloc, &texts)?;
+    Ok(Call::C33 {
+        r,
+        scopes,
+        users,
+        groups,
+        services,
+    })
+}
+
+#[tactic(auto, unfolding(crate::specs::Readings::delete_role))]
+fn delete_role(alloc: Global, request: &Request) -> Result<Call, ApiRefusal>
+    ensures { Gives result (spec.delete_role request.now) }
+{
+    let r: RoleName = name_at(alloc, request, 4)?;
+    Ok(Call::C34 { r })
+}

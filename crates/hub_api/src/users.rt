@@ -1,0 +1,92 @@
+//! The calls on users.
+ghost use Rattle.hub_api.specs.Refusals.{Gives};
+ghost use Rattle.hub_api.specs.Readings as spec;
+ghost use Rattle.hub_api.specs.Calls as paths;
+
+use crate::method::Method;
+use crate::parts::{body_of, distinct_names, name_at, needed_truth, page_of, truth};
+use crate::refusal::ApiRefusal;
+use http_wire::request::Request;
+use hub_kit::names::UserName;
+use hub_machine::call::Call;
+use std::alloc::Global;
+
+/// `/users`, by its methods.
+pub(crate) fn users(alloc: Global, method: Method, request: &Request) -> Result<Call, ApiRefusal>
+    ensures { Gives result (paths.users method request.now) }
+{
+    match method {
+        Method::Get => list_users(alloc, request),
+        Method::Post => add_users(alloc, request),
+        Method::Put | Method::Patch | Method::Delete | Method::Other => Err(ApiRefusal::NoMethod),
+    }
+}
+
+/// `/users/{u}`, by its methods.
+pub(crate) fn user(alloc: Global, method: Method, request: &Request) -> Result<Call, ApiRefusal>
+    ensures { Gives result (paths.user method request.now) }
+{
+    match method {
+        Method::Get => get_user(alloc, request),
+        Method::Post => add_user(alloc, request),
+        Method::Patch => change_user(alloc, request),
+        Method::Delete => delete_user(alloc, request),
+        Method::Put | Method::Other => Err(ApiRefusal::NoMethod),
+    }
+}
+
+#[tactic(auto, unfolding(crate::specs::Readings::list_users))]
+fn list_users(alloc: Global, request: &Request) -> Result<Call, ApiRefusal>
+    ensures { Gives result (spec.list_users request.now) }
+{
+    let page = page_of(alloc, request)?;
+    Ok(Call::C4 {
+        offset: page.offset,
+        limit: page.limit,
+        paged: request.paged,
+    })
+}
+
+#[tactic(auto, unfolding(crate::specs::Readings::add_users))]
+fn add_users(alloc: Global, request: &Request) -> Result<Call, ApiRefusal>
+    ensures { Gives result (spec.add_users request.now) }
+{
+    let body = body_of(alloc, request)?;
+    let usernames = distinct_names(alloc, &body, "usernames")?;
+    let admin = truth(&body, "admin")?;
+    Ok(Call::C5 { usernames, admin })
+}
+
+#[tactic(auto, unfolding(crate::specs::Readings::get_user))]
+fn get_user(alloc: Global, request: &Request) -> Result<Call, ApiRefusal>
+    ensures { Gives result (spec.get_user request.now) }
+{
+    let u: UserName = name_at(alloc, request, 4)?;
+    Ok(Call::C6 { u })
+}
+
+#[tactic(auto, unfolding(crate::specs::Readings::add_user))]
+fn add_user(alloc: Global, request: &Request) -> Result<Call, ApiRefusal>
+    ensures { Gives result (spec.add_user request.now) }
+{
+    let u: UserName = name_at(alloc, request, 4)?;
+    Ok(Call::C7 { u })
+}
+
+#[tactic(auto, unfolding(crate::specs::Readings::change_user))]
+fn change_user(alloc: Global, request: &Request) -> Result<Call, ApiRefusal>
+    ensures { Gives result (spec.change_user request.now) }
+{
+    let u: UserName = name_at(alloc, request, 4)?;
+    let body = body_of(alloc, request)?;
+    let admin = needed_truth(&body, "admin")?;
+    Ok(Call::C8 { u, admin })
+}
+
+#[tactic(auto, unfolding(crate::specs::Readings::delete_user))]
+fn delete_user(alloc: Global, request: &Request) -> Result<Call, ApiRefusal>
+    ensures { Gives result (spec.delete_user request.now) }
+{
+    let u: UserName = name_at(alloc, request, 4)?;
+    Ok(Call::C9 { u })
+}

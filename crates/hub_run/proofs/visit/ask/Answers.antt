@@ -1,0 +1,27 @@
+use Rattle.std.proofs.Common.{None, subst}
+use Rattle.hub_core.specs.Visits.{entries_of, VisitedAt}
+use Rattle.hub_core.specs.declared.ask.Ask.{Ask}
+use Rattle.hub_run.proofs.AnswerLemmas.{from_start}
+use Rattle.hub_run.proofs.visit.ask.Goals as goal
+
+pub returns-clause-answers : goal.returns-clause-answers
+returns-clause-answers g c = λ start base.
+    let visit = c.visit.ensures.visit in
+    let found = visit.3 in (
+      c.now-now.result,
+      entries_of visit.0,
+      entries_of visit.1,
+      record {
+        begins = found.begins;
+        whole = found.whole;
+        appends = found.appends;
+        same = found.same;
+        seen = found.seen;
+        mine = found.mine;
+        told = c.now-now.ensures;
+      },
+      from_start c.args.pass.now.base visit.0.start start (entries_of visit.0) (entries_of visit.1) c.now-now.result c.args.asked c.visit.result
+          found.found_base base
+          (subst (λ (job : Ask). VisitedAt visit.0.start (entries_of visit.0) (entries_of visit.1) job.now job.draw job.asked c.visit.result)
+          c.new-ask.ensures visit.2),
+    )

@@ -1,0 +1,64 @@
+#!/bin/sh
+# Processor time of requests of one connection: `session` over a pipe, with so many users kept.
+# usage: docs/bench/session.sh [PROGRAM]
+# PROGRAM is the program `hub` as `rt run` leaves it (crates/hub/out/hub if none is named: run `rt run` there first). Each figure is the least of
+# five runs: the processor time of the session with 800 such requests less that of the session with none of them, by 800. It stands outside the gate.
+set -eu
+top=$(cd "$(dirname "$0")/../.." && pwd)
+program=${1:-$top/crates/hub/out/hub}
+exec python3 - "$program" <<'END'
+import resource, subprocess, sys
+
+program = sys.argv[1]
+ASKED = 800
+
+
+def request(method, path, body=b"", extra=b""):
+    head = b"%s %s HTTP/1.1\r\nHost: hub\r\nAuthorization: token secret-token-ann\r\n%s" % (method, path, extra)
+    if body:
+        head += b"Content-Length: %d\r\n" % len(body)
+    return head + b"\r\n" + body
+
+
+def users(count):
+    """Requests that make so many users, at most 1,000 in each."""
+    names = [b'"u%06d"' % n for n in range(count)]
+    return b"".join(
+        request(b"POST", b"/hub/api/users", b'{"usernames":[' + b",".join(names[i : i + 1000]) + b"]}")
+        for i in range(0, count, 1000)
+    )
+
+
+def seconds(text, replies):
+    """The processor time of a session with this input, which has to end well after so many replies."""
+    before = resource.getrusage(resource.RUSAGE_CHILDREN)
+    ran = subprocess.run(
+        [program, "session", "1700000000", "ann", "secret-token-ann", "--admin"], input=text, stdout=subprocess.PIPE
+    )
+    after = resource.getrusage(resource.RUSAGE_CHILDREN)
+    if ran.returncode or ran.stdout.count(b"HTTP/1.1 20") != replies:
+        sys.exit(f"status {ran.returncode}, {ran.stdout.count(b'HTTP/1.1 20')} good replies, not {replies}")
+    return after.ru_utime + after.ru_stime - before.ru_utime - before.ru_stime
+
+
+def each(kept, asked):
+    """Microseconds of each of the asked requests over so many users."""
+    first = users(kept)
+    steps = -(-kept // 1000)
+    base = min(seconds(first, steps) for _ in range(5))
+    whole = min(seconds(first + b"".join(asked), steps + len(asked)) for _ in range(5))
+    return 1e6 * (whole - base) / len(asked)
+
+
+identity = [request(b"GET", b"/hub/api/user")] * ASKED
+paging = b"Accept: application/jupyterhub-pagination+json\r\n"
+for name, kept, asked in [
+    ("the identity, 100 users", 100, identity),
+    ("the identity, 10,000 users", 10_000, identity),
+    ("the identity, 100,000 users", 100_000, identity),
+    ("one user of 1,000", 1000, [request(b"GET", b"/hub/api/users/u%06d" % n) for n in range(ASKED)]),
+    ("a page of 50 of 1,000 users", 1000, [request(b"GET", b"/hub/api/users?limit=50&offset=%d" % n, extra=paging) for n in range(ASKED)]),
+    ("a new user beside 1,000", 1000, [request(b"POST", b"/hub/api/users/v%06d" % n) for n in range(ASKED)]),
+]:
+    print(f"{name}: {each(kept, asked):.1f} microseconds", flush=True)
+END
