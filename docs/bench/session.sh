@@ -2,7 +2,7 @@
 # Processor time of requests of one connection: `session` over a pipe, with so many users kept.
 # usage: docs/bench/session.sh [PROGRAM]
 # PROGRAM is the program `hub` as `rt run` leaves it (crates/hub/out/hub if none is named: run `rt run` there first). Each figure is the least of
-# five runs: the processor time of the session with 800 such requests less that of the session with none of them, by 800. It stands outside the gate.
+# nine runs: the processor time of the session with 800 such requests less that of the session with none of them, by 800. It stands outside the gate.
 set -eu
 top=$(cd "$(dirname "$0")/../.." && pwd)
 program=${1:-$top/crates/hub/out/hub}
@@ -45,8 +45,8 @@ def each(kept, asked):
     """Microseconds of each of the asked requests over so many users."""
     first = users(kept)
     steps = -(-kept // 1000)
-    base = min(seconds(first, steps) for _ in range(5))
-    whole = min(seconds(first + b"".join(asked), steps + len(asked)) for _ in range(5))
+    base = min(seconds(first, steps) for _ in range(9))
+    whole = min(seconds(first + b"".join(asked), steps + len(asked)) for _ in range(9))
     return 1e6 * (whole - base) / len(asked)
 
 
@@ -55,7 +55,7 @@ paging = b"Accept: application/jupyterhub-pagination+json\r\n"
 for name, kept, asked in [
     ("the identity, 100 users", 100, identity),
     ("the identity, 10,000 users", 10_000, identity),
-    ("the identity, 100,000 users", 100_000, identity),
+    ("the identity, 99,000 users", 99_000, identity),
     ("one user of 1,000", 1000, [request(b"GET", b"/hub/api/users/u%06d" % n) for n in range(ASKED)]),
     ("a page of 50 of 1,000 users", 1000, [request(b"GET", b"/hub/api/users?limit=50&offset=%d" % n, extra=paging) for n in range(ASKED)]),
     ("a new user beside 1,000", 1000, [request(b"POST", b"/hub/api/users/v%06d" % n) for n in range(ASKED)]),

@@ -1,12 +1,15 @@
 #!/bin/sh
 # Rows a second of `keeper_sqlite`, in memory and on a file, beside the stock sqlite3 with the same statements on the same file
 # system; and a check that the stock sqlite3 reads what `keeper_sqlite` wrote. Where sqlite3 is missing, its part is skipped.
-# usage: docs/bench/sqlite.sh [FOLDER]
+# usage: docs/bench/sqlite.sh [FOLDER [COUNT]]
+# COUNT transactions of a thousand rows (100 if none is named), a hundred times as many of one row in memory, and ten times as many
+# of one row on a file.
 # Writes a scratch repository into FOLDER (a new one under /tmp if none is named), proves its crates over what earlier checks of
 # this checkout kept, and runs the program. It stands outside the gate, and leaves the repository as it was.
 set -eu
 top=$(cd "$(dirname "$0")/../.." && pwd)
 scratch=${1:-$(mktemp -d /tmp/sqlite-bench.XXXXXX)}
+count=${2:-100}
 bench=$scratch/crates/sqlite_bench
 below='hub_kit hub_devices keyed_rows keeper keeper_sqlite'
 mkdir -p "$bench/src"
@@ -27,6 +30,7 @@ use keeper::keeper::{Batch, Item, Keeper, Row};
 use keeper_sqlite::sqlite_keeper::SqliteKeeper;
 use sqlite::{Connection, File, FileStore};
 use std::alloc::{AllocError, Global};
+use std::env;
 use std::time::Instant;
 
 const TEXT: &str = r#"{"admin":false,"created":1700000000,"last_activity":null}"#;
@@ -48,7 +52,13 @@ fn batch_of(alloc: Global, first: u32, size: u32) -> Result<Batch, AllocError> {
 }
 
 /// Commits so many batches of this size, of rows that are new.
-fn commit_all<K: Keeper>(rt: &HostRuntime, what: &str, keeper: &mut K, count: u32, size: u32) -> anyhow::Result<()> {
+fn commit_all<K: Keeper>(
+    rt: &HostRuntime,
+    what: &str,
+    keeper: &mut K,
+    count: u32,
+    size: u32,
+) -> anyhow::Result<()> {
     let start = Instant::now(rt)?;
     let mut failed = 0u32;
     let mut first = 1000000u32;
@@ -60,7 +70,9 @@ fn commit_all<K: Keeper>(rt: &HostRuntime, what: &str, keeper: &mut K, count: u3
         first = first.saturating_add(size);
     }
     let took = start.elapsed(rt)?.as_millis();
-    println!(rt; "keeper_sqlite, {what}: {count} transactions of {size} rows in {took} ms, {failed} failed")?;
+    println!(rt;
+        "keeper_sqlite, {what}: {count} transactions of {size} rows in {took} ms, {failed} failed"
+    )?;
     Ok(())
 }
 
@@ -69,7 +81,10 @@ fn load_all<K: Keeper>(rt: &HostRuntime, what: &str, keeper: &mut K) -> anyhow::
     match keeper.load() {
         Ok(rows) => {
             let took = start.elapsed(rt)?.as_millis();
-            println!(rt; "keeper_sqlite, {what}: a load of {} rows in {took} ms", rows.len())?;
+            println!(rt;
+                "keeper_sqlite, {what}: a load of {} rows in {took} ms",
+                rows.len()
+            )?;
         }
         Err(_) => println!(rt; "keeper_sqlite, {what}: the load failed")?,
     }
@@ -77,7 +92,13 @@ fn load_all<K: Keeper>(rt: &HostRuntime, what: &str, keeper: &mut K) -> anyhow::
 }
 
 /// The keeper, after so many batches of this size were committed and all rows loaded.
-fn timed<K: Keeper>(rt: &HostRuntime, what: &str, mut keeper: K, count: u32, size: u32) -> anyhow::Result<K> {
+fn timed<K: Keeper>(
+    rt: &HostRuntime,
+    what: &str,
+    mut keeper: K,
+    count: u32,
+    size: u32,
+) -> anyhow::Result<K> {
     commit_all(rt, what, &mut keeper, count, size)?;
     load_all(rt, what, &mut keeper)?;
     Ok(keeper)
@@ -103,18 +124,26 @@ fn on_a_file(rt: &HostRuntime, path: &str, count: u32, size: u32) -> anyhow::Res
     close(timed(rt, "on a file", keeper, count, size)?)
 }
 
+/// All runs, of so many transactions of a thousand rows, and of ten and a hundred times as many of one row.
+fn run_all(rt: &HostRuntime, count: u32) -> anyhow::Result<()> {
+    in_memory(rt, count.saturating_mul(100), 1)?;
+    in_memory(rt, count, 1000)?;
+    on_a_file(rt, "few.db", 2, 2)?;
+    on_a_file(rt, "one.db", count.saturating_mul(10), 1)?;
+    on_a_file(rt, "many.db", count, 1000)
+}
+
 fn main(rt: HostRuntime) -> anyhow::Result<()> {
-    in_memory(&rt, 10000, 1)?;
-    in_memory(&rt, 100, 1000)?;
-    on_a_file(&rt, "few.db", 2, 2)?;
-    on_a_file(&rt, "one.db", 1000, 1)?;
-    on_a_file(&rt, "many.db", 100, 1000)
+    for word in env::args(&rt)?.skip(1) {
+        run_all(&rt, word.parse::<u32>().unwrap_or(0))?;
+    }
+    Ok(())
 }
 END
 
 cd "$bench"
 rm -f ./*.db ./*.db-*
-rt run
+rt run -- "$count"
 
 if ! command -v sqlite3 >/dev/null; then
     echo 'sqlite3 is not installed: skipped'
@@ -133,7 +162,7 @@ if [ "$found" != "$wanted" ]; then
     exit 1
 fi
 [ "$(sqlite3 many.db 'PRAGMA integrity_check; SELECT count(*), count(DISTINCT key) FROM row')" = "ok
-100000|100000" ] || exit 1
+$((count * 1000))|$((count * 1000))" ] || exit 1
 echo 'sqlite3 reads the rows as they were committed'
 
 # the same statements, with the values in their text, and the same journal and syncs as keeper_sqlite's store has
@@ -157,12 +186,12 @@ timed() {
 }
 run() { sqlite3 -cmd 'PRAGMA journal_mode = wal' -cmd 'PRAGMA synchronous = full' "$1" <"$2" >/dev/null; }
 load() { sqlite3 "$1" 'SELECT kind, key, text FROM row ORDER BY kind, key' >/dev/null; }
-statements 10000 1 >ten.sql
-statements 1000 1 >one.sql
-statements 100 1000 >many.sql
-timed 'in memory: 10000 transactions of 1 rows' run :memory: ten.sql
-timed 'in memory: 100 transactions of 1000 rows' run :memory: many.sql
-timed 'on a file: 1000 transactions of 1 rows' run stock-one.db one.sql
-timed 'on a file: 100 transactions of 1000 rows' run stock-many.db many.sql
-timed 'on a file: a load of 100000 rows' load stock-many.db
-timed "on keeper_sqlite's file: a load of 100000 rows" load many.db
+statements $((count * 100)) 1 >memory.sql
+statements $((count * 10)) 1 >one.sql
+statements "$count" 1000 >many.sql
+timed "in memory: $((count * 100)) transactions of 1 rows" run :memory: memory.sql
+timed "in memory: $count transactions of 1000 rows" run :memory: many.sql
+timed "on a file: $((count * 10)) transactions of 1 rows" run stock-one.db one.sql
+timed "on a file: $count transactions of 1000 rows" run stock-many.db many.sql
+timed "on a file: a load of $((count * 1000)) rows" load stock-many.db
+timed "on keeper_sqlite's file: a load of $((count * 1000)) rows" load many.db

@@ -1,0 +1,6 @@
+pub mod Picked
+pub mod Bodies
+pub mod Lists
+pub mod Calls
+pub mod Unseen
+pub mod Owning

@@ -1,0 +1,99 @@
+-- What a token may not see may change.
+use Rattle.std.proofs.Common.{◌≡◌, ℕ, List, [], ◌∷◌, ◌++◌, cond, Option, Some, None, inl, refl, sym, ap, subst}
+use Rattle.std.specs.List.{flat_map}
+use Rattle.std.specs.FinMap.{FinMap, get, len}
+use Rattle.hub_kit.specs.KeyOrder.{name_cmp, key_cmp}
+use Rattle.hub_kit.specs.declared.names.ServerKey.{ServerKey}
+use Rattle.scope_names.specs.declared.action.Action.{Action}
+use Rattle.scope_names.specs.declared.action.Action.TheVariants as A
+use Rattle.scope_filters.specs.declared.holder.Owner.{Owner}
+use Rattle.scope_filters.specs.declared.holder.Owner.TheVariants as Own
+use Rattle.scope_filters.specs.declared.object.Object.{Object}
+use Rattle.scope_filters.specs.declared.object.Object.TheVariants as Ob
+use Rattle.scope_filters.specs.declared.scope.RawScope.{RawScope}
+use Rattle.scope_filters.specs.declared.scope.RawScope.TheVariants.{SelfScope}
+use Rattle.scope_expand.specs.Meaning.{IsMeant}
+use Rattle.hub_rows.specs.declared.records.Group.{Group}
+use Rattle.hub_rows.specs.declared.records.ServerRow.{ServerRow}
+use Rattle.hub_rows.specs.declared.records.Token.{Token}
+use Rattle.hub_rows.specs.declared.records.User.{User}
+use Rattle.hub_tables.specs.Lookups.{is_admin_row}
+use Rattle.roles.specs.Rights.{scopes_held, roles_held, shares_received, admin_scopes, bare, context}
+use Rattle.hub_machine.specs.State.{Hub, Lives}
+use Rattle.hub_calls.specs.Facts.{roles_of_group}
+use Rattle.isolation.specs.Sight.{May, AsksUser, server, server_seen, SameUser, SameGroup, InBoth, SeesSame, with_users, with_servers, OtherRows, with_others}
+
+-- an object is as it is
+group_itself : (k : Token) (s t : Hub) (g : List ℕ) → roles_of_group s.tables g ≡ roles_of_group t.tables g → (o : Option Group) → InBoth (SameGroup k s t g) o o
+group_itself k s t g is None = tt
+group_itself k s t g is (Some x) = record { users = λ m. refl; roles = λ m. is }
+
+module _ (s : Hub) (k : Token) (rows : FinMap name_cmp User) (kept : (u : List ℕ) → AsksUser s k u → get rows u ≡ get s.tables.users u) where
+  abbrev t : Hub
+  t = with_users s rows
+
+  -- what an owner holds looks at no user but the owner
+  same_scopes : (w : Owner) → k.owner ≡ w → scopes_held s.tables w ≡ scopes_held t.tables w
+  same_scopes (Own.User u) is =
+      ap (λ (row : Option User). ((SelfScope ∷ cond (is_admin_row row) admin_scopes []) ++ flat_map (λ role. role.scopes) (roles_held s.tables (Own.User u)))
+      ++ flat_map (λ share. share.scopes) (shares_received s.tables (Own.User u))) (sym (kept u (inl is)))
+  same_scopes (Own.Service v) is = refl
+
+  abbrev Means : Action → Object → List RawScope → Type 0
+  Means a x scopes = IsMeant s.tables.scopes scopes (bare k.owner) (context s.tables) a x
+
+  allowed : (a : Action) (x : Object) → May s k a x → May t k a x
+  allowed a x m = (subst (Means a x) (same_scopes k.owner refl) m.0, m.1)
+
+  allowed_back : (a : Action) (x : Object) → May t k a x → May s k a x
+  allowed_back a x m = (subst (Means a x) (sym (same_scopes k.owner refl)) m.0, m.1)
+
+  same_user : (u : List ℕ) (o : Option User) → InBoth (SameUser k s t u) o o
+  same_user u None = tt
+  same_user u (Some x) = record { admin = λ m. refl; created = λ m. refl; last_activity = λ m. refl; groups = λ m. refl; roles = λ m. refl; servers = λ name m. refl }
+
+  pub unseen : SeesSame k s t
+  unseen = record {
+    allowed = λ a x. (allowed a x, allowed_back a x);
+    pool = λ m. refl;
+    leases = λ m. refl;
+    users = λ u asks. subst (InBoth (SameUser k s t u) (get s.tables.users u)) (sym (kept u asks)) (same_user u (get s.tables.users u));
+    groups = λ g asks. group_itself k s t g refl (get s.tables.groups g);
+    services = λ v asks. record { there = refl; roles = λ m. refl };
+    roles = λ m r. refl;
+  }
+
+-- the same fields of a user, but for the servers
+user_but_servers : (k : Token) (s : Hub) (rows : FinMap key_cmp ServerRow) (lives : Lives) (u : List ℕ) (o : Option User)
+    → ((q : ServerKey) → May s k A.ReadServers (Ob.Server q) → server_seen s q ≡ server_seen (with_servers s rows lives) q) → InBoth (SameUser k s (with_servers s rows lives) u) o o
+user_but_servers k s rows lives u None seen = tt
+user_but_servers k s rows lives u (Some x) seen =
+    record { admin = λ m. refl; created = λ m. refl; last_activity = λ m. refl; groups = λ m. refl; roles = λ m. refl; servers = λ name m. seen (server u name) m }
+
+pub unseen_servers : (s : Hub) (k : Token) (rows : FinMap key_cmp ServerRow) (lives : Lives)
+    → ((q : ServerKey) → May s k A.ReadServers (Ob.Server q) → server_seen s q ≡ server_seen (with_servers s rows lives) q)
+    → (May s k A.ReadHub Ob.Hub → len s.lives ≡ len lives) → SeesSame k s (with_servers s rows lives)
+unseen_servers s k rows lives seen leases = record {
+  allowed = λ a x. (λ m. m, λ m. m);
+  pool = λ m. refl;
+  leases = leases;
+  users = λ u asks. user_but_servers k s rows lives u (get s.tables.users u) seen;
+  groups = λ g asks. group_itself k s (with_servers s rows lives) g refl (get s.tables.groups g);
+  services = λ v asks. record { there = refl; roles = λ m. refl };
+  roles = λ m r. refl;
+}
+
+user_itself : (k : Token) (s : Hub) (rows : OtherRows) (u : List ℕ) (o : Option User) → InBoth (SameUser k s (with_others s rows) u) o o
+user_itself k s rows u None = tt
+user_itself k s rows u (Some x) = record { admin = λ m. refl; created = λ m. refl; last_activity = λ m. refl; groups = λ m. refl; roles = λ m. refl; servers = λ name m. refl }
+
+pub unseen_others : (s : Hub) (k : Token) (rows : OtherRows) → SeesSame k s (with_others s rows)
+unseen_others s k rows = record {
+  allowed = λ a x. (λ m. m, λ m. m);
+  pool = λ m. refl;
+  leases = λ m. refl;
+  users = λ u asks. user_itself k s rows u (get s.tables.users u);
+  groups = λ g asks. group_itself k s (with_others s rows) g refl (get s.tables.groups g);
+  services = λ v asks. record { there = refl; roles = λ m. refl };
+  roles = λ m r. refl;
+}

@@ -1,0 +1,43 @@
+-- Isolation: a reply depends on nothing but what its token may see.
+use Rattle.std.specs.Prelude.{◌≡◌, ℕ, Bool, true, false, List, Option, Some, None}
+use Rattle.hub_kit.specs.Hashes.{hash_text}
+use Rattle.hub_rows.specs.declared.records.Token.{Token}
+use Rattle.hub_tables.specs.Hashes.{row_with}
+use Rattle.hub_tables.specs.Own.{AreOwn}
+use Rattle.hub_tables.specs.State.{State}
+use Rattle.hub_machine.specs.State.{Hub}
+use Rattle.hub_machine.specs.Replies.{Reply}
+use Rattle.hub_machine.specs.declared.call.Asked.{Asked}
+use Rattle.hub_machine.specs.declared.call.Call.{Call}
+use Rattle.hub_machine.specs.declared.call.Call.TheVariants.{C1, C2, C3, C4, C6, C21, C22, C27, C28, C31, C32}
+use Rattle.hub_core.specs.Answer.{is_past}
+
+-- the calls whose method is GET
+abbrev pub is_get : Call → Bool
+is_get C1 = true
+is_get C2 = true
+is_get (C3 server) = true
+is_get (C4 offset limit paged) = true
+is_get (C6 u) = true
+is_get (C21 offset limit paged) = true
+is_get (C22 g) = true
+is_get (C27 offset limit paged) = true
+is_get (C28 v) = true
+is_get (C31 offset limit paged) = true
+is_get (C32 r) = true
+is_get _ = false
+
+-- the row of a text, good or over
+abbrev pub token_of : State → Option (List ℕ) → Option Token
+token_of t None = None
+token_of t (Some text) = row_with (λ k. k.hash) (hash_text text) t.tokens
+
+-- a state in which the call brings this token, names no revision that isn't reached, and finds each row under its own key
+pub record Finds (s : Hub) (asked : Asked) (k : Token) : Type 0 where
+  pub own : AreOwn s.tables
+  pub token : token_of s.tables asked.token ≡ Some k
+  pub reached : is_past s.length asked.seen ≡ false
+
+-- the reply without its revision
+abbrev pub apart : Reply → Reply
+apart r = record r { revision = None }

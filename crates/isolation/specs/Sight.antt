@@ -1,0 +1,129 @@
+-- What a token may see of the hub: the objects of which it may ask, and of each the fields whose actions it is allowed.
+use Rattle.std.specs.Prelude.{◌≡◌, ◌⊎◌, ◌↔◌, ℕ, Bool, List, length, Option, Some, None, if◌then◌else◌}
+use Rattle.std.specs.Ordering.{nat_cmp}
+use Rattle.std.specs.FinMap.{FinMap, get, contains_key, len}
+use Rattle.hub_kit.specs.KeyOrder.{name_cmp, key_cmp}
+use Rattle.hub_kit.specs.declared.names.ServerKey.{ServerKey}
+use Rattle.scope_names.specs.declared.action.Action.{Action}
+use Rattle.scope_names.specs.declared.action.Action.TheVariants as A
+use Rattle.scope_filters.specs.declared.object.Object.{Object}
+use Rattle.scope_filters.specs.declared.object.Object.TheVariants as Ob
+use Rattle.scope_filters.specs.declared.holder.Owner.TheVariants as Own
+use Rattle.server_life.specs.declared.life.Life.{Life}
+use Rattle.hub_rows.specs.declared.records.Group.{Group}
+use Rattle.hub_rows.specs.declared.records.Lease.{Lease}
+use Rattle.hub_rows.specs.declared.records.Next.{Next}
+use Rattle.hub_rows.specs.declared.records.OAuthClient.{OAuthClient}
+use Rattle.hub_rows.specs.declared.records.OAuthCode.{OAuthCode}
+use Rattle.hub_rows.specs.declared.records.ServerRow.{ServerRow}
+use Rattle.hub_rows.specs.declared.records.ShareCode.{ShareCode}
+use Rattle.hub_rows.specs.declared.records.Token.{Token}
+use Rattle.hub_rows.specs.declared.records.User.{User}
+use Rattle.hub_tables.specs.Lookups.{groups_of}
+use Rattle.roles.specs.Rights.{IsAllowed}
+use Rattle.hub_view.specs.Json.{Json}
+use Rattle.hub_view.specs.Servers.{is_live, is_ready, pending}
+use Rattle.hub_machine.specs.State.{Hub, Lives, life_of}
+use Rattle.hub_calls.specs.Facts.{roles_of_user, roles_of_group, roles_of_service}
+
+-- the token may do it
+abbrev pub May : Hub → Token → Action → Object → Type 0
+May s k a x = IsAllowed s.tables k a x
+
+-- ---- the objects of which a token may ask: those that it may list or name, and its owner
+
+abbrev pub AsksUser : Hub → Token → List ℕ → Type 0
+AsksUser s k u = (k.owner ≡ Own.User u) ⊎ (May s k A.ListUsers (Ob.User u) ⊎ May s k A.ReadUsersName (Ob.User u))
+
+abbrev pub AsksGroup : Hub → Token → List ℕ → Type 0
+AsksGroup s k g = May s k A.ListGroups (Ob.Group g) ⊎ May s k A.ReadGroupsName (Ob.Group g)
+
+abbrev pub AsksService : Hub → Token → List ℕ → Type 0
+AsksService s k v = (k.owner ≡ Own.Service v) ⊎ (May s k A.ListServices (Ob.Service v) ⊎ May s k A.ReadServicesName (Ob.Service v))
+
+-- ---- servers: nothing is shown of one that isn't live
+
+pub record ServerSeen : Type 0 where
+  pub last_activity : Option ℕ
+  pub started : Option ℕ
+  pub pending : Json
+  pub ready : Bool
+
+abbrev pub seen_row : Life → Option ServerRow → Option ServerSeen
+seen_row life None = None
+seen_row life (Some r) = if is_live life.phase then Some (record {
+  last_activity = r.last_activity;
+  started = r.started;
+  pending = pending life.phase;
+  ready = is_ready life.phase;
+}) else None
+
+abbrev pub server_seen : Hub → ServerKey → Option ServerSeen
+server_seen s q = seen_row (life_of s.lives q) (get s.tables.servers q)
+
+abbrev pub server : (user name : List ℕ) → ServerKey
+server user name = record { user = user; server = name }
+
+-- ---- the same is seen of an object in two states: each field that is shown
+
+pub record SameUser (k : Token) (s t : Hub) (u : List ℕ) (x y : User) : Type 0 where
+  pub admin : May s k A.ReadUsers (Ob.User u) → x.admin ≡ y.admin
+  pub created : May s k A.ReadUsers (Ob.User u) → x.created ≡ y.created
+  pub last_activity : May s k A.ReadUsersActivity (Ob.User u) → x.last_activity ≡ y.last_activity
+  pub groups : May s k A.ReadUsersGroups (Ob.User u) → groups_of s.tables u ≡ groups_of t.tables u
+  pub roles : May s k A.ReadRolesUsers (Ob.User u) → roles_of_user s.tables x ≡ roles_of_user t.tables y
+  pub servers : (name : List ℕ) → May s k A.ReadServers (Ob.Server (server u name)) → server_seen s (server u name) ≡ server_seen t (server u name)
+
+pub record SameGroup (k : Token) (s t : Hub) (g : List ℕ) (x y : Group) : Type 0 where
+  pub users : May s k A.ReadGroups (Ob.Group g) → x.users ≡ y.users
+  pub roles : May s k A.ReadRolesGroups (Ob.Group g) → roles_of_group s.tables g ≡ roles_of_group t.tables g
+
+pub record SameService (k : Token) (s t : Hub) (v : List ℕ) : Type 0 where
+  pub there : contains_key s.tables.services v ≡ contains_key t.tables.services v
+  pub roles : May s k A.ReadRolesServices (Ob.Service v) → roles_of_service s.tables v ≡ roles_of_service t.tables v
+
+-- there in both states, or in neither
+abbrev pub InBoth : {X : Type 0} → (X → X → Type 0) → Option X → Option X → Type 0
+InBoth Same None None = Unit {0}
+InBoth Same (Some x) (Some y) = Same x y
+InBoth Same _ _ = ⊥
+
+-- ---- the whole: a token is allowed the same in two states, and sees the same in them
+
+pub record SeesSame (k : Token) (s t : Hub) : Type 0 where
+  pub allowed : (a : Action) (x : Object) → May s k a x ↔ May t k a x
+  pub pool : May s k A.ReadHub Ob.Hub → length s.pool ≡ length t.pool
+  pub leases : May s k A.ReadHub Ob.Hub → len s.lives ≡ len t.lives
+  pub users : (u : List ℕ) → AsksUser s k u → InBoth (SameUser k s t u) (get s.tables.users u) (get t.tables.users u)
+  pub groups : (g : List ℕ) → AsksGroup s k g → InBoth (SameGroup k s t g) (get s.tables.groups g) (get t.tables.groups g)
+  pub services : (v : List ℕ) → AsksService s k v → SameService k s t v
+  pub roles : May s k A.AdminRoles Ob.Hub → (r : List ℕ) → get s.tables.roles r ≡ get t.tables.roles r
+
+-- ---- states with other rows
+
+abbrev pub with_users : Hub → FinMap name_cmp User → Hub
+with_users s rows = record s { tables = record s.tables { users = rows } }
+
+abbrev pub with_servers : Hub → FinMap key_cmp ServerRow → Lives → Hub
+with_servers s rows lives = record s { tables = record s.tables { servers = rows }; lives = lives }
+
+-- of the kinds that no right and no body of a built GET depends on
+pub record OtherRows : Type 0 where
+  pub tokens : FinMap nat_cmp Token
+  pub leases : FinMap name_cmp Lease
+  pub codes : FinMap nat_cmp ShareCode
+  pub clients : FinMap name_cmp OAuthClient
+  pub grant_codes : FinMap name_cmp OAuthCode
+  pub nexts : FinMap name_cmp Next
+
+abbrev pub with_others : Hub → OtherRows → Hub
+with_others s rows = record s {
+  tables = record s.tables {
+    tokens = rows.tokens;
+    leases = rows.leases;
+    codes = rows.codes;
+    clients = rows.clients;
+    grant_codes = rows.grant_codes;
+    nexts = rows.nexts;
+  };
+}
