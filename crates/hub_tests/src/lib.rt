@@ -1,4 +1,4 @@
-//! Tests of the interface, of connections and of the commands: what no clause can say, with values from outside.
+//! Tests of the interface and of the words of commands: what no clause can say, with values from outside.
 //! A crate of their own, since a crate that has tests is proved twice. Nothing stands above it.
 #![tactic(auto)]
 
@@ -6,9 +6,3 @@
 mod of_hub_api;
 #[cfg(test)]
 mod of_hub_main;
-#[cfg(test)]
-mod of_hub_run;
-#[cfg(test)]
-mod of_sessions;
-#[cfg(test)]
-mod talk;

@@ -171,12 +171,13 @@ fn the_parts_of_requests(rt: HostRuntime) -> Result<(), Fail> {
             reason
         )?
     );
-    match asked(
+    let put = asked(
         alloc,
         "PUT",
         role,
         b"{\"scopes\":[\"self\"],\"users\":[\"ann\",\"bob\"]}",
-    )? {
+    )?;
+    match &put {
         Ok(
             Asked {
                 call: Call::C33 {

@@ -42,7 +42,7 @@ pub fn refuse(
     revision: &str,
     message: &str,
 ) -> Result<(), AllocError> {
-    let number = &status[..3];
+    let (number, _) = status.split_once(' ').unwrap_or((status, ""));
     let body = format!(in alloc; "{{\"message\":\"{message}\",\"status\":{number}}}")?;
     say(alloc, replies, status, revision, body.as_str())
 }

@@ -1,0 +1,10 @@
+//! Tests of whole connections and sessions, with requests and replies written by hand.
+//! A crate of their own, since a crate that has tests is proved twice. Nothing stands above it.
+#![tactic(auto)]
+
+#[cfg(test)]
+mod of_hub_run;
+#[cfg(test)]
+mod of_sessions;
+#[cfg(test)]
+mod talk;
