@@ -1,8 +1,9 @@
 #!/bin/sh
 # Processor time of requests of one connection: `session` over a pipe, with so many users kept.
 # usage: docs/bench/session.sh [PROGRAM]
-# PROGRAM is the program `hub` as `rt run` leaves it (crates/hub/out/hub if none is named: run `rt run` there first). Each figure is the least of
-# nine runs: the processor time of the session with 800 such requests less that of the session with none of them, by 800. It stands outside the gate.
+# PROGRAM is the program `hub` as `rt run` leaves it (crates/hub/out/hub if none is named: run `rt run` there first). Each figure is the processor
+# time of the session with 800 such requests less that of the session with none of them, by 800; of each the least of 25 runs in turn. It stands
+# outside the gate.
 set -eu
 top=$(cd "$(dirname "$0")/../.." && pwd)
 program=${1:-$top/crates/hub/out/hub}
@@ -11,6 +12,7 @@ import resource, subprocess, sys
 
 program = sys.argv[1]
 ASKED = 800
+ROUNDS = 25
 
 
 def request(method, path, body=b"", extra=b""):
@@ -45,9 +47,9 @@ def each(kept, asked):
     """Microseconds of each of the asked requests over so many users."""
     first = users(kept)
     steps = -(-kept // 1000)
-    base = min(seconds(first, steps) for _ in range(9))
-    whole = min(seconds(first + b"".join(asked), steps + len(asked)) for _ in range(9))
-    return 1e6 * (whole - base) / len(asked)
+    text = first + b"".join(asked)
+    runs = [(seconds(first, steps), seconds(text, steps + len(asked))) for _ in range(ROUNDS)]
+    return 1e6 * (min(whole for _, whole in runs) - min(base for base, _ in runs)) / len(asked)
 
 
 identity = [request(b"GET", b"/hub/api/user")] * ASKED
