@@ -39,7 +39,8 @@ pub fn put_role(alloc: Global, tables: &Tables, role: &Role) -> Result<Vec<RowCh
     Ok(one(alloc, change)?)
 }
 
-fn is_fixed_role(role: &RoleName) -> bool
+/// Whether the role is one that every hub has, and that no call changes: `user` and `admin` (JupyterHub's documentation, "Default roles").
+pub fn is_fixed_role(role: &RoleName) -> bool
     ensures { result ≡ is_fixed_role role.now }
 {
     role.as_str() == "user" || role.as_str() == "admin"

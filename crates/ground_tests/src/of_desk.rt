@@ -49,25 +49,6 @@ impl Job<Numbers> for Append {
     }
 }
 
-// Whether the list is 7, 8.
-#[derive(Drop)]
-struct IsSevenEight {
-    acted: bool,
-}
-
-impl Job<Numbers> for IsSevenEight {
-    type Answer = bool;
-
-    ghost acted = { λ j. j.acted };
-
-    ghost does = { λ j b r j' b'. b' ≡ b };
-
-    fn act(&mut self, book: &mut Numbers) -> bool {
-        self.acted = true;
-        book.all.as_slice() == [7, 8].as_slice()
-    }
-}
-
 fn add<R: Wait>(rt: &R, desk: &Desk<Numbers>, pass: &mut Pass<Numbers>, number: u64) -> bool
     requires { pass.old.of ≡ desk.now }
     ensures { pass.new.of ≡ pass.old.of }
@@ -77,46 +58,6 @@ fn add<R: Wait>(rt: &R, desk: &Desk<Numbers>, pass: &mut Pass<Numbers>, number: 
         acted: false,
     };
     desk.visit(rt, pass, &mut job)
-}
-
-fn finds_both<R: Wait>(rt: &R, desk: &Desk<Numbers>, pass: &mut Pass<Numbers>) -> bool
-    requires { pass.old.of ≡ desk.now }
-    ensures { pass.new.of ≡ pass.old.of }
-{
-    let mut job = IsSevenEight { acted: false };
-    desk.visit(rt, pass, &mut job)
-}
-
-fn none(rt: &HostRuntime) -> Numbers {
-    Numbers {
-        all: Vec::new(rt.alloc()),
-    }
-}
-
-#[test]
-fn two_passes_stand_in_one_history(rt: HostRuntime) {
-    let Ok((desk, mut first)) = Desk::open(rt.alloc(), none(&rt)) else {
-        panic!(rt; "no memory")
-    };
-    assert!(rt; add(&rt, &desk, &mut first, 7));
-    let Ok(mut second) = desk.split(&mut first) else {
-        panic!(rt; "no memory")
-    };
-    assert!(rt; add(&rt, &desk, &mut second, 8) && finds_both(&rt, &desk, &mut second));
-    desk.join(&mut first, second);
-    assert_eq!(rt; desk.close(&rt, first).all.as_slice(), [7, 8].as_slice());
-}
-
-#[test]
-fn a_pass_that_was_split_before_finds_all(rt: HostRuntime) {
-    let Ok((desk, mut first)) = Desk::open(rt.alloc(), none(&rt)) else {
-        panic!(rt; "no memory")
-    };
-    let Ok(mut early) = desk.split(&mut first) else {
-        panic!(rt; "no memory")
-    };
-    assert!(rt; add(&rt, &desk, &mut first, 7) && add(&rt, &desk, &mut first, 8));
-    assert!(rt; finds_both(&rt, &desk, &mut early));
 }
 
 // Appends the number a thousand times, and answers whether it did.
@@ -139,7 +80,10 @@ fn add_many<R: Wait>(
 
 #[test]
 fn two_threads_share_one_book(rt: HostRuntime) {
-    let Ok((desk, mut first)) = Desk::open(rt.alloc(), none(&rt)) else {
+    let none = Numbers {
+        all: Vec::new(rt.alloc()),
+    };
+    let Ok((desk, mut first)) = Desk::open(rt.alloc(), none) else {
         panic!(rt; "no memory")
     };
     let Ok(second) = desk.split(&mut first) else {

@@ -1,99 +1,92 @@
 //! What no clause says: values from outside, and that each public call succeeds where there is memory.
 use hub_kit::hashes::{hash_of, token_text};
 use hub_kit::moment::Moment;
-use hub_kit::moments::{MomentError, moment, moment_text, read_moment};
-use hub_kit::names::{
-    NameError, key_text, read_group, read_key, read_role, read_server, read_service, read_user,
-};
-use hub_kit::targets::{TargetError, read_target};
+use hub_kit::moments::{MomentError, moment_text, read_moment};
+use hub_kit::names::{NameError, read_key, read_user};
+use hub_kit::targets::read_target;
 use hub_kit::text::Text;
-use std::test::Fail;
+use std::alloc::{AllocError, Global};
+
+const USERS: [(&str, Option<NameError>); 6] = [
+    ("ann", None),
+    (
+        "abcdefghijklmnopqrstuvwxyz0123456789abcdefghijklmnopqrstuvwxyz01",
+        None,
+    ),
+    (
+        "abcdefghijklmnopqrstuvwxyz0123456789abcdefghijklmnopqrstuvwxyz012",
+        Some(NameError::TooLong),
+    ),
+    ("", Some(NameError::Empty)),
+    (".a", Some(NameError::BadByte(0))),
+    ("aB", Some(NameError::BadByte(1))),
+];
+
+const KEYS: [(&str, Option<NameError>); 4] = [
+    ("ann/", None),
+    ("ann", Some(NameError::BadByte(3))),
+    ("", Some(NameError::BadByte(0))),
+    ("ann/lab/x", Some(NameError::BadByte(7))),
+];
 
 #[test]
-fn names(rt: HostRuntime) {
-    let longest = "abcdefghijklmnopqrstuvwxyz0123456789abcdefghijklmnopqrstuvwxyz01";
-    let longer = "abcdefghijklmnopqrstuvwxyz0123456789abcdefghijklmnopqrstuvwxyz012";
-    assert!(rt; read_user(b"ann").is_ok());
-    assert!(rt; read_user(longest.as_bytes()).is_ok());
-    for (text, error) in [
-        ("", NameError::Empty),
-        (longer, NameError::TooLong),
-        (".a", NameError::BadByte(0)),
-        ("aB", NameError::BadByte(1)),
-    ] {
-        assert!(rt; read_user(text.as_bytes()) == Err(error), "{text}");
+fn names_and_keys(rt: HostRuntime) {
+    for (text, error) in USERS {
+        assert!(rt; read_user(text.as_bytes()).err() == error, "{text}");
     }
-    assert!(rt; read_group(b"staff").is_ok());
-    assert!(rt; read_service(b"culler").is_ok());
-    assert!(rt; read_role(b"teacher").is_ok());
-    assert!(rt; read_server(b"").is_ok());
+    for (text, error) in KEYS {
+        assert!(rt; read_key(text.as_bytes()).err() == error, "{text}");
+    }
+}
+
+/// Whether it is a text, and this one.
+fn is_text(text: Result<Text, AllocError>, wanted: &str) -> bool {
+    match text {
+        Ok(text) => text.as_str() == wanted,
+        Err(_) => false,
+    }
+}
+
+fn is_target(alloc: Global, text: &str, wanted: &str) -> bool {
+    match read_target(alloc, text.as_bytes()) {
+        Ok(target) => target.as_text().as_str() == wanted,
+        Err(_) => wanted.is_empty(),
+    }
 }
 
 #[test]
-fn keys(rt: HostRuntime) -> Result<(), Fail> {
-    for (text, error) in [
-        ("ann", NameError::BadByte(3)),
-        ("", NameError::BadByte(0)),
-        ("ann/lab/x", NameError::BadByte(7)),
-    ] {
-        assert!(rt; read_key(text.as_bytes()) == Err(error), "{text}");
+fn printed_texts(rt: HostRuntime) {
+    let alloc = rt.alloc();
+    let hash = "ba7816bf8f01cfea414140de5dae2223b00361a396177a9cb410ff61f20015ad";
+    let draw = [0, 1, 2, 3, 4, 5, 6, 7, 8, 9, 10, 11, 12, 13, 254, 255];
+    assert!(rt; is_text(hash_of(alloc, b"abc"), hash));
+    assert!(rt; is_text(token_text(alloc, draw), "000102030405060708090a0b0c0dfeff"));
+    assert!(rt; is_text(moment_text(alloc, Moment::zero()), "1970-01-01T00:00:00Z"));
+    assert!(rt; is_target(alloc, "http://h", "http://h:80"));
+    assert!(rt; is_target(alloc, "http://h:0", ""));
+}
+
+/// Texts, and their seconds where they are those of moments.
+const MOMENTS: [(&str, Option<u64>); 4] = [
+    ("2023-11-14T23:13:20.9+01:00", Some(1_700_000_000)),
+    ("1969-12-31T23:59:59Z", Some(0)),
+    ("9999-01-01T00:00:00Z", Some(250_000_000_000)),
+    ("2023-11-14T22:13:20", None),
+];
+
+fn is_moment(alloc: Global, text: &str, seconds: Option<u64>) -> bool {
+    let Ok(text) = Text::from_str(alloc, text) else {
+        return false;
+    };
+    match read_moment(&text) {
+        Ok(moment) => seconds == Some(moment.seconds()),
+        Err(error) => seconds.is_none() && error == MomentError::BadText,
     }
-    match read_key(b"ann/") {
-        Ok(key) => {
-            let text = key_text(rt.alloc(), &key)?;
-            assert_eq!(rt; text.as_str(), "ann/");
-        }
-        Err(_) => assert!(rt; false, "ann/"),
-    }
-    Ok(())
 }
 
 #[test]
-fn hashes(rt: HostRuntime) -> Result<(), Fail> {
-    let hash = hash_of(rt.alloc(), b"abc")?;
-    assert_eq!(rt;
-        hash.as_str(),
-        "ba7816bf8f01cfea414140de5dae2223b00361a396177a9cb410ff61f20015ad"
-    );
-    let token = token_text(
-        rt.alloc(),
-        [0, 1, 2, 3, 4, 5, 6, 7, 8, 9, 10, 11, 12, 13, 254, 255],
-    )?;
-    assert_eq!(rt; token.as_str(), "000102030405060708090a0b0c0dfeff");
-    Ok(())
-}
-
-#[test]
-fn moments(rt: HostRuntime) -> Result<(), Fail> {
-    let first = moment_text(rt.alloc(), Moment::zero())?;
-    assert_eq!(rt; first.as_str(), "1970-01-01T00:00:00Z");
-    assert!(rt; moment(250_000_000_001).is_none());
-    for (text, seconds) in [
-        ("2023-11-14T23:13:20.9+01:00", 1_700_000_000),
-        ("1969-12-31T23:59:59Z", 0),
-        ("9999-01-01T00:00:00Z", 250_000_000_000),
-    ] {
-        let text = Text::from_str(rt.alloc(), text)?;
-        assert!(rt;
-            read_moment(&text) == Ok(Moment::up_to(seconds)),
-            "{seconds}"
-        );
-    }
-    let local = Text::from_str(rt.alloc(), "2023-11-14T22:13:20")?;
-    assert!(rt; read_moment(&local) == Err(MomentError::BadText));
-    Ok(())
-}
-
-#[test]
-fn targets(rt: HostRuntime) {
-    match read_target(rt.alloc(), b"http://h") {
-        Ok(target) => assert_eq!(rt; target.as_text().as_str(), "http://h:80"),
-        Err(_) => assert!(rt; false, "http://h"),
-    }
-    for text in ["https://h:1", "http://u@h:1", "http://h:1/x", "http://h:0"] {
-        match read_target(rt.alloc(), text.as_bytes()) {
-            Ok(_) => assert!(rt; false, "{text}"),
-            Err(error) => assert!(rt; error == TargetError::BadTarget, "{text}"),
-        }
+fn moments(rt: HostRuntime) {
+    for (text, seconds) in MOMENTS {
+        assert!(rt; is_moment(rt.alloc(), text, seconds), "{text}");
     }
 }

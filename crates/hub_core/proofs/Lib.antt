@@ -5,4 +5,6 @@ pub mod Places
 pub mod Keys
 pub mod Reading
 pub mod Opened
+pub mod OpenedRows
 pub mod Looking
+pub mod Statuses

@@ -1,31 +1,56 @@
 -- What the rows of a configuration leave as it is.
 use Rattle.std.proofs.Common.{◌≡◌, ℕ, Bool, true, false, cond, List, [], ◌∷◌, map, length, ◌≤◌, refl, sym, ◌∙◌, ap, subst, arith}
-use Rattle.std.specs.Prelude.{sum_by}
+use Rattle.std.specs.Prelude.{fold, sum_by}
 use Rattle.std.specs.Ordering.{nat_cmp}
-use Rattle.std.specs.FinMap.{empty, entries, values, len-entries, len-empty, len}
+use Rattle.std.specs.FinMap.{empty, entries, len-entries, len-empty, len}
+use Rattle.hub_rows.specs.declared.records.Group.{Group}
+use Rattle.hub_rows.specs.declared.records.Role.{Role}
 use Rattle.hub_tables.specs.State.{State}
 use Rattle.hub_machine.specs.State.{Lives, owed}
 use Rattle.hub_machine.specs.declared.lives.Leased.{Leased}
 use Rattle.server_life.specs.Owed.{owed as owed_in}
-use Rattle.hub_core.specs.Opening.{with_user, with_users, added, is_added, with_token, with_tokens, no_tables, opened_tables}
+use Rattle.hub_core.specs.Opening.{with_user, with_group, with_service, with_role, added, is_added, with_token, no_tables, opened_tables}
 use Rattle.hub_core.specs.declared.config.ConfigUser.{ConfigUser}
+use Rattle.hub_core.specs.declared.config.ConfigService.{ConfigService}
 use Rattle.hub_core.specs.declared.config.ConfigToken.{ConfigToken}
 use Rattle.hub_core.specs.declared.config.HubConfig.{HubConfig}
 
-users_limits : (now : ℕ) (us : List ConfigUser) (t : State) → (with_users now us t).limits ≡ t.limits
-users_limits now [] t = refl
-users_limits now (u ∷ us) t = users_limits now us (with_user now u t)
+-- what each step keeps, all of them keep
+fold_keeps : {X : Type 0} (P : State → Type 0) (f : State → X → State) → ((t : State) (x : X) → P t → P (f t x)) → (xs : List X) (t : State) → P t → P (fold f t xs)
+fold_keeps P f h [] t p = p
+fold_keeps P f h (x ∷ xs) t p = fold_keeps P f h xs (f t x) (h t x p)
 
-token_limits : (b : Bool) (now : ℕ) (k : ConfigToken) (t : State) → (cond b (added now k t) t).limits ≡ t.limits
-token_limits true now k t = refl
-token_limits false now k t = refl
+either_keeps : (P : State → Type 0) (b : Bool) (t u : State) → P t → P u → P (cond b u t)
+either_keeps P true t u p q = q
+either_keeps P false t u p q = p
 
-tokens_limits : (now : ℕ) (ks : List ConfigToken) (t : State) → (with_tokens now ks t).limits ≡ t.limits
-tokens_limits now [] t = refl
-tokens_limits now (k ∷ ks) t = tokens_limits now ks (with_token now k t) ∙ token_limits (is_added t k) now k t
+-- what each row of a configuration keeps
+pub record StepsKeep (P : State → Type 0) (now : ℕ) : Type 0 where
+  pub user : (t : State) (u : ConfigUser) → P t → P (with_user now t u)
+  pub group : (t : State) (g : Group) → P t → P (with_group t g)
+  pub service : (t : State) (s : ConfigService) → P t → P (with_service t s)
+  pub role : (t : State) (r : Role) → P t → P (with_role t r)
+  pub token : (t : State) (k : ConfigToken) → P t → P (added now k t)
+
+pub opened_keeps : (P : State → Type 0) (c : HubConfig) (now : ℕ) → StepsKeep P now → P (no_tables c.limits) → P (opened_tables c now)
+opened_keeps P c now h p =
+    let users = fold (with_user now) (no_tables c.limits) c.users in
+    let groups = fold with_group users c.groups in
+    let services = fold with_service groups c.services in
+    fold_keeps P (with_token now) (λ t k q. either_keeps P (is_added t k) t (added now k t) q (h.token t k q)) c.tokens (fold with_role services c.roles)
+    (fold_keeps P with_role h.role c.roles services
+    (fold_keeps P with_service h.service c.services groups
+    (fold_keeps P with_group h.group c.groups users
+    (fold_keeps P (with_user now) h.user c.users (no_tables c.limits) p))))
 
 pub opened_limits : (c : HubConfig) (now : ℕ) → (opened_tables c now).limits ≡ c.limits
-opened_limits c now = tokens_limits now c.tokens (with_users now c.users (no_tables c.limits)) ∙ users_limits now c.users (no_tables c.limits)
+opened_limits c now = opened_keeps (λ t. t.limits ≡ c.limits) c now (record {
+  user = λ t u p. p;
+  group = λ t g p. p;
+  service = λ t s p. p;
+  role = λ t r p. p;
+  token = λ t k p. p;
+}) refl
 
 -- ---- no live servers
 

@@ -83,14 +83,14 @@ noted_after ch told told' s s' hub telling =
 same_entries : (told told' : Option (List Change)) (s s' : Hub) → s' ≡ s → told' ≡ told → listed told' s'.length ≡ listed told s.length
 same_entries told told' s s' hub telling = λ i. listed (telling i) (hub i).length
 
-pub placed : (start s s' : Hub) (told told' : Option (List Change)) (long long' : ℕ) (now : ℕ) (draw : Option (List ℕ)) (asked : Asked) (a : Answer) (reply : Reply) (before after : ℕ)
+pub placed : (start s s' : Hub) (told told' : Option (List Change)) (long long' : ℕ) (now : ℕ) (draw : Option (List ℕ)) (asked : Asked) (a : Answer) (reply : Reply) (faults faults' : ℕ)
     → Answers s now draw asked a → IsTied start s told long → IsTied start s' told' long'
-    → Did a reply s s' told told' long long' ⊎ Undid a reply before after s s' told told' long long'
+    → Did a reply s s' told told' long long' ⊎ Undid a reply faults faults' s s' told told' long long'
     → AnsweredAt start (listed told s.length) (listed told' s'.length) now draw asked (given.Answer reply)
-    ⊎ FaultedAt start (listed told s.length) (listed told' s'.length) now draw asked (given.Answer reply)
-placed start s s' told told' long long' now draw asked a reply before after answers t t' carried =
+    ⊎ FaultedAt start (listed told s.length) (listed told' s'.length) faults faults' now draw asked (given.Answer reply)
+placed start s s' told told' long long' now draw asked a reply faults faults' answers t t' carried =
     elim carried as (λ _. AnsweredAt start (listed told s.length) (listed told' s'.length) now draw asked (given.Answer reply)
-    ⊎ FaultedAt start (listed told s.length) (listed told' s'.length) now draw asked (given.Answer reply)) [
+    ⊎ FaultedAt start (listed told s.length) (listed told' s'.length) faults faults' now draw asked (given.Answer reply)) [
       | inl d ↦ inl (record {
         state = s;
         reached = reached start s told long t;
@@ -108,6 +108,7 @@ placed start s s' told told' long long' now draw asked a reply before after answ
         has = u.has;
         noted = same_entries told told' s s' u.stays.hub u.stays.telling;
         outcome = ap answered (u.said ∙ ap (λ (x : Hub). refusal_reply x.length KeeperFault) (sym u.stays.hub) ∙ ap (λ n. refusal_reply n KeeperFault) (listed_length start s' told' long' t'));
+        rises = u.rises;
       })
     ]
 
@@ -135,14 +136,14 @@ appends : (ch : Option Change) (before after : List Entry) → Noted ch before a
 appends None before after e = ([], append-nil before ∙ sym e)
 appends (Some c) before after e = elim e as (λ _. IsPrefix before after) [ inl t ↦ (Some c ∷ [], sym t) | inr t ↦ (None ∷ [], sym t) ]
 
-more : (start : Hub) (before after : List Entry) (now : ℕ) (draw : Option (List ℕ)) (asked : Asked) (o : Outcome)
-    → AnsweredAt start before after now draw asked o ⊎ FaultedAt start before after now draw asked o → IsPrefix before after
-more start before after now draw asked o v = elim v as (λ _. IsPrefix before after) [
+more : (start : Hub) (before after : List Entry) (faults faults' : ℕ) (now : ℕ) (draw : Option (List ℕ)) (asked : Asked) (o : Outcome)
+    → AnsweredAt start before after now draw asked o ⊎ FaultedAt start before after faults faults' now draw asked o → IsPrefix before after
+more start before after faults faults' now draw asked o v = elim v as (λ _. IsPrefix before after) [
   | inl a ↦ appends (change_of a.answer) before after a.noted
   | inr f ↦ ([], append-nil before ∙ sym f.noted)
 ]
 
-pub visited_appends : {E : Type 0} (start : Hub) (before after : List Entry) (now : ℕ) (draw : Option (List ℕ)) (asked : Asked) (r : Result Outcome E)
-    → VisitedAt start before after now draw asked r → IsPrefix before after
-visited_appends start before after now draw asked (Ok o) v = more start before after now draw asked o v
-visited_appends start before after now draw asked (Err e) v = ([], append-nil before ∙ sym v)
+pub visited_appends : {E : Type 0} (start : Hub) (before after : List Entry) (faults faults' : ℕ) (now : ℕ) (draw : Option (List ℕ)) (asked : Asked) (r : Result Outcome E)
+    → VisitedAt start before after faults faults' now draw asked r → IsPrefix before after
+visited_appends start before after faults faults' now draw asked (Ok o) v = more start before after faults faults' now draw asked o v
+visited_appends start before after faults faults' now draw asked (Err e) v = ([], append-nil before ∙ sym v)

@@ -1,16 +1,21 @@
 -- The state that a book begins with: exactly the rows of its configuration, and a history without entries.
-use Rattle.std.specs.Prelude.{◌≡◌, ℕ, ◌+◌, ◌≤◌, Bool, not, ◌||◌, ◌&&◌, nat_lt, List, [], ◌∷◌, ◌++◌, map, codes, Option, Some, None, Result, Ok, Err, if◌then◌else◌}
+use Rattle.std.specs.Prelude.{◌≡◌, ℕ, ◌+◌, ◌≤◌, Bool, not, ◌||◌, ◌&&◌, nat_lt, List, [], ◌∷◌, ◌++◌, map, fold, codes, Option, Some, None, Result, Ok, Err, if◌then◌else◌}
 use Rattle.std.specs.Option.{is_some}
-use Rattle.std.specs.FinMap.{empty, get, contains_key, insert, len, values}
+use Rattle.std.specs.FinMap.{FinMap, empty, get, contains_key, insert, len, values}
+use Rattle.std.specs.declared.cmp.Ordering.{Ordering}
 use Rattle.hub_devices.specs.Faults.{Rises}
 use Rattle.hub_kit.specs.Hashes.{hash_text}
+use Rattle.hub_kit.specs.KeyOrder.{name_cmp}
 use Rattle.scope_filters.specs.declared.holder.Owner.{Owner}
 use Rattle.scope_filters.specs.declared.holder.Owner.TheVariants.{User as OfUser, Service as OfService}
 use Rattle.hub_rows.specs.declared.changes.RowChange.{RowChange}
-use Rattle.hub_rows.specs.declared.changes.RowChange.TheVariants.{PutUser, PutToken, PutNext}
+use Rattle.hub_rows.specs.declared.changes.RowChange.TheVariants.{PutUser, PutGroup, PutService, PutRole, PutToken, PutOAuthClient, PutNext}
 use Rattle.hub_rows.specs.declared.limits.Limits.{Limits}
 use Rattle.hub_rows.specs.declared.records.User.{User}
+use Rattle.hub_rows.specs.declared.records.Group.{Group}
+use Rattle.hub_rows.specs.declared.records.Role.{Role}
 use Rattle.hub_rows.specs.declared.records.Token.{Token}
+use Rattle.hub_rows.specs.declared.records.OAuthClient.{OAuthClient}
 use Rattle.hub_rows.specs.declared.records.Next.{Next}
 use Rattle.hub_tables.specs.Hashes.{row_with}
 use Rattle.hub_tables.specs.State.{State}
@@ -23,6 +28,7 @@ use Rattle.hub_machine.specs.State.{Hub}
 use Rattle.hub_core.specs.Visits.{Standing}
 use Rattle.hub_machine.specs.declared.change.Change.{Change}
 use Rattle.hub_core.specs.declared.config.ConfigUser.{ConfigUser}
+use Rattle.hub_core.specs.declared.config.ConfigService.{ConfigService}
 use Rattle.hub_core.specs.declared.config.ConfigToken.{ConfigToken}
 use Rattle.hub_core.specs.declared.config.HubConfig.{HubConfig}
 use Rattle.hub_core.specs.declared.open_error.OpenError.{OpenError}
@@ -56,12 +62,38 @@ abbrev pub user_row : ℕ → ConfigUser → Option User → User
 user_row now u None = record { name = u.name; admin = u.admin; created = now; last_activity = None }
 user_row now u (Some x) = record { name = u.name; admin = x.admin || u.admin; created = x.created; last_activity = x.last_activity }
 
-abbrev pub with_user : ℕ → ConfigUser → State → State
-with_user now u t = record t { users = insert t.users u.name (user_row now u (get t.users u.name)) }
+abbrev pub with_user : ℕ → State → ConfigUser → State
+with_user now t u = record t { users = insert t.users u.name (user_row now u (get t.users u.name)) }
 
-abbrev pub with_users : ℕ → List ConfigUser → State → State
-with_users now [] t = t
-with_users now (u ∷ us) t = with_users now us (with_user now u t)
+-- ---- groups, services and roles
+
+-- a row under its key, where none is there
+abbrev pub put_new : {K X : Type 0} {R : K → K → Ordering} → K → X → FinMap R X → FinMap R X
+put_new key row rows = if contains_key rows key then rows else insert rows key row
+
+abbrev pub with_group : State → Group → State
+with_group t g = record t { groups = put_new g.name g t.groups }
+
+-- the client of a service, by its name, its redirect URI and its secret
+abbrev pub client_with : List ℕ → Option (List ℕ) → Option (List ℕ) → Option OAuthClient
+client_with name (Some uri) (Some secret) = Some (record { id = codes "service:" ++ name; hash = hash_text secret; redirect_uri = uri })
+client_with name _ _ = None
+
+abbrev pub client_of : ConfigService → Option OAuthClient
+client_of s = client_with s.name s.redirect_uri s.secret
+
+-- the client, if there is one, in place of the one of its id
+abbrev pub with_client : Option OAuthClient → FinMap name_cmp OAuthClient → FinMap name_cmp OAuthClient
+with_client None rows = rows
+with_client (Some client) rows = insert rows client.id client
+
+-- its row, where none of its name is there, and its client
+abbrev pub with_service : State → ConfigService → State
+with_service t s = record t { services = put_new s.name (record { name = s.name }) t.services; clients = with_client (client_of s) t.clients }
+
+-- in place of the one of its name
+abbrev pub with_role : State → Role → State
+with_role t r = record t { roles = insert t.roles r.name r }
 
 -- ---- tokens
 
@@ -96,18 +128,17 @@ both_put k next t = record t { tokens = insert t.tokens k.id k; nexts = insert t
 abbrev pub added : ℕ → ConfigToken → State → State
 added now k t = both_put (token_row (next_token t) now k) (record { name = codes "token"; next = next_token t + 1 }) t
 
-abbrev pub with_token : ℕ → ConfigToken → State → State
-with_token now k t = if is_added t k then added now k t else t
-
-abbrev pub with_tokens : ℕ → List ConfigToken → State → State
-with_tokens now [] t = t
-with_tokens now (k ∷ ks) t = with_tokens now ks (with_token now k t)
+abbrev pub with_token : ℕ → State → ConfigToken → State
+with_token now t k = if is_added t k then added now k t else t
 
 -- ---- the whole
 
--- its users, and then its tokens, each in order
+-- its users, groups, services, roles and tokens, each in order
 abbrev pub opened_tables : HubConfig → ℕ → State
-opened_tables c now = with_tokens now c.tokens (with_users now c.users (no_tables c.limits))
+opened_tables c now =
+    let people = fold (with_user now) (no_tables c.limits) c.users in
+    let services = fold with_service (fold with_group people c.groups) c.services in
+    fold (with_token now) (fold with_role services c.roles) c.tokens
 
 abbrev pub opened : HubConfig → ℕ → Hub
 opened c now =
@@ -115,15 +146,27 @@ opened c now =
 
 -- the rows of such tables, kind by kind
 abbrev pub rows_in : State → List RowChange
-rows_in t = map PutUser (values t.users) ++ (map PutToken (values t.tokens) ++ map PutNext (values t.nexts))
+rows_in t =
+    map PutUser (values t.users)
+    ++ (map PutGroup (values t.groups)
+    ++ (map PutService (values t.services)
+    ++ (map PutRole (values t.roles)
+    ++ (map PutToken (values t.tokens)
+    ++ (map PutOAuthClient (values t.clients)
+    ++ map PutNext (values t.nexts))))))
 
 -- the kind with its limit, where it has more rows
 abbrev pub past_limit : (kind limit rows : ℕ) → Option (ℕ × ℕ) → Option (ℕ × ℕ)
 past_limit kind limit rows other = if nat_lt limit rows then Some (kind, limit) else other
 
--- the first kind that has more rows than its limit, and this limit
+-- the first kind that has more rows than its limit, and this limit. Clients of services are no more than services, and next numbers have no limit
 abbrev pub first_full : State → Option (ℕ × ℕ)
-first_full t = past_limit 1 t.limits.users (len t.users) (past_limit 5 t.limits.tokens (len t.tokens) None)
+first_full t =
+    past_limit 1 t.limits.users (len t.users)
+    (past_limit 2 t.limits.groups (len t.groups)
+    (past_limit 3 t.limits.services (len t.services)
+    (past_limit 4 t.limits.roles (len t.roles)
+    (past_limit 5 t.limits.tokens (len t.tokens) None))))
 
 -- ---- what opening answers
 

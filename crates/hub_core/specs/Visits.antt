@@ -101,8 +101,8 @@ pub record AnsweredAt (start : Hub) (before after : List Entry) (now : ℕ) (dra
   pub noted : Noted (change_of answer) before after
   pub outcome : outcome_view o ≡ outcome_of (length after) answer
 
--- the keeper refused the rows of the answer in that state: there is no entry
-pub record FaultedAt (start : Hub) (before after : List Entry) (now : ℕ) (draw : Option (List ℕ)) (asked : Asked) (o : Outcome) : Type 0 where
+-- the keeper refused the rows of the answer in that state: there is no entry, and its count of faults rose
+pub record FaultedAt (start : Hub) (before after : List Entry) (faults faults' : ℕ) (now : ℕ) (draw : Option (List ℕ)) (asked : Asked) (o : Outcome) : Type 0 where
   pub state : Hub
   pub reached : Reached start before state
   pub answer : Answer
@@ -111,10 +111,12 @@ pub record FaultedAt (start : Hub) (before after : List Entry) (now : ℕ) (draw
   pub has : change_of answer ≡ Some change
   pub noted : after ≡ before
   pub outcome : outcome_view o ≡ answered (refusal_reply (length after) KeeperFault)
+  pub rises : Rises faults faults'
 
-abbrev pub VisitedAt : {E : Type 0} → Hub → List Entry → List Entry → ℕ → Option (List ℕ) → Asked → Result Outcome E → Type 0
-VisitedAt start before after now draw asked (Ok o) = AnsweredAt start before after now draw asked o ⊎ FaultedAt start before after now draw asked o
-VisitedAt start before after now draw asked (Err e) = after ≡ before
+-- of a keeper whose count of faults was `faults`, and is `faults'`
+abbrev pub VisitedAt : {E : Type 0} → Hub → (before after : List Entry) (faults faults' : ℕ) → ℕ → Option (List ℕ) → Asked → Result Outcome E → Type 0
+VisitedAt start before after faults faults' now draw asked (Ok o) = AnsweredAt start before after now draw asked o ⊎ FaultedAt start before after faults faults' now draw asked o
+VisitedAt start before after faults faults' now draw asked (Err e) = after ≡ before
 
 -- ---- an answer, carried out
 

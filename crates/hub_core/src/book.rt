@@ -1,6 +1,9 @@
 //! The book: the machine with its keeper and its history.
+//! Whenever nobody acts on it, its state is what its history leaves, and its keeper, where it tells its rows, has exactly those of that
+//! state: so the rows kept are those of the history.
 ghost use Rattle.std.specs.Prelude.{◌≡◌, ◌≤◌, ◌^◌, ◌↔◌, IsTrue, IfOk, IfErr, length};
 ghost use Rattle.hub_machine.specs.Answers.{answer_view};
+ghost use Rattle.hub_machine.specs.KeptRows.{Keeps};
 ghost use Rattle.hub_machine.specs.State.{owed};
 ghost use Rattle.hub_core.specs.Current.{Looked};
 ghost use Rattle.hub_core.specs.Judged.{decider};
@@ -43,6 +46,7 @@ const CAPACITY: u32 = 1024;
 impl<K: Keeper, T: Trail<Entry = Change>> Model for Book<K, T> {
     ghost use Rattle.std.specs.Prelude.{◌≤◌};
     ghost use Rattle.hub_core.specs.Current.{IsCurrent};
+    ghost use Rattle.hub_machine.specs.KeptRows.{Keeps};
     ghost use Rattle.hub_machine.specs.State.{owed};
     ghost use Rattle.hub_core.specs.Visits.{Standing, IsTied};
     ghost use Rattle.std.specs.Coded.{codes};
@@ -54,7 +58,7 @@ impl<K: Keeper, T: Trail<Entry = Change>> Model for Book<K, T> {
 
     ghost view = { λ b. record { start = b.start.value; hub = b.machine; told = T.told b.trail; faults = K.faults b.keeper; rights = b.rights } };
 
-    ghost invariant = { λ b. IsTied b.start.value b.machine (T.told b.trail) (T.long b.trail) × IsCurrent b.rights b.machine × (owed b.machine.lives ≤ T.spare b.trail) };
+    ghost invariant = { λ b. IsTied b.start.value b.machine (T.told b.trail) (T.long b.trail) × IsCurrent b.rights b.machine × (owed b.machine.lives ≤ T.spare b.trail) × (K.Tells b.keeper → Keeps (K.rows b.keeper) b.machine.tables) };
 }
 
 /// Carries an answer out: its change, if it has one, and the reply at the length that it leaves.
@@ -69,6 +73,8 @@ fn carry<K: Keeper, T: Trail<Entry = Change>>(
     ensures carried { Carried (answer_view answer) result (K.faults keeper.old) (K.faults keeper.new) machine.old machine.new (T.told trail.old) (T.told trail.new) (T.long trail.old) (T.long trail.new) }
     ensures counted { K.faults keeper.old ≤ K.faults keeper.new }
     ensures spare { owed machine.old.lives ≤ T.spare trail.old → owed machine.new.lives ≤ T.spare trail.new }
+    // the keeper goes on having the rows of the state
+    ensures keeps { (K.Tells keeper.old → Keeps (K.rows keeper.old) machine.old.tables) → K.Tells keeper.new → Keeps (K.rows keeper.new) machine.new.tables }
 {
     match answer {
         Answer::Refuses(refusal) => refusal_reply(alloc, machine.length(), &refusal),
@@ -134,7 +140,7 @@ impl<K: Keeper, T: Trail<Entry = Change>> Book<K, T> {
         // the token whose rights decide is looked for once in the cache, which no answer depends on
         ensures looked { Looked self.old.rights self.old.hub (decider self.old.hub now asked.now) result self.new.rights }
         // the same in words of places: the answer is that of the state that the entries before it left
-        ensures placed { VisitedAt self.old.start (entries_of self.old) (entries_of self.new) now draw asked.now result }
+        ensures placed { VisitedAt self.old.start (entries_of self.old) (entries_of self.new) self.old.faults self.new.faults now draw asked.now result }
     {
         let answer = decide(alloc, &self.machine, &mut self.rights, now, asked)?;
         let reply = carry(
@@ -176,6 +182,8 @@ impl<K: Keeper, T: Trail<Entry = Change>> Book<K, T> {
     pub fn into_parts(self) -> (K, T)
         ensures told { T.told result.1 ≡ self.told }
         ensures faults { K.faults result.0 ≡ self.faults }
+        // the rows kept are those of the state, which is what the history leaves
+        ensures rows { K.Tells result.0 → Keeps (K.rows result.0) self.hub.tables }
         // the entries that are still owed take no memory
         ensures spare { owed self.hub.lives ≤ T.spare result.1 }
     {

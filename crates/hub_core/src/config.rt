@@ -4,10 +4,11 @@ ghost use Rattle.hub_core.specs.Opening as spec;
 
 use hub_kit::list::List;
 use hub_kit::moment::Moment;
-use hub_kit::names::UserName;
+use hub_kit::names::{ServiceName, UserName};
 use hub_kit::target::Target;
 use hub_kit::text::Text;
 use hub_rows::limits::Limits;
+use hub_rows::records::{Group, Role};
 use scope_filters::holder::Owner;
 use scope_filters::scope::RawScope;
 
@@ -16,6 +17,16 @@ use scope_filters::scope::RawScope;
 pub struct ConfigUser {
     pub name: UserName,
     pub admin: bool,
+}
+
+/// A service that is there from the opening on. Its configuration gives both a redirect URI and a secret, and then it is a client
+/// of OAuth, `service:NAME`, or neither. With only one of them it is no client.
+#[derive(Drop)]
+pub struct ConfigService {
+    pub name: ServiceName,
+    pub redirect_uri: Option<Text>,
+    /// The text of the client's secret, of which only the hash is kept.
+    pub secret: Option<Text>,
 }
 
 /// A token that is there from the opening on, if its owner is.
@@ -40,6 +51,13 @@ pub struct HubConfig {
     /// Whether the entries of the history cost nothing, so that its length alone is limited.
     pub no_trail: bool,
     pub users: List<ConfigUser>,
+    /// The first of a name counts, and no group that is there is replaced.
+    pub groups: List<Group>,
+    /// A service that is there stays. The client of one replaces that of its name, so that the last counts.
+    pub services: List<ConfigService>,
+    /// Each replaces the one of its name, so that the last counts. None is named `user` or `admin`: these every hub has, and to
+    /// set one up is a mistake that the reader of the configuration refuses.
+    pub roles: List<Role>,
     pub tokens: List<ConfigToken>,
 }
 

@@ -3,7 +3,6 @@ ghost use Rattle.std.specs.Prelude.{◌≡◌, ◌↔◌, ℕ, List, Option, Som
 ghost use Rattle.std.specs.Option.{option_copied};
 ghost use Rattle.std.specs.FinMap as map;
 ghost use Rattle.hub_tables.specs.Hashes.{row_with};
-ghost use Rattle.admin_rules.specs.Roles as rules;
 ghost use Rattle.hub_core.specs.Answer as spec;
 ghost use Rattle.hub_machine.specs.Answers.{answer_view};
 ghost use Rattle.hub_core.specs.History.{Answers};
@@ -17,6 +16,7 @@ ghost use Rattle.hub_machine.specs.Replies.{first_refusal};
 ghost use Rattle.hub_calls.specs.Rights.{may_of};
 
 use crate::need::Need;
+use admin_rules::roles::is_fixed_role;
 use hub_calls::group_calls::{
     delete_group, get_group, get_groups, join_group, leave_group, post_group,
 };
@@ -100,13 +100,6 @@ fn named(seen: Option<u64>) -> u64
         None => 0,
         Some(seen) => seen,
     }
-}
-
-/// Whether the role is one that every hub has.
-fn is_fixed_role(role: &RoleName) -> bool
-    ensures { result ≡ rules.is_fixed_role role.now }
-{
-    role.as_str() == "user" || role.as_str() == "admin"
 }
 
 fn is_over(now: Moment, end: Option<Moment>) -> bool

@@ -1,24 +1,28 @@
 //! The state that a book begins with, and the keeper's rows then.
-ghost use Rattle.std.specs.Prelude.{◌≡◌, ◌≤◌, ◌^◌, ◌++◌, map, IfOk, IfErr, OnOk, None};
+ghost use Rattle.std.specs.Prelude.{◌≡◌, ◌≤◌, ◌^◌, ◌++◌, map, fold, IfOk, IfErr, OnOk, None};
 ghost use Rattle.std.specs.Option.{option_copied};
 ghost use Rattle.std.specs.FinMap as finite;
-ghost use Rattle.keeper.specs.Rows.{AreSame, after_items, no_rows};
-ghost use Rattle.hub_machine.specs.Batches as batches;
+ghost use Rattle.keeper.specs.Rows.{AreSame, no_rows};
+ghost use Rattle.hub_machine.specs.Apply.{change_done};
+ghost use Rattle.hub_machine.specs.KeptRows.{Keeps};
 ghost use Rattle.hub_rows.specs.declared.changes.RowChange.TheVariants as To;
 ghost use Rattle.hub_tables.specs.Hashes.{FitsToken};
+ghost use Rattle.hub_tables.specs.Own.{AreOwn};
+ghost use Rattle.hub_tables.specs.State.{State};
 ghost use Rattle.hub_core.specs.Opening as spec;
 
-use crate::config::{ConfigToken, ConfigUser, HubConfig};
+use crate::config::{ConfigService, ConfigToken, ConfigUser, HubConfig};
 use crate::open_error::OpenError;
 use hub_kit::hashes::hash_of;
 use hub_kit::list::List;
 use hub_kit::moment::Moment;
+use hub_kit::names::ServiceName;
 use hub_kit::target::Target;
 use hub_kit::text::Text;
 use hub_machine::batch::batch_of;
 use hub_machine::machine::Machine;
 use hub_rows::changes::RowChange;
-use hub_rows::records::{Next, Token, User};
+use hub_rows::records::{Group, Next, OAuthClient, Role, Service, Token, User};
 use hub_tables::tables::Tables;
 use keeper::keeper::{Keeper, KeeperError, Row};
 use scope_filters::holder::Owner;
@@ -84,17 +88,109 @@ fn user_row(kept: Option<&User>, user: &ConfigUser, now: Moment) -> User
 }
 
 fn put_user(tables: &mut Tables, user: &ConfigUser, now: Moment) -> Result<(), AllocError>
-    ensures { OnOk result (tables.new ≡ spec.with_user now user.now tables.old) }
+    ensures { OnOk result (tables.new ≡ spec.with_user now tables.old user.now) }
 {
     let row = user_row(tables.user(&user.name), user, now);
     tables.set_user(row)
 }
 
 fn put_users(tables: &mut Tables, users: &[ConfigUser], now: Moment) -> Result<(), AllocError>
-    ensures { OnOk result (tables.new ≡ spec.with_users now users.now tables.old) }
+    ensures { OnOk result (tables.new ≡ fold (spec.with_user now) tables.old users.now) }
 {
     for user in users {
         put_user(tables, user, now)?;
+    }
+    Ok(())
+}
+
+/// Puts a group, where none of its name is there.
+fn put_group(alloc: Global, tables: &mut Tables, group: &Group) -> Result<(), AllocError>
+    ensures { OnOk result (tables.new ≡ spec.with_group tables.old group.now) }
+{
+    if tables.group(&group.name).is_some() {
+        return Ok(());
+    }
+    tables.set_group(group.copy(alloc)?)
+}
+
+fn put_groups(alloc: Global, tables: &mut Tables, groups: &[Group]) -> Result<(), AllocError>
+    ensures { OnOk result (tables.new ≡ fold spec.with_group tables.old groups.now) }
+{
+    for group in groups {
+        put_group(alloc, tables, group)?;
+    }
+    Ok(())
+}
+
+/// Puts the row of a service, where none of its name is there.
+fn add_service(tables: &mut Tables, name: ServiceName) -> Result<(), AllocError>
+    ensures { OnOk result (tables.new ≡ record tables.old { services = spec.put_new name (record { name = name }) tables.old.services }) }
+{
+    if tables.service(&name).is_some() {
+        return Ok(());
+    }
+    tables.set_service(Service { name })
+}
+
+/// The client of OAuth that a configured service is.
+fn client_of(alloc: Global, service: &ConfigService) -> Result<Option<OAuthClient>, AllocError>
+    ensures { IfOk result (λ client. client ≡ spec.client_of service.now) }
+{
+    let Some(uri) = &service.redirect_uri else {
+        return Ok(None);
+    };
+    let Some(secret) = &service.secret else {
+        return Ok(None);
+    };
+    let mut id = Text::from_str(alloc, "service:")?;
+    id.push_str(service.name.as_str())?;
+    Ok(Some(OAuthClient {
+        id,
+        hash: hash_of(alloc, secret.as_bytes())?,
+        redirect_uri: uri.copy(alloc)?,
+    }))
+}
+
+/// Puts a client, if there is one, in place of the one of its id.
+fn put_client(tables: &mut Tables, client: Option<OAuthClient>) -> Result<(), AllocError>
+    ensures { OnOk result (tables.new ≡ record tables.old { clients = spec.with_client client tables.old.clients }) }
+{
+    match client {
+        Some(client) => tables.set_client(client),
+        None => Ok(()),
+    }
+}
+
+fn put_service(
+    alloc: Global,
+    tables: &mut Tables,
+    service: &ConfigService,
+) -> Result<(), AllocError>
+    ensures { OnOk result (tables.new ≡ spec.with_service tables.old service.now) }
+{
+    add_service(tables, service.name)?;
+    put_client(tables, client_of(alloc, service)?)
+}
+
+fn put_services(
+    alloc: Global,
+    tables: &mut Tables,
+    services: &[ConfigService],
+) -> Result<(), AllocError>
+    ensures { OnOk result (tables.new ≡ fold spec.with_service tables.old services.now) }
+{
+    for service in services {
+        put_service(alloc, tables, service)?;
+    }
+    Ok(())
+}
+
+/// Puts roles, each in place of the one of its name.
+fn put_roles(alloc: Global, tables: &mut Tables, roles: &[Role]) -> Result<(), AllocError>
+    ensures { OnOk result (tables.new ≡ fold spec.with_role tables.old roles.now) }
+{
+    for role in roles {
+        tables.set_role(role.copy(alloc)?)?;
     }
     Ok(())
 }
@@ -163,7 +259,7 @@ fn put_token(
     token: &ConfigToken,
     now: Moment,
 ) -> Result<(), AllocError>
-    ensures { OnOk result (tables.new ≡ spec.with_token now token.now tables.old) }
+    ensures { OnOk result (tables.new ≡ spec.with_token now tables.old token.now) }
 {
     let name = Text::from_str(alloc, "token")?;
     let hash = hash_of(alloc, token.text.as_bytes())?;
@@ -184,7 +280,7 @@ fn put_tokens(
     tokens: &[ConfigToken],
     now: Moment,
 ) -> Result<(), AllocError>
-    ensures { OnOk result (tables.new ≡ spec.with_tokens now tokens.now tables.old) }
+    ensures { OnOk result (tables.new ≡ fold (spec.with_token now) tables.old tokens.now) }
 {
     for token in tokens {
         put_token(alloc, tables, token, now)?;
@@ -202,6 +298,9 @@ fn tables_of(alloc: Global, config: &HubConfig, now: Moment) -> Result<Tables, A
     };
     let mut tables = Tables::new(alloc, config.limits, scopes);
     put_users(&mut tables, config.users.as_slice(), now)?;
+    put_groups(alloc, &mut tables, config.groups.as_slice())?;
+    put_services(alloc, &mut tables, config.services.as_slice())?;
+    put_roles(alloc, &mut tables, config.roles.as_slice())?;
     put_tokens(alloc, &mut tables, config.tokens.as_slice(), now)?;
     Ok(tables)
 }
@@ -213,6 +312,15 @@ fn first_full(tables: &Tables) -> Option<(u8, u32)>
     let limits = tables.limits();
     if (limits.users as usize) < tables.count_of_users() {
         return Some((1, limits.users));
+    }
+    if (limits.groups as usize) < tables.count_of_groups() {
+        return Some((2, limits.groups));
+    }
+    if (limits.services as usize) < tables.count_of_services() {
+        return Some((3, limits.services));
+    }
+    if (limits.roles as usize) < tables.count_of_roles() {
+        return Some((4, limits.roles));
     }
     if (limits.tokens as usize) < tables.count_of_tokens() {
         return Some((5, limits.tokens));
@@ -270,11 +378,47 @@ fn push_users(rows: &mut Vec<RowChange>, tables: &Tables) -> Result<(), AllocErr
     Ok(())
 }
 
+fn push_groups(alloc: Global, rows: &mut Vec<RowChange>, tables: &Tables) -> Result<(), AllocError>
+    ensures { OnOk result (rows.new.items ≡ rows.old.items ++ map To.PutGroup (finite.values tables.now.groups)) }
+{
+    for row in tables.groups() {
+        rows.push(RowChange::PutGroup(row.copy(alloc)?))?;
+    }
+    Ok(())
+}
+
+fn push_services(rows: &mut Vec<RowChange>, tables: &Tables) -> Result<(), AllocError>
+    ensures { OnOk result (rows.new.items ≡ rows.old.items ++ map To.PutService (finite.values tables.now.services)) }
+{
+    for row in tables.services() {
+        rows.push(RowChange::PutService(*row))?;
+    }
+    Ok(())
+}
+
+fn push_roles(alloc: Global, rows: &mut Vec<RowChange>, tables: &Tables) -> Result<(), AllocError>
+    ensures { OnOk result (rows.new.items ≡ rows.old.items ++ map To.PutRole (finite.values tables.now.roles)) }
+{
+    for row in tables.roles() {
+        rows.push(RowChange::PutRole(row.copy(alloc)?))?;
+    }
+    Ok(())
+}
+
 fn push_tokens(alloc: Global, rows: &mut Vec<RowChange>, tables: &Tables) -> Result<(), AllocError>
     ensures { OnOk result (rows.new.items ≡ rows.old.items ++ map To.PutToken (finite.values tables.now.tokens)) }
 {
     for row in tables.tokens() {
         rows.push(RowChange::PutToken(row.copy(alloc)?))?;
+    }
+    Ok(())
+}
+
+fn push_clients(alloc: Global, rows: &mut Vec<RowChange>, tables: &Tables) -> Result<(), AllocError>
+    ensures { OnOk result (rows.new.items ≡ rows.old.items ++ map To.PutOAuthClient (finite.values tables.now.clients)) }
+{
+    for row in tables.clients() {
+        rows.push(RowChange::PutOAuthClient(row.copy(alloc)?))?;
     }
     Ok(())
 }
@@ -288,20 +432,26 @@ fn push_nexts(alloc: Global, rows: &mut Vec<RowChange>, tables: &Tables) -> Resu
     Ok(())
 }
 
-/// The rows of tables that have users, tokens and their next number alone.
+/// The rows of tables that have those of a configuration alone.
 fn rows_in(alloc: Global, tables: &Tables) -> Result<Vec<RowChange>, AllocError>
-    ensures { IfOk result (λ rows. rows.items ≡ spec.rows_in tables.now) }
+    ensures rows { IfOk result (λ rows. rows.items ≡ spec.rows_in tables.now) }
+    ensures own { OnOk result (AreOwn tables.now) }
 {
+    tables.own_keys();
     let mut rows = Vec::new(alloc);
     push_users(&mut rows, tables)?;
+    push_groups(alloc, &mut rows, tables)?;
+    push_services(&mut rows, tables)?;
+    push_roles(alloc, &mut rows, tables)?;
     push_tokens(alloc, &mut rows, tables)?;
+    push_clients(alloc, &mut rows, tables)?;
     push_nexts(alloc, &mut rows, tables)?;
     Ok(rows)
 }
 
-/// Has the keeper keep these rows, in one commit.
+/// Has the keeper keep these rows, in one commit. If its rows were those of some tables, they are those that the rows make of them.
 fn commit<K: Keeper>(alloc: Global, keeper: &mut K, rows: &[RowChange]) -> Result<(), OpenError>
-    ensures ok { OnOk result (K.Tells keeper.new → AreSame (K.rows keeper.new) (after_items (batches.batch_of rows.now) (K.rows keeper.old))) }
+    ensures keeps { OnOk result (K.Tells keeper.new → (tables : State) → Keeps (K.rows keeper.old) tables → Keeps (K.rows keeper.new) (change_done rows.now tables)) }
     ensures err { IfErr result (spec.IsUnkept (K.faults keeper.old) (K.faults keeper.new)) }
     ensures told { K.Tells keeper.new → K.Tells keeper.old }
     ensures counted { K.faults keeper.old ≤ K.faults keeper.new }
@@ -318,7 +468,7 @@ fn commit<K: Keeper>(alloc: Global, keeper: &mut K, rows: &[RowChange]) -> Resul
     }
 }
 
-/// The state of the configuration, whose rows the keeper keeps from now on.
+/// The state of the configuration, whose rows are all that the keeper keeps from now on.
 pub fn open_machine<K: Keeper>(
     alloc: Global,
     keeper: &mut K,
@@ -329,7 +479,7 @@ pub fn open_machine<K: Keeper>(
     ensures ok { IfOk result (λ hub. spec.IsSetUp config.now now hub) }
     ensures err { IfErr result (spec.IsRefused config.now now (K.Tells keeper.new) (K.rows keeper.old) (K.faults keeper.old) (K.faults keeper.new)) }
     ensures none { OnOk result (K.Tells keeper.new → AreSame (K.rows keeper.old) no_rows) }
-    ensures kept { OnOk result (K.Tells keeper.new → AreSame (K.rows keeper.new) (after_items (batches.batch_of (spec.rows_in (spec.opened_tables config.now now))) no_rows)) }
+    ensures keeps { OnOk result (K.Tells keeper.new → Keeps (K.rows keeper.new) (spec.opened_tables config.now now)) }
     ensures counted { K.faults keeper.old ≤ K.faults keeper.new }
 {
     read_rows(keeper)?;

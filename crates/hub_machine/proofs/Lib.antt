@@ -1,2 +1,5 @@
 pub mod Bounds
 pub mod Carrying
+pub mod Passed
+pub mod KeptKinds
+pub mod KeptChanges

@@ -5,3 +5,4 @@ pub mod Replies
 pub mod Answers
 pub mod Carry
 pub mod Trails
+pub mod KeptRows

@@ -1,8 +1,8 @@
 //! The batch of a change, and what it costs.
-ghost use Rattle.std.specs.Prelude.{◌≡◌, ◌++◌, map, OnOk, IfOk};
+ghost use Rattle.std.specs.Prelude.{◌≡◌, [], ◌∷◌, ◌++◌, All, map, OnOk, IfOk};
 ghost use Rattle.keeper.specs.Costs as costs;
 ghost use Rattle.hub_tables.specs.Changes as changes;
-ghost use Rattle.record_texts.specs.Items.{item_of as record_item};
+ghost use Rattle.record_texts.specs.Items.{item_of as record_item, IsValid};
 ghost use Rattle.hub_machine.specs.Batches as spec;
 
 use hub_kit::list::List;
@@ -13,7 +13,9 @@ use std::alloc::{AllocError, Global};
 
 /// The items of a change, its puts before its removals.
 pub fn batch_of(alloc: Global, rows: &[RowChange]) -> Result<Batch, AllocError>
-    ensures { IfOk result (λ batch. batch ≡ spec.batch_of rows.now) }
+    ensures batch { IfOk result (λ batch. batch ≡ spec.batch_of rows.now) }
+    ensures puts { OnOk result (All IsValid (changes.puts_of rows.now)) }
+    ensures removals { OnOk result (All IsValid (changes.removals_of rows.now)) }
 {
     let mut items = Vec::new(alloc);
     push_puts(alloc, &mut items, rows)?;
@@ -42,13 +44,23 @@ pub fn is_put(row: &RowChange) -> bool
     }
 }
 
+/// Adds the item of a row.
+fn push_item(alloc: Global, items: &mut Vec<Item>, row: &RowChange) -> Result<(), AllocError>
+    ensures items { OnOk result (items.new.items ≡ items.old.items ++ record_item row.now ∷ []) }
+    ensures valid { OnOk result (IsValid row.now) }
+{
+    items.push(item_of(alloc, row)?)?;
+    Ok(())
+}
+
 /// Adds the items of the puts.
 fn push_puts(alloc: Global, items: &mut Vec<Item>, rows: &[RowChange]) -> Result<(), AllocError>
-    ensures { OnOk result (items.new.items ≡ items.old.items ++ map record_item (changes.puts_of rows.now)) }
+    ensures items { OnOk result (items.new.items ≡ items.old.items ++ map record_item (changes.puts_of rows.now)) }
+    ensures valid { OnOk result (All IsValid (changes.puts_of rows.now)) }
 {
     for row in rows {
         if is_put(row) {
-            items.push(item_of(alloc, row)?)?;
+            push_item(alloc, items, row)?;
         }
     }
     Ok(())
@@ -56,11 +68,12 @@ fn push_puts(alloc: Global, items: &mut Vec<Item>, rows: &[RowChange]) -> Result
 
 /// Adds the items of the removals.
 fn push_removals(alloc: Global, items: &mut Vec<Item>, rows: &[RowChange]) -> Result<(), AllocError>
-    ensures { OnOk result (items.new.items ≡ items.old.items ++ map record_item (changes.removals_of rows.now)) }
+    ensures items { OnOk result (items.new.items ≡ items.old.items ++ map record_item (changes.removals_of rows.now)) }
+    ensures valid { OnOk result (All IsValid (changes.removals_of rows.now)) }
 {
     for row in rows {
         if !is_put(row) {
-            items.push(item_of(alloc, row)?)?;
+            push_item(alloc, items, row)?;
         }
     }
     Ok(())

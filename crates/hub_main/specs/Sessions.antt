@@ -38,6 +38,9 @@ config_of words = record {
   limits = greatest_limits;
   no_trail = false;
   users = record { name = words.user; admin = words.admin } ∷ [];
+  groups = [];
+  services = [];
+  roles = [];
   tokens = record { text = words.token; owner = Own.User words.user; scopes = Inherit ∷ []; expires_at = None } ∷ [];
 }
 

@@ -38,6 +38,9 @@ fn config_of(alloc: Global, words: SessionWords) -> Result<HubConfig, AllocError
         limits: greatest_limits(),
         no_trail: false,
         users: List::from_vec(vec![in alloc; owner]?),
+        groups: List::new(alloc),
+        services: List::new(alloc),
+        roles: List::new(alloc),
         tokens: List::from_vec(vec![in alloc; token]?),
     })
 }

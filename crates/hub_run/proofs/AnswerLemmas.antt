@@ -13,7 +13,7 @@ use Rattle.hub_api.specs.Refusals.{api_refusal}
 use Rattle.hub_api.specs.ReplyText.{reply_text, no_memory}
 use Rattle.hub_api.specs.declared.refusal.ApiRefusal.{ApiRefusal}
 use Rattle.hub_machine.specs.Replies.{Reply}
-use Rattle.hub_run.specs.Turns.{Turn, visited, declined, refused, wanting, View, Visits, Moves, TurnAt, closes, turn_text, refusal_text}
+use Rattle.hub_run.specs.Turns.{Turn, visited, declined, refused, wanting, View, Visit, Visits, Moves, TurnAt, closes, turn_text, refusal_text}
 use Rattle.hub_run.specs.Steps.{Says, SaysOutcome, Refuses, StopsAt, TurnEnds}
 use Rattle.hub_run.specs.declared.served.TurnEnd.{TurnEnd}
 use Rattle.hub_run.specs.declared.served.TurnEnd.TheVariants as end
@@ -42,24 +42,24 @@ pub made_wanting : (start : Hub) (x y : View) (request : Request) (text : List �
 made_wanting start x y request text last said closed is moves text_is closed_is =
     (wanting, (λ left rest. (text, within request text is, refl)), moves, closed_is, text_is)
 
-pub made_visited : {E : Type 0} (start : Hub) (x y : View) (request : Request) (text : List ℕ) (asked : Asked) (moment : ℕ) (before after : List Entry)
+pub made_visited : {E : Type 0} (start : Hub) (x y : View) (request : Request) (text : List ℕ) (asked : Asked) (v : Visit)
     (outcome : Result Outcome E) (last : Bool) (said : List ℕ) (closed : Bool)
-    → IsRequestText request text → call_read request ≡ Ok asked → Visits x moment before after y
-    → VisitedAt start before after moment None asked outcome → SaysOutcome outcome (request.close || last) said closed
+    → IsRequestText request text → call_read request ≡ Ok asked → Visits x v y
+    → VisitedAt start v.before v.after v.faults v.faults_after v.moment None asked outcome → SaysOutcome outcome (request.close || last) said closed
     → Made start x y text last said closed
-made_visited start x y request text asked moment before after (Ok o) last said closed is read visits answers (r, viewed, inl (text_is, closed_is)) = (
-  visited text request moment before after r,
+made_visited start x y request text asked v (Ok o) last said closed is read visits answers (r, viewed, inl (text_is, closed_is)) = (
+  visited text request v r,
   (λ left rest. ((is, (asked, o, read, answers, viewed)), refl)),
   visits,
   closed_is,
   text_is ∙ ap (λ c. reply_text r c) (sym closed_is),
 )
-made_visited start x y request text asked moment before after (Ok o) last said closed is read visits answers (r, viewed, inr (text_is, closed_is)) =
+made_visited start x y request text asked v (Ok o) last said closed is read visits answers (r, viewed, inr (text_is, closed_is)) =
     made_wanting start x y request text last said closed is
-    (inr (moment, before, after, inr (asked, o, answers), visits)) text_is closed_is
-made_visited start x y request text asked moment before after (Err e) last said closed is read visits answers (text_is, closed_is) =
+    (inr (v, inr (asked, o, answers), visits)) text_is closed_is
+made_visited start x y request text asked v (Err e) last said closed is read visits answers (text_is, closed_is) =
     made_wanting start x y request text last said closed is
-    (inr (moment, before, after, inl answers, visits)) text_is closed_is
+    (inr (v, inl answers, visits)) text_is closed_is
 
 pub made_declined : (start : Hub) (x : View) (request : Request) (text : List ℕ) (refusal : ApiRefusal) (last : Bool) (said : List ℕ) (closed : Bool)
     → IsRequestText request text → call_read request ≡ Err refusal → Says (api_refusal refusal) (request.close || last) said closed
@@ -104,8 +104,9 @@ same_start : (base : Option Hub) (found start : Hub) → base ≡ Some found →
 same_start base found start first second = cc
 
 -- the book that a visit found has the base that its pass knows
-pub from_start : {E : Type 0} (base : Option Hub) (found start : Hub) (before after : List Entry) (moment : ℕ) (asked : Asked) (outcome : Result Outcome E)
+pub from_start : {E : Type 0} (base : Option Hub) (found start : Hub) (v : Visit) (asked : Asked) (outcome : Result Outcome E)
     → base ≡ Some found → base ≡ Some start
-    → VisitedAt found before after moment None asked outcome → VisitedAt start before after moment None asked outcome
-from_start base found start before after moment asked outcome first second at =
-    subst (λ (s : Hub). VisitedAt s before after moment None asked outcome) (same_start base found start first second) at
+    → VisitedAt found v.before v.after v.faults v.faults_after v.moment None asked outcome
+    → VisitedAt start v.before v.after v.faults v.faults_after v.moment None asked outcome
+from_start base found start v asked outcome first second at =
+    subst (λ (s : Hub). VisitedAt s v.before v.after v.faults v.faults_after v.moment None asked outcome) (same_start base found start first second) at

@@ -1,5 +1,5 @@
--- Requests get their turns, and good ones their answer.
-use Rattle.std.proofs.Common.{◌≡◌, inl, inr, ◌++◌, ℕ, List, [], length, false, Option, Some, None, Result, Ok, Err, refl, sym, ap, ◌∙◌}
+-- Requests get their turns, good ones their answer, and each 503 is counted.
+use Rattle.std.proofs.Common.{◌≡◌, inl, inr, ◌<◌, ◌+◌, ◌-◌, ◌^◌, ◌++◌, ℕ, Bool, List, [], length, false, Option, Some, None, Result, Ok, Err, refl, sym, ap, ◌∙◌, lt-ltb, if◌then◌else◌}
 use Rattle.std.proofs.lemmas.List.{append-nil}
 use Rattle.http_wire.specs.Body.{RequestRefusedAt, NoBody}
 use Rattle.http_wire.specs.Request.{IsRequestText, body_due_of}
@@ -13,16 +13,17 @@ use Rattle.hub_api.specs.declared.refusal.ApiRefusal.{ApiRefusal}
 use Rattle.hub_calls.specs.Users.{get_identity}
 use Rattle.hub_core.specs.Answer.{answer, is_past, good_token, Judgement}
 use Rattle.hub_core.specs.History.{Answers, change_of}
+use Rattle.hub_core.proofs.Statuses.{never_503}
 use Rattle.hub_machine.specs.Replies.{Reply, Answer, Good, gives, answered, reply_of}
 use Rattle.hub_machine.specs.State.{Hub}
-use Rattle.hub_core.specs.Visits.{Entry, Reached}
+use Rattle.hub_core.specs.Visits.{Reached}
 use Rattle.hub_kit.specs.declared.names.ServerKey.{ServerKey}
 use Rattle.hub_machine.specs.declared.change.Change.{Change}
 use Rattle.hub_machine.specs.declared.call.Asked.{Asked}
 use Rattle.hub_machine.specs.declared.call.Call.TheVariants.{C3}
 use Rattle.hub_rows.specs.declared.records.Token.{Token}
 use Rattle.hub_run.specs.Complete.{IsOf, MayBeTold}
-use Rattle.hub_run.specs.Turns.{Turn, visited, declined, refused, wanting, TurnAt, IsAnswered}
+use Rattle.hub_run.specs.Turns.{Turn, View, Visit, Visits, visited, declined, refused, wanting, TurnAt, IsAnswered}
 
 -- what the wire knows: one thing stands next
 abbrev pub NextIsOne : Type 0
@@ -73,7 +74,7 @@ refused_next left bytes wire.Memory r is at = absurd (cc)
 
 pub its_turn : NextIsOne → (start : Hub) (left : Option (List ℕ)) (text more rest : List ℕ) (request : Request) (turn : Turn)
     → IsRequestText request text → TurnAt start left (text ++ more) turn rest → IsOf request turn
-its_turn one start left text more rest request (visited text' q moment before after r) is at =
+its_turn one start left text more rest request (visited text' q v r) is at =
     same_request q request (one (text ++ more) (Ok q) (Ok request) (text', rest, at.0.0, at.1) (text, more, is, refl))
 its_turn one start left text more rest request (declined text' q e) is at =
     same_request q request (one (text ++ more) (Ok q) (Ok request) (text', rest, at.0.0, at.1) (text, more, is, refl))
@@ -96,15 +97,15 @@ same_reply : (a b : Reply) → answered a ≡ answered b → a ≡ b
 same_reply a b e = cc
 
 -- a visit that answered a good request answered who the owner is
-its_answer : (start : Hub) (request : Request) (moment : ℕ) (before : List Entry) (state : Hub) (call : Asked) (r : Answer)
-    → Reached start before state → Answers state moment None call r → call_read request ≡ Ok call → (good : MayBeTold start request moment before)
+its_answer : (start : Hub) (request : Request) (v : Visit) (state : Hub) (call : Asked) (r : Answer)
+    → Reached start v.before state → Answers state v.moment None call r → call_read request ≡ Ok call → (good : MayBeTold start request v)
     → (g : Good) × (r ≡ gives g) × (g.status ≡ 200)
-its_answer start request moment before state call r reached answers read good =
+its_answer start request v state call r reached answers read good =
     let token = good.token state reached in
     let is : call ≡ asked request (C3 good.server) = same_asked call (asked request (C3 good.server)) (call_read request) read good.call in (
       _,
-      answers.is ∙ (ap (λ (c : Asked). answer state moment None answers.judgement c) is
-          ∙ good_answer_is state moment answers.judgement request good.server token.0 (good.seen state reached) token.1),
+      answers.is ∙ (ap (λ (c : Asked). answer state v.moment None answers.judgement c) is
+          ∙ good_answer_is state v.moment answers.judgement request good.server token.0 (good.seen state reached) token.1),
       refl,
     )
 
@@ -115,12 +116,21 @@ no_change r g c is has = none_is_some c (ap change_of (sym is) ∙ has)
     none_is_some : (c : Change) → change_of (gives g) ≡ Some c → ⊥
     none_is_some c e = cc
 
-pub good_answer : (start : Hub) (request : Request) (moment : ℕ) (before after : List Entry) (r : Reply)
-    → IsAnswered start request moment before after r → MayBeTold start request moment before → r.status ≡ 200
-good_answer start request moment before after r (call, o, read, inl at, viewed) good =
-    let said : r ≡ reply_of (length after) at.answer = same_reply r (reply_of (length after) at.answer) (sym viewed ∙ at.outcome) in
-    let found = its_answer start request moment before at.state call at.answer at.reached at.answers read good in
-    ap (λ (x : Reply). x.status) (said ∙ ap (λ (a : Answer). reply_of (length after) a) found.1) ∙ found.2
-good_answer start request moment before after r (call, o, read, inr at, viewed) good =
-    let found = its_answer start request moment before at.state call at.answer at.reached at.answers read good in
+pub good_answer : (start : Hub) (request : Request) (v : Visit) (r : Reply) → IsAnswered start request v r → MayBeTold start request v → r.status ≡ 200
+good_answer start request v r (call, o, read, inl at, viewed) good =
+    let said : r ≡ reply_of (length v.after) at.answer = same_reply r (reply_of (length v.after) at.answer) (sym viewed ∙ at.outcome) in
+    let found = its_answer start request v at.state call at.answer at.reached at.answers read good in
+    ap (λ (x : Reply). x.status) (said ∙ ap (λ (a : Answer). reply_of (length v.after) a) found.1) ∙ found.2
+good_answer start request v r (call, o, read, inr at, viewed) good =
+    let found = its_answer start request v at.state call at.answer at.reached at.answers read good in
     absurd (no_change at.answer found.0 at.change found.1 at.has)
+
+-- ---- a 503
+
+pub counted : (start : Hub) (x y : View) (request : Request) (v : Visit) (r : Reply)
+    → IsAnswered start request v r → Visits x v y → r.status ≡ 503 → v.faults < 2 ^ 64 - 1 → y.pass.failed ≡ x.pass.failed + 1
+counted start x y request v r (call, o, read, inl at, viewed) visits is below =
+    let said : r ≡ reply_of (length v.after) at.answer = same_reply r (reply_of (length v.after) at.answer) (sym viewed ∙ at.outcome) in
+    absurd (never_503 (length v.after) at.state v.moment None call at.answer at.answers (ap (λ (q : Reply). q.status) (sym said) ∙ is))
+counted start x y request v r (call, o, read, inr at, viewed) visits is below =
+    visits.failed ∙ ap (λ (b : Bool). x.pass.failed + (if b then 1 else 0)) (lt-ltb v.faults v.faults_after (at.rises below))

@@ -82,8 +82,8 @@ not_first false b e = refl
 pub Ran_turn : (start : Hub) (left held left' held' : Option (List ℕ)) (turns : List Turn) (ahead rest : List ℕ) (t : Turn) (close last : Bool)
     → Ran start left held left' held' turns ahead (turn_text t close) → TurnAt start left' ahead t rest
     → close ≡ (closes t || last) → close ≡ false → Ran start left held left' held' (turns ++ t ∷ []) rest []
-Ran_turn start left held left' held' turns ahead rest (visited text q m b a r) close last ran at is goes =
-    let t : Turn = visited text q m b a r in
+Ran_turn start left held left' held' turns ahead rest (visited text q v r) close last ran at is goes =
+    let t : Turn = visited text q v r in
     Ran_next start left held left' held' turns ahead rest t
     (subst (λ (c : Bool). Ran start left held left' held' turns ahead (turn_text t c)) goes ran)
     (at.0, not_first (closes t) last (sym is ∙ goes)) at.1

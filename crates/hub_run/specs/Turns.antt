@@ -1,5 +1,5 @@
 -- The turns of a connection: what each reads, what it answers, and what it leaves of the pass and of the clock.
-use Rattle.std.specs.Prelude.{◌≡◌, ◌⊎◌, ℕ, Bool, true, List, [], ◌∷◌, ◌++◌, Option, Some, None, Ok, Err}
+use Rattle.std.specs.Prelude.{◌≡◌, ◌⊎◌, ℕ, ◌+◌, Bool, true, ltb, if◌then◌else◌, List, [], ◌∷◌, ◌++◌, Option, Some, None, Ok, Err}
 use mathlib.Core.List.{IsPrefix}
 use Rattle.desk.specs.Passes.{PassState, IsSamePass}
 use Rattle.desk.specs.OwnEntries.{added}
@@ -19,10 +19,18 @@ use Rattle.hub_api.specs.Refusals.{api_refusal, wire_refusal}
 use Rattle.hub_api.specs.ReplyText.{reply_text, no_memory}
 use Rattle.hub_api.specs.declared.refusal.ApiRefusal.{ApiRefusal}
 
+-- a visit: its moment, the entries that it found and those that it left, and the keeper's counts of faults before and after it
+pub record Visit : Type 0 where
+  pub moment : ℕ
+  pub before : List Entry
+  pub after : List Entry
+  pub faults : ℕ
+  pub faults_after : ℕ
+
 -- one request, or one refusal of the wire, with its reply
 pub data Turn : Type 0 where
-  -- a request with its bytes whose call was answered by a visit: its moment, the entries that it found and those that it left, and the reply
-  visited : List ℕ → Request → ℕ → List Entry → List Entry → Reply → Turn
+  -- a request with its bytes whose call was answered by a visit, and the reply
+  visited : List ℕ → Request → Visit → Reply → Turn
   -- a request with its bytes that asks no call
   declined : List ℕ → Request → ApiRefusal → Turn
   -- bytes that are no request
@@ -37,48 +45,49 @@ refusal_text None close = []
 refusal_text (Some r) close = reply_text r close
 
 abbrev pub turn_text : Turn → Bool → List ℕ
-turn_text (visited text q moment before after r) close = reply_text r close
+turn_text (visited text q v r) close = reply_text r close
 turn_text (declined text q e) close = reply_text (api_refusal e) close
 turn_text (refused e) close = refusal_text (wire_refusal e) close
 turn_text wanting close = no_memory
 
 -- the connection is closed after it, whatever its place
 abbrev pub closes : Turn → Bool
-closes (visited text q moment before after r) = q.close
+closes (visited text q v r) = q.close
 closes (declined text q e) = q.close
 closes (refused e) = true
 closes wanting = true
 
 -- ---- what is read
 
--- a visit at this moment found the entries `before`, left `after`, and gave this: what the state that `before` left answers, or a 503 where the
--- keeper refused the rows of an answer that has some
-abbrev pub GivenAt : Hub → ℕ → List Entry → List Entry → Asked → Outcome → Type 0
-GivenAt start moment before after asked o = AnsweredAt start before after moment None asked o ⊎ FaultedAt start before after moment None asked o
+-- the visit gave this: what the state that the entries before it left answers, or a 503 where the keeper refused the rows of an answer that has
+-- some, and its count of faults rose
+abbrev pub IsGiven : Hub → Visit → Asked → Outcome → Type 0
+IsGiven start v asked o =
+    AnsweredAt start v.before v.after v.moment None asked o ⊎ FaultedAt start v.before v.after v.faults v.faults_after v.moment None asked o
 
 -- the reply says what the visit gave to the call of the request
-abbrev pub IsAnswered : Hub → Request → ℕ → List Entry → List Entry → Reply → Type 0
-IsAnswered start q moment before after r =
-    (asked : Asked) × (o : Outcome) × (call_read q ≡ Ok asked) × GivenAt start moment before after asked o × (outcome_view o ≡ answered r)
+abbrev pub IsAnswered : Hub → Request → Visit → Reply → Type 0
+IsAnswered start q v r =
+    (asked : Asked) × (o : Outcome) × (call_read q ≡ Ok asked) × IsGiven start v asked o × (outcome_view o ≡ answered r)
 
 -- the bytes of a turn's request
 abbrev pub request_bytes : Turn → List ℕ
-request_bytes (visited text q moment before after r) = text
+request_bytes (visited text q v r) = text
 request_bytes (declined text q e) = text
 request_bytes (refused e) = []
 request_bytes wanting = []
 
 -- a request, with the reply that it has to get
 abbrev pub IsRight : Hub → Turn → Type 0
-IsRight start (visited text q moment before after r) = IsRequestText q text × IsAnswered start q moment before after r
+IsRight start (visited text q v r) = IsRequestText q text × IsAnswered start q v r
 IsRight start (declined text q e) = IsRequestText q text × (call_read q ≡ Err e)
 IsRight start (refused e) = ⊥
 IsRight start wanting = ⊥
 
 -- the turn stands at the front of the bytes, and the rest goes on; a 507 takes no more than one request
 abbrev pub TurnAt : Hub → Option (List ℕ) → List ℕ → Turn → List ℕ → Type 0
-TurnAt start left bytes (visited text q moment before after r) rest =
-    IsRight start (visited text q moment before after r) × (bytes ≡ text ++ rest)
+TurnAt start left bytes (visited text q v r) rest =
+    IsRight start (visited text q v r) × (bytes ≡ text ++ rest)
 TurnAt start left bytes (declined text q e) rest = IsRight start (declined text q e) × (bytes ≡ text ++ rest)
 TurnAt start left bytes (refused e) rest =
     (r : Reply) × (gone : List ℕ) × (wire_refusal e ≡ Some r) × WithinRequest gone × (bytes ≡ gone ++ rest) × RequestRefusedAt left bytes e
@@ -91,27 +100,28 @@ pub record View : Type 0 where
   pub pass : PassState Entry Hub
   pub clock : Option (ℕ → ℕ)
 
--- a visit by the pass p at a moment found the entries `before` and left `after`: it stands after all that the pass had seen, and exactly there where nobody else is
-pub record Visits (x : View) (moment : ℕ) (before after : List Entry) (y : View) : Type 0 where
-  pub begins : IsPrefix x.pass.seen before
-  pub whole : x.pass.alone ≡ true → before ≡ x.pass.seen
-  pub appends : IsPrefix before after
+-- a visit by the pass of x: it stands after all that the pass had seen, and exactly there where nobody else is. The pass counts it among those
+-- that met a failing keeper exactly where the keeper's count of faults rose in it
+pub record Visits (x : View) (v : Visit) (y : View) : Type 0 where
+  pub begins : IsPrefix x.pass.seen v.before
+  pub whole : x.pass.alone ≡ true → v.before ≡ x.pass.seen
+  pub appends : IsPrefix v.before v.after
   pub same : IsSamePass x.pass y.pass
-  pub seen : y.pass.seen ≡ after
-  pub mine : y.pass.mine ≡ x.pass.mine ++ added before after
-  pub told : Tells x.clock moment y.clock
+  pub seen : y.pass.seen ≡ v.after
+  pub mine : y.pass.mine ≡ x.pass.mine ++ added v.before v.after
+  pub failed : y.pass.failed ≡ x.pass.failed + (if ltb v.faults v.faults_after then 1 else 0)
+  pub told : Tells x.clock v.moment y.clock
 
 -- the entries that a visit left are those that it found, or those of what it gave
-abbrev pub IsLeft : Hub → ℕ → List Entry → List Entry → Type 0
-IsLeft start moment before after =
-    (after ≡ before) ⊎ ((asked : Asked) × (o : Outcome) × GivenAt start moment before after asked o)
+abbrev pub IsLeft : Hub → Visit → Type 0
+IsLeft start v = (v.after ≡ v.before) ⊎ ((asked : Asked) × (o : Outcome) × IsGiven start v asked o)
 
 abbrev pub Moves : Hub → View → Turn → View → Type 0
-Moves start x (visited text q moment before after r) y = Visits x moment before after y
+Moves start x (visited text q v r) y = Visits x v y
 Moves start x (declined text q e) y = y ≡ x
 Moves start x (refused e) y = y ≡ x
 Moves start x wanting y =
-    (y ≡ x) ⊎ ((moment : ℕ) × (before after : List Entry) × IsLeft start moment before after × Visits x moment before after y)
+    (y ≡ x) ⊎ ((v : Visit) × IsLeft start v × Visits x v y)
 
 -- one turn after the other
 abbrev pub Turns : Hub → View → List Turn → View → Type 0

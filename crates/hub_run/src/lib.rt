@@ -12,5 +12,5 @@ mod visit;
 mod written;
 
 pub use connection::{REPLY_LIMIT, serve_connection};
-pub use laws::{a_good_request_is_answered, a_request_gets_its_turn};
+pub use laws::{a_503_is_counted, a_good_request_is_answered, a_request_gets_its_turn};
 pub use served::Served;

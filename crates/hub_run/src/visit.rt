@@ -1,8 +1,8 @@
 //! The visit of an asked call.
-ghost use Rattle.std.specs.Prelude.{◌≡◌, ℕ, List, Some, None};
+ghost use Rattle.std.specs.Prelude.{◌≡◌, Some, None};
 ghost use Rattle.hub_machine.specs.State.{Hub};
-ghost use Rattle.hub_core.specs.Visits.{Entry, VisitedAt};
-ghost use Rattle.hub_run.specs.Turns.{View, Visits};
+ghost use Rattle.hub_core.specs.Visits.{VisitedAt};
+ghost use Rattle.hub_run.specs.Turns.{Visit, Visits};
 
 use desk::{Desk, Pass};
 use hub_core::ask::Ask;
@@ -28,9 +28,9 @@ pub(crate) fn ask<K: Keeper, T: Trail<Entry = Change>, C: Clock, W: Wait>(
     requires { pass.old.of ≡ desk.now }
     ensures of { pass.new.of ≡ pass.old.of }
     ensures base { pass.new.base ≡ pass.old.base }
-    ensures answers { (start : Hub) → pass.old.base ≡ Some start → (moment : ℕ) × (before after : List Entry)
-        × Visits (record { pass = pass.old; clock = C.to_come clock.old }) moment before after (record { pass = pass.new; clock = C.to_come clock.new })
-        × VisitedAt start before after moment None asked result }
+    ensures answers { (start : Hub) → pass.old.base ≡ Some start → (v : Visit)
+        × Visits (record { pass = pass.old; clock = C.to_come clock.old }) v (record { pass = pass.new; clock = C.to_come clock.new })
+        × VisitedAt start v.before v.after v.faults v.faults_after v.moment None asked result }
 {
     let now = clock.now();
     let mut ask = Ask::new(alloc, now, None, asked);

@@ -1,5 +1,6 @@
 //! Isolation: a token that may not see a thing learns nothing of it. What it may see of a state is its users, groups,
-//! services and roles as far as its rights show them, and no reply to a GET depends on anything else.
+//! services and roles as far as its rights show them, and no reply to a GET depends on anything else, apart from the revision,
+//! and from the number of live servers under `read:hub`.
 #![tactic(auto)]
 
 mod laws;

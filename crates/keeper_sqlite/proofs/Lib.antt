@@ -1,1 +1,3 @@
 mod Inside
+mod Props
+mod Told

@@ -1,4 +1,4 @@
 pub mod Causes
 pub mod Forms
-pub mod Shown
+pub mod Own
 pub mod Statements

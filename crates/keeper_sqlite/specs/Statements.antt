@@ -1,5 +1,5 @@
 -- The statements of a batch, and what it is that they were run in one transaction.
-use Rattle.std.specs.Prelude.{◌≡◌, ◌⊎◌, ℕ, pos, Bool, true, false, map, codes, List, [], ◌∷◌, IsTrue, Result, Ok, OnOk}
+use Rattle.std.specs.Prelude.{◌≡◌, ◌⊎◌, ℕ, pos, Bool, true, false, map, List, [], ◌∷◌, IsTrue, Ok}
 use Rattle.keeper.specs.declared.keeper.Item.{Item}
 use Rattle.keeper.specs.declared.keeper.Item.TheVariants.{Put, Delete}
 use Rattle.keeper.specs.declared.keeper.Row.{Row as Kept}
@@ -7,31 +7,14 @@ use Rattle.sqlite.specs.Batch.{ExecutesAllInside}
 use Rattle.sqlite.specs.Store.{Ghosts}
 use Rattle.sqlite.specs.Order.{Row, column}
 use Rattle.sqlite.specs.declared.types.Value.TheVariants.{Int, Text}
-use Rattle.sqlite.specs.State.{State, KeepsCommit, Executes, QueriesRow, Shown}
+use Rattle.sqlite.specs.State.{Executes, QueriesRow, Shown}
 use Rattle.sqlite.specs.Held.{Held, state}
 use Rattle.sqlite.specs.Schema.{Schema}
 use Rattle.keeper_sqlite.specs.declared.store.Form.{Form}
 use Rattle.keeper_sqlite.specs.declared.store.Form.TheVariants.{Old, New}
 use Rattle.keeper_sqlite.specs.Forms.{number_of}
-use Rattle.keeper_sqlite.specs.Shown.{shown, front}
-
-abbrev pub make_text : List ℕ
-make_text = codes "CREATE TABLE row (kind INTEGER, key TEXT, text TEXT, PRIMARY KEY (kind, key)) STRICT; CREATE TABLE meta (name TEXT PRIMARY KEY, value INTEGER) STRICT; INSERT INTO meta (name, value) VALUES ('schema', 2)"
-
-abbrev pub raise_text : List ℕ
-raise_text = codes "UPDATE meta SET value = 2 WHERE name = 'schema'"
-
-abbrev pub number_text : List ℕ
-number_text = codes "SELECT value FROM meta WHERE name = 'schema'"
-
-abbrev pub put_text : List ℕ
-put_text = codes "INSERT INTO row (kind, key, text) VALUES (?1, ?2, ?3) ON CONFLICT (kind, key) DO UPDATE SET text = excluded.text"
-
-abbrev pub delete_text : List ℕ
-delete_text = codes "DELETE FROM row WHERE kind = ?1 AND key = ?2"
-
-abbrev pub select_text : List ℕ
-select_text = codes "SELECT kind, key, text FROM row ORDER BY kind, key"
+use Rattle.row_table.specs.Shown.{shown, front}
+use Rattle.row_table.specs.Texts.{make_text, raise_text, number_text, put_text, delete_text, select_text}
 
 -- the statement of an item
 abbrev pub text_of : Item → List ℕ
@@ -42,10 +25,6 @@ text_of (Delete kind key) = delete_text
 abbrev pub values_of : Item → Row
 values_of (Put row) = Int (pos row.kind) ∷ Text row.key ∷ Text row.text ∷ []
 values_of (Delete kind key) = Int (pos kind) ∷ Text key ∷ []
-
--- a step in a transaction commits nothing, and the transaction goes on after a step that was done
-abbrev pub StaysInside : {A E : Type 0} → State → State → Result A E → Type 0
-StaysInside old new result = IsTrue old.in_transaction → KeepsCommit old new × OnOk result (IsTrue new.in_transaction)
 
 abbrev pub HasNoTables : Schema → Type 0
 HasNoTables schema = (schema.tables ≡ []) × (schema.views ≡ [])

@@ -2,7 +2,7 @@
 ghost use Rattle.std.specs.Prelude.{◌≡◌, pos, map, IfOk};
 ghost use Rattle.sqlite.specs.Order.{column};
 ghost use Rattle.sqlite.specs.declared.types.Value.TheVariants.{Int, Text as Words};
-ghost use Rattle.keeper_sqlite.specs.Shown.{shown, front};
+ghost use Rattle.row_table.specs.Shown.{shown, front};
 
 use hub_kit::text::Text;
 use keeper::keeper::Row;

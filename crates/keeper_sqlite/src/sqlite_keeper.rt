@@ -1,10 +1,14 @@
 //! A keeper over a database.
-ghost use Rattle.std.specs.Prelude.{◌≡◌, ◌≤◌, Ok, IsTrue, IfOk, IfErr, OnOk, OnErr};
+ghost use Rattle.std.specs.Prelude.{◌≡◌, ◌≤◌, false, Ok, IsTrue, IfOk, IfErr, OnOk, OnErr};
 ghost use Rattle.hub_devices.specs.FailingCalls.{one_more};
 ghost use Rattle.hub_devices.specs.Faults.{Rises};
 ghost use Rattle.keeper.specs.Rows.{AreSame, Lists, no_rows, after_items, place_of};
 ghost use Rattle.sqlite.specs.State.{HasCleanDisk};
 ghost use Rattle.sqlite.specs.Held.{state};
+ghost use Rattle.sqlite.specs.View.{doubt};
+ghost use Rattle.sqlite.specs.Steps.{over_memory};
+ghost use Rattle.row_table.specs.Tables.{no_schema};
+ghost use Rattle.keeper_sqlite.specs.Own.{IsOwned, IsTold, Stands, told_rows};
 ghost use Rattle.keeper_sqlite.specs.Statements.{IsCommitted, IsLoaded};
 ghost use Rattle.keeper_sqlite.specs.Causes.{cause_of, counted, faults_after};
 
@@ -25,33 +29,70 @@ fn cause_of(error: Error) -> KeeperError
 }
 
 /// Keeps rows in the tables of a database, which it makes at the first commit to an empty store.
+///
+/// Its rows are told where the store was found to be one of this program when it was taken, while the connection is open and the
+/// disk gives back what was written.
 #[derive(Drop)]
 pub struct SqliteKeeper<S: Alter> {
     alloc: Global,
     connection: Connection<S>,
     faults: u64,
+    /// Whether the store was found to be one of this program.
+    is_own: bool,
+    ghost owned: { ∥ (IsTrue is_own → IsOwned S.Store connection) ∥₁ },
 }
 
 impl SqliteKeeper<MemStore> {
     /// A keeper over an empty store in memory. Runs no statement.
     pub fn in_memory(alloc: Global) -> Result<SqliteKeeper<MemStore>, AllocError>
-        ensures { IfOk result (λ k. k.faults ≡ 0) }
+        ensures faults { IfOk result (λ k. k.faults ≡ 0) }
+        ensures told { IfOk result (λ k. IsTold over_memory k.connection k.is_own × AreSame (told_rows over_memory k.connection) no_rows) }
     {
         Ok(SqliteKeeper::over(alloc, Connection::open_in_memory(alloc)?))
     }
 }
 
 impl<S: Alter + Drop> SqliteKeeper<S> {
-    /// A keeper over the store of a connection. Runs no statement. Its commits fail while the connection is in a transaction
-    /// that was begun before.
+    /// A keeper over the store of a connection. Runs no statement, so its rows are told only where the store is empty. Its commits
+    /// fail while the connection is in a transaction that was begun before.
     pub fn over(alloc: Global, connection: Connection<S>) -> SqliteKeeper<S>
-        ensures { (result.connection ≡ connection) × (result.faults ≡ 0) }
+        ensures taken { (result.connection ≡ connection) × (result.faults ≡ 0) }
+        ensures fresh { IsTrue result.is_own → (connection.in_transaction ≡ false) × (connection.schema ≡ no_schema) }
+        ensures own { connection.in_transaction ≡ false → connection.schema ≡ no_schema → IsTrue result.is_own }
     {
+        let is_own = store::is_fresh(&connection);
         SqliteKeeper {
             alloc,
             connection,
             faults: 0,
+            is_own,
         }
+    }
+
+    /// A keeper over the store of a connection, which may have tables. Reads every row of a store that has them: its rows are told
+    /// where the tables and the rows were found to be those of this program, or the store is empty.
+    pub fn resume(alloc: Global, connection: Connection<S>) -> SqliteKeeper<S>
+        ensures faults { result.faults ≡ 0 }
+        ensures clean { doubt (state S.Store connection).is_clean ≤ doubt (state S.Store result.connection).is_clean }
+        ensures stands { HasCleanDisk (state S.Store result.connection) → Stands S.Store connection result.connection }
+        ensures known { IsTrue result.is_own → IsOwned S.Store result.connection }
+        ensures fresh { connection.in_transaction ≡ false → connection.schema ≡ no_schema → IsTrue result.is_own }
+    {
+        let mut connection = connection;
+        let is_own = store::is_own(&mut connection);
+        SqliteKeeper {
+            alloc,
+            connection,
+            faults: 0,
+            is_own,
+        }
+    }
+
+    /// Whether the store was found to be one of this program, so that its rows are told.
+    pub fn is_own(&self) -> bool
+        ensures { result ≡ self.now.is_own }
+    {
+        self.is_own
     }
 
     /// The connection.
@@ -62,13 +103,15 @@ impl<S: Alter + Drop> SqliteKeeper<S> {
             alloc: _,
             connection,
             faults: _,
+            is_own: _,
         } = self;
         connection
     }
 
     /// Counts a fault. The count stands still at the greatest `u64`.
     fn count_fault(&mut self)
-        ensures counted { self.new ≡ record self.old { faults = one_more self.old.faults } }
+        ensures counted { self.new.faults ≡ one_more self.old.faults }
+        ensures same { (self.new.connection ≡ self.old.connection) × (self.new.is_own ≡ self.old.is_own) }
         ensures kept { self.old.faults ≤ self.new.faults }
     {
         self.faults = self.faults.saturating_add(1);
@@ -78,7 +121,8 @@ impl<S: Alter + Drop> SqliteKeeper<S> {
     fn refused(&mut self, error: Error) -> KeeperError
         ensures cause { result ≡ cause_of error }
         ensures kept { self.old.faults ≤ self.new.faults }
-        ensures counted { self.new ≡ record self.old { faults = counted result self.old.faults } }
+        ensures counted { self.new.faults ≡ counted result self.old.faults }
+        ensures same { (self.new.connection ≡ self.old.connection) × (self.new.is_own ≡ self.old.is_own) }
     {
         let cause = cause_of(error);
         match cause {
@@ -90,9 +134,9 @@ impl<S: Alter + Drop> SqliteKeeper<S> {
 }
 
 impl<S: Alter + Drop> Keeper for SqliteKeeper<S> {
-    ghost Tells = { λ k. ⊥ };
+    ghost Tells = { λ k. IsTold S.Store k.connection k.is_own };
 
-    ghost rows = { λ k. no_rows };
+    ghost rows = { λ k. told_rows S.Store k.connection };
 
     ghost faults = { λ k. k.faults };
 
@@ -111,6 +155,8 @@ impl<S: Alter + Drop> Keeper for SqliteKeeper<S> {
         ensures counted { self.old.faults ≤ self.new.faults }
         ensures cause { IfErr result (λ e. e ≡ KeeperError.Failed → Rises self.old.faults self.new.faults) }
         ensures faults { self.new.faults ≡ faults_after result self.old.faults }
+        ensures listed { IsTold S.Store self.new.connection self.new.is_own → IfOk result (λ all. Lists (told_rows S.Store self.old.connection) all.items) }
+        ensures kept { IsTold S.Store self.new.connection self.new.is_own → IsTold S.Store self.old.connection self.old.is_own × AreSame (told_rows S.Store self.new.connection) (told_rows S.Store self.old.connection) }
         ensures loaded { HasCleanDisk (state S.Store self.new.connection) → IfOk result (λ all. IsLoaded S.Store self.old.connection self.new.connection all.items) }
     {
         match store::load_rows(self.alloc, &mut self.connection) {
@@ -125,6 +171,9 @@ impl<S: Alter + Drop> Keeper for SqliteKeeper<S> {
         ensures counted { self.old.faults ≤ self.new.faults }
         ensures cause { IfErr result (λ e. e ≡ KeeperError.Failed → Rises self.old.faults self.new.faults) }
         ensures faults { self.new.faults ≡ faults_after result self.old.faults }
+        ensures told { IsTold S.Store self.new.connection self.new.is_own → IsTold S.Store self.old.connection self.old.is_own }
+        ensures ok { IsTold S.Store self.new.connection self.new.is_own → OnOk result (AreSame (told_rows S.Store self.new.connection) (after_items batch.now (told_rows S.Store self.old.connection))) }
+        ensures err { IsTold S.Store self.new.connection self.new.is_own → OnErr result (AreSame (told_rows S.Store self.new.connection) (told_rows S.Store self.old.connection)) }
         ensures done { HasCleanDisk (state S.Store self.new.connection) → OnOk result (IsCommitted S.Store batch.now self.old.connection self.new.connection) }
         ensures undone { HasCleanDisk (state S.Store self.new.connection) → IsTrue (state S.Store self.new.connection).is_open
             → OnErr result (((state S.Store self.new.connection).now ≡ (state S.Store self.old.connection).now) × ((state S.Store self.new.connection).committed ≡ (state S.Store self.old.connection).committed)) }

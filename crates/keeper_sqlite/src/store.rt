@@ -1,15 +1,20 @@
 //! The store: of what form it is, and a batch in one transaction.
-ghost use Rattle.std.specs.Prelude.{◌≡◌, ◌≢◌, ◌≤◌, ◌⊎◌, pos, IsTrue, IfOk, IfErr, OnOk, OnErr};
+ghost use Rattle.std.specs.Prelude.{◌≡◌, ◌≢◌, ◌≤◌, ◌⊎◌, false, pos, IsTrue, IfOk, IfErr, OnOk, OnErr};
 ghost use Rattle.sqlite.specs.View.{doubt};
 ghost use Rattle.sqlite.specs.Order.{column};
 ghost use Rattle.sqlite.specs.declared.types.Value.TheVariants.{Int};
 ghost use Rattle.sqlite.specs.State.{HasCleanDisk, ExecutesInside};
 ghost use Rattle.sqlite.specs.Held.{state};
+ghost use Rattle.keeper.specs.Rows.{Lists};
+ghost use Rattle.row_table.specs.Tables.{no_schema};
+ghost use Rattle.row_table.specs.Texts.{number_text, StaysInside, Leaves};
 ghost use Rattle.keeper_sqlite.specs.Forms.{number_of};
-ghost use Rattle.keeper_sqlite.specs.Statements.{text_of, values_of, StaysInside, HasNoTables, IsOfForm, IsRaised, IsRenewed, AreDone, IsCommitted, IsLoaded};
+ghost use Rattle.keeper_sqlite.specs.Own.{IsOwned, Stands, told_rows};
+ghost use Rattle.keeper_sqlite.specs.Statements.{text_of, values_of, HasNoTables, IsOfForm, IsRaised, IsRenewed, AreDone, IsCommitted, IsLoaded};
 
-use crate::{reading, statements};
+use crate::reading;
 use keeper::keeper::{Item, Row};
+use row_table::{known, statements};
 use sqlite::{Alter, Connection, Error, ErrorCode, Transaction};
 use std::alloc::Global;
 
@@ -46,6 +51,35 @@ fn is_empty<S: Alter>(conn: &Connection<S>) -> bool
 {
     let schema = conn.schema();
     schema.tables.is_empty() && schema.views.is_empty()
+}
+
+/// Whether the store has nothing at all, and no transaction is under way.
+pub(crate) fn is_fresh<S: Alter>(conn: &Connection<S>) -> bool
+    ensures fresh { IsTrue result → (conn.now.in_transaction ≡ false) × (conn.now.schema ≡ no_schema) }
+    ensures only { conn.now.in_transaction ≡ false → conn.now.schema ≡ no_schema → IsTrue result }
+{
+    let schema = conn.schema();
+    let has_no_names = schema.tables.is_empty()
+        & schema.indexes.is_empty()
+        & schema.views.is_empty();
+    conn.is_autocommit() & has_no_names
+}
+
+/// Whether the store has nothing at all, or the tables and rows of this program alone, and no transaction is under way. A store
+/// that can't be read is none.
+pub(crate) fn is_own<S: Alter>(conn: &mut Connection<S>) -> bool
+    ensures clean { doubt (state S.Store conn.old).is_clean ≤ doubt (state S.Store conn.new).is_clean }
+    ensures stands { HasCleanDisk (state S.Store conn.new) → Stands S.Store conn.old conn.new }
+    ensures own { IsTrue result → IsOwned S.Store conn.new }
+    ensures fresh { conn.old.in_transaction ≡ false → conn.old.schema ≡ no_schema → IsTrue result }
+{
+    if is_fresh(conn) {
+        return true;
+    }
+    match known::has_row_store(conn) {
+        Ok(is_known) => is_known,
+        Err(_) => false,
+    }
 }
 
 /// Marks a store of this form as of the newest.
@@ -104,6 +138,9 @@ fn do_items<S: Alter>(tx: &mut Transaction<'_, S>, items: &[Item]) -> Result<(),
 /// Does all items in order in one transaction, or none. Fails while the connection is in a transaction already.
 pub(crate) fn commit_items<S: Alter>(conn: &mut Connection<S>, items: &[Item]) -> Result<(), Error>
     ensures done { HasCleanDisk (state S.Store conn.new) → OnOk result (IsCommitted S.Store items.now conn.old conn.new) }
+    ensures clean { doubt (state S.Store conn.old).is_clean ≤ doubt (state S.Store conn.new).is_clean }
+    ensures was_open { HasCleanDisk (state S.Store conn.new) → IsTrue (state S.Store conn.new).is_open → IsTrue (state S.Store conn.old).is_open }
+    ensures ended { conn.old.in_transaction ≡ false → conn.new.in_transaction ≡ false }
     ensures undone { HasCleanDisk (state S.Store conn.new) → IsTrue (state S.Store conn.new).is_open
         → OnErr result (((state S.Store conn.new).now ≡ (state S.Store conn.old).now) × ((state S.Store conn.new).committed ≡ (state S.Store conn.old).committed)) }
 {
@@ -119,7 +156,10 @@ pub(crate) fn commit_items<S: Alter>(conn: &mut Connection<S>, items: &[Item]) -
 
 /// The form of the store, by the number that it holds.
 fn find_form<S: Alter>(conn: &mut Connection<S>) -> Result<Form, Error>
-    ensures { HasCleanDisk (state S.Store conn.new) → IfOk result (λ form. IsOfForm S.Store form conn.old conn.new) }
+    ensures clean { doubt (state S.Store conn.old).is_clean ≤ doubt (state S.Store conn.new).is_clean }
+    ensures mode { conn.old.in_transaction ≡ false → conn.new.in_transaction ≡ false }
+    ensures left { HasCleanDisk (state S.Store conn.new) → Leaves number_text (state S.Store conn.old) (state S.Store conn.new) }
+    ensures form { HasCleanDisk (state S.Store conn.new) → IfOk result (λ form. IsOfForm S.Store form conn.old conn.new) }
 {
     let row = conn.query_row("SELECT value FROM meta WHERE name = 'schema'", &[])?;
     form_in(&row)
@@ -130,8 +170,14 @@ pub(crate) fn load_rows<S: Alter>(
     alloc: Global,
     conn: &mut Connection<S>,
 ) -> Result<Vec<Row>, Error>
-    ensures { HasCleanDisk (state S.Store conn.new) → IfOk result (λ all. IsLoaded S.Store conn.old conn.new all.items) }
+    ensures clean { doubt (state S.Store conn.old).is_clean ≤ doubt (state S.Store conn.new).is_clean }
+    ensures ended { conn.old.in_transaction ≡ false → conn.new.in_transaction ≡ false }
+    ensures loaded { HasCleanDisk (state S.Store conn.new) → IfOk result (λ all. IsLoaded S.Store conn.old conn.new all.items) }
+    ensures stands { HasCleanDisk (state S.Store conn.new) → IsOwned S.Store conn.old → Stands S.Store conn.old conn.new }
+    ensures listed { HasCleanDisk (state S.Store conn.new) → IsTrue (state S.Store conn.new).is_open → IsOwned S.Store conn.old → IfOk result (λ all. Lists (told_rows S.Store conn.old) all.items) }
 {
+    // Tells the proof that outside a transaction the last commit is what is seen.
+    let _settled = conn.is_autocommit();
     if is_empty(conn) {
         return Ok(Vec::new(alloc));
     }

@@ -3,3 +3,4 @@ pub mod Lists
 pub mod Results
 pub mod ShareTexts
 pub mod Leases
+pub mod OneText

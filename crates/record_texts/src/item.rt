@@ -1,5 +1,5 @@
 //! The items of a batch.
-ghost use Rattle.std.specs.Prelude.{◌≡◌, IfOk};
+ghost use Rattle.std.specs.Prelude.{◌≡◌, IfOk, OnOk};
 ghost use Rattle.keeper.specs.declared.keeper.Item.TheVariants as Item;
 ghost use Rattle.record_texts.specs.Items as spec;
 ghost use Rattle.record_texts.specs.Rows.{row_with};
@@ -12,7 +12,8 @@ use std::alloc::{AllocError, Global};
 
 /// The item of a change: the row of the record that is put, or the kind and the key of one that goes.
 pub fn item_of(alloc: Global, change: &RowChange) -> Result<Item, AllocError>
-    ensures { IfOk result (λ item. item ≡ spec.item_of change.now) }
+    ensures item { IfOk result (λ item. item ≡ spec.item_of change.now) }
+    ensures valid { OnOk result (spec.IsValid change.now) }
 {
     match change {
         RowChange::PutUser(user) => put(alloc, user),
@@ -43,13 +44,15 @@ pub fn item_of(alloc: Global, change: &RowChange) -> Result<Item, AllocError>
 }
 
 fn put<R: Record>(alloc: Global, kept: &R) -> Result<Item, AllocError>
-    ensures { IfOk result (λ item. item ≡ Item.Put (row_with R.KIND (R.key_of kept.now) (R.shape_of kept.now))) }
+    ensures item { IfOk result (λ item. item ≡ Item.Put (row_with R.KIND (R.key_of kept.now) (R.shape_of kept.now))) }
+    ensures valid { OnOk result (R.valid kept.now) }
 {
     Ok(Item::Put(row_of(alloc, kept)?))
 }
 
 fn delete<K: Textual>(alloc: Global, kind: u8, key: &K) -> Result<Item, AllocError>
-    ensures { IfOk result (λ item. item ≡ Item.Delete kind (K.text_of key.now)) }
+    ensures item { IfOk result (λ item. item ≡ Item.Delete kind (K.text_of key.now)) }
+    ensures valid { OnOk result (K.valid key.now) }
 {
     Ok(Item::Delete {
         kind,

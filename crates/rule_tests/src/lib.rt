@@ -5,20 +5,10 @@
 #[cfg(test)]
 mod of_hub_tables;
 #[cfg(test)]
-mod of_hub_view;
-#[cfg(test)]
-mod of_keyed_rows;
-#[cfg(test)]
 mod of_record_texts;
 #[cfg(test)]
 mod of_roles;
 #[cfg(test)]
-mod of_scope_expand;
-#[cfg(test)]
-mod of_scope_filters;
-#[cfg(test)]
-mod of_scope_meet;
-#[cfg(test)]
-mod of_scope_names;
+mod of_scopes;
 #[cfg(test)]
 mod of_server_life;

@@ -3,101 +3,185 @@ ghost use Rattle.roles.specs.Looks.{IsRight};
 
 use hub_kit::list::List;
 use hub_kit::moment::Moment;
-use hub_kit::names::{
-    GroupName, ServiceName, UserName, read_group, read_role, read_service, read_user,
-};
+use hub_kit::names::{UserName, read_group, read_role, read_service, read_user};
 use hub_kit::text::Text;
 use hub_rows::limits::Limits;
-use hub_rows::records::{Group, Role, Token};
+use hub_rows::records::{Group, Role, Token, User};
 use hub_tables::tables::Tables;
+use hub_view::{UserFacts, body_text, user_body};
 use keyed_rows::sorted::Sorted;
 use roles::cache::RightsCache;
-use roles::grants::{caller_grant, owner_grant};
+use roles::grants::caller_grant;
+use scope_filters::grant::Grant;
 use scope_filters::holder::Owner;
 use scope_filters::object::Object;
-use scope_filters::scope::{RawFilter, RawScope};
+use scope_filters::scope::read_scope;
 use scope_meet::asks::{admits, holds_any};
 use scope_names::action::Action;
 use scope_names::table::ScopeTable;
 use std::alloc::{AllocError, Global};
+use std::process::Abort;
 
-/// ann and bob are in group a, ann alone is in b, and nobody in e.
-#[derive(Drop)]
-struct Hub {
-    ann: UserName,
-    bob: UserName,
-    cat: UserName,
-    bot: ServiceName,
-    a: GroupName,
-    b: GroupName,
-    e: GroupName,
-    tables: Tables,
+/// A role of cat's and the service bot's, and a token. Then what the token may do: the number of its actions, and one of them, whether
+/// it is held at all and whether on ann and on bob; and what is shown of ann.
+struct Rights {
+    role: &'static str,
+    /// Whose token: a user's, or the service's where this is empty.
+    user: &'static str,
+    token: &'static str,
+    actions: usize,
+    action: Action,
+    is_held: bool,
+    on_ann: bool,
+    on_bob: bool,
+    ann: &'static str,
 }
 
-fn limits() -> Limits {
-    Limits {
-        users: 9,
-        groups: 9,
-        services: 9,
-        roles: 9,
-        servers: 9,
-        tokens: 9,
-        shares: 9,
-        codes: 9,
-        trail_bytes: 0,
+const NAMED: &str = "{\"kind\":\"user\",\"name\":\"ann\"}";
+
+const WHOLE: &str =
+    "{\"admin\":false,\"created\":\"1970-01-01T00:00:00Z\",\"groups\":[],\"kind\":\"user\",\"last_activity\":null,\"name\":\"ann\",\"servers\":{}}";
+
+const RIGHTS: [Rights; 7] = [
+    Rights {
+        role: "list:users!group=b",
+        user: "cat",
+        token: "list:users!group=a",
+        actions: 2,
+        action: Action::ListUsers,
+        is_held: true,
+        on_ann: true,
+        on_bob: false,
+        ann: NAMED,
+    },
+    Rights {
+        role: "read:users!group=e",
+        user: "cat",
+        token: "read:users!group=e",
+        actions: 4,
+        action: Action::ReadUsers,
+        is_held: true,
+        on_ann: false,
+        on_bob: false,
+        ann: "{}",
+    },
+    Rights {
+        role: "read:users!group=e",
+        user: "cat",
+        token: "read:users!group=b",
+        actions: 0,
+        action: Action::ReadUsersName,
+        is_held: false,
+        on_ann: false,
+        on_bob: false,
+        ann: "{}",
+    },
+    Rights {
+        role: "read:servers!server=ann/x",
+        user: "cat",
+        token: "read:servers!server=ann/lab",
+        actions: 1,
+        action: Action::ReadUsersName,
+        is_held: true,
+        on_ann: true,
+        on_bob: false,
+        ann: NAMED,
+    },
+    Rights {
+        role: "list:users!group=b",
+        user: "ann",
+        token: "inherit",
+        actions: 14,
+        action: Action::ReadUsers,
+        is_held: true,
+        on_ann: true,
+        on_bob: false,
+        ann: WHOLE,
+    },
+    Rights {
+        role: "self",
+        user: "",
+        token: "inherit",
+        actions: 0,
+        action: Action::ListUsers,
+        is_held: false,
+        on_ann: false,
+        on_bob: false,
+        ann: "{}",
+    },
+    Rights {
+        role: "list:users!group=b",
+        user: "",
+        token: "inherit",
+        actions: 2,
+        action: Action::ListUsers,
+        is_held: true,
+        on_ann: true,
+        on_bob: false,
+        ann: NAMED,
+    },
+];
+
+const LIMITS: Limits = Limits {
+    users: 9,
+    groups: 9,
+    services: 9,
+    roles: 9,
+    servers: 9,
+    tokens: 9,
+    shares: 9,
+    codes: 9,
+    trail_bytes: 0,
+};
+
+/// ann and bob are in group a, ann alone is in b, and nobody in e. cat and the service bot hold a role with the scope.
+pub(crate) fn tables(rt: &impl Abort, alloc: Global, scope: &str) -> Tables {
+    let scopes = ScopeTable::new(alloc, &[]).expect(rt, "it is made");
+    let mut tables = Tables::new(alloc, LIMITS, scopes);
+    put_group(rt, alloc, &mut tables, b"a", &[b"ann", b"bob"]);
+    put_group(rt, alloc, &mut tables, b"b", &[b"ann"]);
+    put_group(rt, alloc, &mut tables, b"e", &[]);
+    let role = role(rt, alloc, scope);
+    tables.put_role(role, 0).expect(rt, "there is room");
+    tables
+}
+
+fn put_group(rt: &impl Abort, alloc: Global, tables: &mut Tables, name: &[u8], users: &[&[u8]]) {
+    let mut members: Vec<UserName> = Vec::new(alloc);
+    for user in users {
+        members
+            .push(read_user(user).expect(rt, "it is made"))
+            .expect(rt, "it is made");
+    }
+    let group = Group {
+        name: read_group(name).expect(rt, "it is made"),
+        users: Sorted::from_vec(members),
+    };
+    tables.put_group(group, 0).expect(rt, "there is room");
+}
+
+fn role(rt: &impl Abort, alloc: Global, scope: &str) -> Role {
+    let cat = read_user(b"cat").expect(rt, "it is made");
+    let bot = read_service(b"bot").expect(rt, "it is made");
+    Role {
+        name: read_role(b"readers").expect(rt, "it is made"),
+        groups: Sorted::new(alloc),
+        scopes: List::from_vec(Vec::from_slice(
+            alloc,
+            &[read_scope(scope).expect(rt, "it is made")],
+        ).expect(rt, "it is made")),
+        services: Sorted::from_vec(Vec::from_slice(alloc, &[bot]).expect(rt, "it is made")),
+        users: Sorted::from_vec(Vec::from_slice(alloc, &[cat]).expect(rt, "it is made")),
     }
 }
 
-/// A hub with these groups, and without roles.
-fn small_hub(alloc: Global) -> Option<Hub> {
-    let scopes = ScopeTable::new(alloc, &[]).ok()?;
-    let mut hub = Hub {
-        ann: read_user(b"ann").ok()?,
-        bob: read_user(b"bob").ok()?,
-        cat: read_user(b"cat").ok()?,
-        bot: read_service(b"bot").ok()?,
-        a: read_group(b"a").ok()?,
-        b: read_group(b"b").ok()?,
-        e: read_group(b"e").ok()?,
-        tables: Tables::new(alloc, limits(), scopes),
+fn token(rt: &impl Abort, alloc: Global, user: &str, scope: &str) -> Token {
+    let owner = if user.is_empty() {
+        Owner::Service(read_service(b"bot").expect(rt, "it is made"))
+    } else {
+        Owner::User(read_user(user.as_bytes()).expect(rt, "it is made"))
     };
-    let both = [hub.ann, hub.bob];
-    put_group(alloc, &mut hub.tables, hub.a, &both)?;
-    let one = [hub.ann];
-    put_group(alloc, &mut hub.tables, hub.b, &one)?;
-    put_group(alloc, &mut hub.tables, hub.e, &[])?;
-    Some(hub)
-}
-
-fn put_group(
-    alloc: Global,
-    tables: &mut Tables,
-    name: GroupName,
-    users: &[UserName],
-) -> Option<()> {
-    let users = Sorted::from_vec(Vec::from_slice(alloc, users).ok()?);
-    tables.put_group(Group { name, users }, 0).ok()
-}
-
-fn put_role(
-    alloc: Global,
-    tables: &mut Tables,
-    scopes: &[RawScope],
-    users: &[UserName],
-    services: &[ServiceName],
-) -> Option<()> {
-    let role = Role {
-        name: read_role(b"readers").ok()?,
-        groups: Sorted::new(alloc),
-        scopes: List::from_vec(Vec::from_slice(alloc, scopes).ok()?),
-        services: Sorted::from_vec(Vec::from_slice(alloc, services).ok()?),
-        users: Sorted::from_vec(Vec::from_slice(alloc, users).ok()?),
-    };
-    tables.put_role(role, 0).ok()
-}
-
-fn token(alloc: Global, user: UserName, scopes: &[RawScope]) -> Option<Token> {
-    Some(Token {
+    Token {
         id: 1,
         client: None,
         created: Moment::zero(),
@@ -105,93 +189,66 @@ fn token(alloc: Global, user: UserName, scopes: &[RawScope]) -> Option<Token> {
         hash: Text::new(alloc),
         issued_for: None,
         note: Text::new(alloc),
-        owner: Owner::User(user),
-        scopes: List::from_vec(Vec::from_slice(alloc, scopes).ok()?),
-    })
-}
-
-fn within(action: Action, group: GroupName) -> RawScope {
-    RawScope::Plain {
-        action,
-        filter: RawFilter::Group(group),
+        owner,
+        scopes: List::from_vec(Vec::from_slice(
+            alloc,
+            &[read_scope(scope).expect(rt, "it is made")],
+        ).expect(rt, "it is made")),
     }
 }
 
-/// A token is allowed what its owner's role and its own scopes both say. A scope of an empty group is held, and allowed on nobody.
-#[test]
-fn a_token_stays_within_the_roles(rt: HostRuntime) {
-    let mut hub = small_hub(rt.alloc()).expect(&rt, "there is room");
-    let held = [
-        within(Action::ListUsers, hub.b),
-        within(Action::ReadUsers, hub.e),
-    ];
-    let put = put_role(rt.alloc(), &mut hub.tables, &held, &[hub.cat], &[]);
-    put.expect(&rt, "there is room");
-
-    let in_a = token(rt.alloc(), hub.cat, &[within(Action::ListUsers, hub.a)]).expect(
-        &rt,
-        "there is memory",
-    );
-    let grant = caller_grant(rt.alloc(), &hub.tables, &in_a).expect(&rt, "there is memory");
-    assert!(rt;
-        admits(
-            &grant,
-            Action::ListUsers,
-            &Object::User(hub.ann),
-            &hub.tables
-        )
-    );
-    assert!(rt;
-        !admits(
-            &grant,
-            Action::ListUsers,
-            &Object::User(hub.bob),
-            &hub.tables
-        )
-    );
-    assert!(rt; !holds_any(&grant, Action::ReadUsers));
-
-    let in_e = token(rt.alloc(), hub.cat, &[within(Action::ReadUsers, hub.e)]).expect(
-        &rt,
-        "there is memory",
-    );
-    let grant = caller_grant(rt.alloc(), &hub.tables, &in_e).expect(&rt, "there is memory");
-    assert!(rt; holds_any(&grant, Action::ReadUsers));
-    assert!(rt;
-        !admits(
-            &grant,
-            Action::ReadUsers,
-            &Object::User(hub.ann),
-            &hub.tables
-        )
-    );
-
-    let in_b = token(rt.alloc(), hub.cat, &[within(Action::ReadUsers, hub.b)]).expect(
-        &rt,
-        "there is memory",
-    );
-    let grant = caller_grant(rt.alloc(), &hub.tables, &in_b).expect(&rt, "there is memory");
-    assert!(rt; !holds_any(&grant, Action::ReadUsers));
+/// Whether the text is what is shown of the user, who is in no group that the facts name.
+fn is_shown(
+    rt: &impl Abort,
+    alloc: Global,
+    tables: &Tables,
+    grant: &Grant,
+    name: UserName,
+    text: &str,
+) -> bool {
+    let facts = UserFacts {
+        user: User {
+            name,
+            admin: false,
+            created: Moment::zero(),
+            last_activity: None,
+        },
+        groups: List::new(alloc),
+        roles: List::new(alloc),
+        servers: List::new(alloc),
+    };
+    let body = user_body(alloc, tables, grant, &facts).expect(rt, "it is made");
+    body_text(alloc, &body).expect(rt, "it is made").as_slice() == text.as_bytes()
 }
 
-/// `self` means nothing for a service, and something for a user.
+fn is_so(rt: &impl Abort, alloc: Global, rights: &Rights) -> bool {
+    let tables = tables(rt, alloc, rights.role);
+    let token = token(rt, alloc, rights.user, rights.token);
+    let grant = caller_grant(alloc, &tables, &token).expect(rt, "it is made");
+    let ann = read_user(b"ann").expect(rt, "it is made");
+    let bob = read_user(b"bob").expect(rt, "it is made");
+    let is_shown = is_shown(rt, alloc, &tables, &grant, ann, rights.ann);
+    let on_ann = admits(&grant, rights.action, &Object::User(ann), &tables);
+    let on_bob = admits(&grant, rights.action, &Object::User(bob), &tables);
+    is_shown
+        & (on_ann == rights.on_ann)
+        & (on_bob == rights.on_bob)
+        & (holds_any(&grant, rights.action) == rights.is_held)
+        & (grant.iter().count() == rights.actions)
+}
+
+/// A token is allowed what its owner's roles and its own scopes both say. A scope of an empty group is held, and allowed on nobody.
+/// `self` means nothing for a service.
 #[test]
-fn a_service_has_no_self(rt: HostRuntime) {
-    let mut hub = small_hub(rt.alloc()).expect(&rt, "there is room");
-    let put = put_role(
-        rt.alloc(),
-        &mut hub.tables,
-        &[RawScope::SelfScope],
-        &[],
-        &[hub.bot],
-    );
-    put.expect(&rt, "there is room");
-    let bot = Owner::Service(hub.bot);
-    let grant = owner_grant(rt.alloc(), &hub.tables, &bot).expect(&rt, "there is memory");
-    assert!(rt; grant.iter().count() == 0);
-    let ann = Owner::User(hub.ann);
-    let grant = owner_grant(rt.alloc(), &hub.tables, &ann).expect(&rt, "there is memory");
-    assert!(rt; grant.iter().count() > 0);
+fn a_token_stays_within_the_roles(rt: HostRuntime) {
+    for rights in &RIGHTS {
+        assert!(rt;
+            is_so(&rt, rt.alloc(), rights),
+            "{} within {}",
+            rights.token,
+            rights.role
+        );
+    }
 }
 
 /// Looks for the grant of a token so many times.
@@ -213,9 +270,9 @@ fn look_often(
 
 #[test]
 fn ten_looks_have_nine_hits(rt: HostRuntime) {
-    let hub = small_hub(rt.alloc()).expect(&rt, "there is room");
-    let token = token(rt.alloc(), hub.ann, &[]).expect(&rt, "there is memory");
-    let mut cache = RightsCache::new(rt.alloc(), 2).expect(&rt, "there is memory");
-    look_often(rt.alloc(), &mut cache, &hub.tables, &token, 10).expect(&rt, "there is memory");
+    let tables = tables(&rt, rt.alloc(), "self");
+    let token = token(&rt, rt.alloc(), "ann", "inherit");
+    let mut cache = RightsCache::new(rt.alloc(), 2).expect(&rt, "it is made");
+    look_often(rt.alloc(), &mut cache, &tables, &token, 10).expect(&rt, "there is memory");
     assert!(rt; cache.hits() == 9);
 }

@@ -1,4 +1,4 @@
-//! Tests of whole connections and sessions, with requests and replies written by hand.
+//! Tests of whole connections and sessions, with requests and replies written by hand as they stand on the wire.
 //! A crate of their own, since a crate that has tests is proved twice. Nothing stands above it.
 #![tactic(auto)]
 
@@ -7,4 +7,4 @@ mod of_hub_run;
 #[cfg(test)]
 mod of_sessions;
 #[cfg(test)]
-mod talk;
+mod repeated;

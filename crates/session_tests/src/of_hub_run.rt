@@ -1,93 +1,416 @@
-//! Whole connections over memory: what is written, and how they end.
-use crate::talk::{ask, refuse, say, user};
+//! Whole connections over memory: what is written, how they end, and how often the rights of a token were at hand.
+use crate::repeated::repeated;
 use desk::Desk;
 use http_wire::error::SessionFault;
 use hub_core::book::Book;
-use hub_core::config::{ConfigToken, ConfigUser, HubConfig, greatest_limits};
+use hub_core::config::{ConfigService, ConfigToken, ConfigUser, HubConfig, greatest_limits};
 use hub_devices::mem_bytes::{MemSink, MemSource};
 use hub_devices::mem_clock::FixedClock;
-use hub_kit::bytes::Bytes;
 use hub_kit::list::List;
-use hub_kit::moments::moment;
-use hub_kit::names::read_user;
+use hub_kit::moment::Moment;
+use hub_kit::names::{ServiceName, read_role, read_service, read_user};
 use hub_kit::text::Text;
 use hub_machine::change::Change;
+use hub_rows::records::Role;
 use hub_run::{Served, serve_connection};
 use keeper::mem_keeper::MemKeeper;
 use keeper::trail::ListTrail;
+use keyed_rows::sorted::Sorted;
 use scope_filters::holder::Owner;
 use scope_filters::scope::RawScope;
 use std::alloc::Global;
+use std::process::Abort;
 use std::sync::Wait;
-use std::test::Fail;
 
-const IDENTITY: &[u8] =
-    b"GET /hub/api/user HTTP/1.1\r\nHost: hub\r\nAuthorization: token secret-token-ann\r\n\r\n";
+/// What is asked on a connection to a hub of ann, and what comes of it.
+struct Connection {
+    name: &'static str,
+    /// Whether ann is an admin.
+    admin: bool,
+    trail_bytes: u64,
+    /// The number of the keeper's call that fails. The opening makes the first two.
+    failing_call: u64,
+    input: &'static [u8],
+    /// How often the input stands there, and the output.
+    times: usize,
+    end: Served,
+    /// How many visits found the rights of their token kept.
+    hits: u64,
+    output: &'static [u8],
+}
 
-const IDENTITY_REPLY: &[u8] =
-    b"HTTP/1.1 200 OK\r\nContent-Type: application/json\r\nContent-Length: 142\r\nX-Hub-Revision: 0\r\n\r\n{\"admin\":false,\"created\":\"2023-11-14T22:13:20Z\",\"groups\":[],\"kind\":\"user\",\"last_activity\":null,\"name\":\"ann\",\"scopes\":[\"inherit\"],\"servers\":{}}";
+/// The number of a call that doesn't come.
+const NEVER: u64 = u64::MAX;
+
+const GREATEST_TRAIL: u64 = 1_073_741_824;
+
+const CONNECTIONS: [Connection; 23] = [
+    Connection {
+        name: "a commit fails once",
+        admin: true,
+        trail_bytes: GREATEST_TRAIL,
+        failing_call: 2,
+        input: b"POST /hub/api/users/zed HTTP/1.1\r\nAuthorization: token secret-token-ann\r\n\r\n\
+    GET /hub/api/users/zed HTTP/1.1\r\nAuthorization: token secret-token-ann\r\n\r\n\
+    POST /hub/api/users/zed HTTP/1.1\r\nAuthorization: token secret-token-ann\r\n\r\n\
+    POST /hub/api/users/zed HTTP/1.1\r\nAuthorization: token secret-token-ann\r\n\r\n",
+        times: 1,
+        end: Served::Ended(4),
+        hits: 2,
+        output: b"HTTP/1.1 503 Service Unavailable\r\nContent-Type: application/json\r\nContent-Length: 33\r\nX-Hub-Revision: 0\r\n\r\n{\"message\":\"keeper\",\"status\":503}\
+    HTTP/1.1 404 Not Found\r\nContent-Type: application/json\r\nContent-Length: 36\r\nX-Hub-Revision: 0\r\n\r\n{\"message\":\"not found\",\"status\":404}\
+    HTTP/1.1 201 Created\r\nContent-Type: application/json\r\nContent-Length: 138\r\nX-Hub-Revision: 1\r\n\r\n{\"admin\":false,\"created\":\"2023-11-14T22:13:20Z\",\"groups\":[],\"kind\":\"user\",\"last_activity\":null,\"name\":\"zed\",\"roles\":[\"user\"],\"servers\":{}}\
+    HTTP/1.1 409 Conflict\r\nContent-Type: application/json\r\nContent-Length: 38\r\nX-Hub-Revision: 1\r\n\r\n{\"message\":\"exists: zed\",\"status\":409}",
+    },
+    Connection {
+        name: "a full trail still answers",
+        admin: true,
+        trail_bytes: 63,
+        failing_call: NEVER,
+        input: b"POST /hub/api/users/zed HTTP/1.1\r\nAuthorization: token secret-token-ann\r\n\r\n\
+    GET /hub/api/user HTTP/1.1\r\nHost: hub\r\nAuthorization: token secret-token-ann\r\n\r\n",
+        times: 1,
+        end: Served::Ended(2),
+        hits: 1,
+        output: b"HTTP/1.1 500 Internal Server Error\r\nContent-Type: application/json\r\nContent-Length: 37\r\nX-Hub-Revision: 0\r\n\r\n{\"message\":\"trail full\",\"status\":500}\
+    HTTP/1.1 200 OK\r\nContent-Type: application/json\r\nContent-Length: 166\r\nX-Hub-Revision: 0\r\n\r\n{\"admin\":true,\"created\":\"2023-11-14T22:13:20Z\",\"groups\":[],\"kind\":\"user\",\"last_activity\":null,\"name\":\"ann\",\"roles\":[\"admin\",\"user\"],\"scopes\":[\"inherit\"],\"servers\":{}}",
+    },
+    Connection {
+        name: "ten identities have nine hits",
+        admin: false,
+        trail_bytes: GREATEST_TRAIL,
+        failing_call: NEVER,
+        input: b"GET /hub/api/user HTTP/1.1\r\nHost: hub\r\nAuthorization: token secret-token-ann\r\n\r\n",
+        times: 10,
+        end: Served::Ended(10),
+        hits: 9,
+        output: b"HTTP/1.1 200 OK\r\nContent-Type: application/json\r\nContent-Length: 142\r\nX-Hub-Revision: 0\r\n\r\n{\"admin\":false,\"created\":\"2023-11-14T22:13:20Z\",\"groups\":[],\"kind\":\"user\",\"last_activity\":null,\"name\":\"ann\",\"scopes\":[\"inherit\"],\"servers\":{}}",
+    },
+    Connection {
+        name: "no hit after a change",
+        admin: true,
+        trail_bytes: GREATEST_TRAIL,
+        failing_call: NEVER,
+        input: b"GET /hub/api/user HTTP/1.1\r\nHost: hub\r\nAuthorization: token secret-token-ann\r\n\r\n\
+    GET /hub/api/user HTTP/1.1\r\nHost: hub\r\nAuthorization: token secret-token-ann\r\n\r\n\
+    POST /hub/api/groups/g HTTP/1.1\r\nAuthorization: token secret-token-ann\r\n\r\n\
+    GET /hub/api/user HTTP/1.1\r\nHost: hub\r\nAuthorization: token secret-token-ann\r\n\r\n",
+        times: 1,
+        end: Served::Ended(4),
+        hits: 2,
+        output: b"HTTP/1.1 200 OK\r\nContent-Type: application/json\r\nContent-Length: 166\r\nX-Hub-Revision: 0\r\n\r\n{\"admin\":true,\"created\":\"2023-11-14T22:13:20Z\",\"groups\":[],\"kind\":\"user\",\"last_activity\":null,\"name\":\"ann\",\"roles\":[\"admin\",\"user\"],\"scopes\":[\"inherit\"],\"servers\":{}}\
+    HTTP/1.1 200 OK\r\nContent-Type: application/json\r\nContent-Length: 166\r\nX-Hub-Revision: 0\r\n\r\n{\"admin\":true,\"created\":\"2023-11-14T22:13:20Z\",\"groups\":[],\"kind\":\"user\",\"last_activity\":null,\"name\":\"ann\",\"roles\":[\"admin\",\"user\"],\"scopes\":[\"inherit\"],\"servers\":{}}\
+    HTTP/1.1 201 Created\r\nContent-Type: application/json\r\nContent-Length: 49\r\nX-Hub-Revision: 1\r\n\r\n{\"kind\":\"group\",\"name\":\"g\",\"roles\":[],\"users\":[]}\
+    HTTP/1.1 200 OK\r\nContent-Type: application/json\r\nContent-Length: 166\r\nX-Hub-Revision: 1\r\n\r\n{\"admin\":true,\"created\":\"2023-11-14T22:13:20Z\",\"groups\":[],\"kind\":\"user\",\"last_activity\":null,\"name\":\"ann\",\"roles\":[\"admin\",\"user\"],\"scopes\":[\"inherit\"],\"servers\":{}}",
+    },
+    Connection {
+        name: "a service with the scope self",
+        admin: false,
+        trail_bytes: GREATEST_TRAIL,
+        failing_call: NEVER,
+        input: b"GET /hub/api/users HTTP/1.1\r\nAuthorization: token secret-token-bot\r\n\r\n\
+    GET /hub/api/user HTTP/1.1\r\nAuthorization: token secret-token-bot\r\n\r\n",
+        times: 1,
+        end: Served::Ended(2),
+        hits: 1,
+        output: b"HTTP/1.1 403 Forbidden\r\nContent-Type: application/json\r\nContent-Length: 43\r\nX-Hub-Revision: 0\r\n\r\n{\"message\":\"needs list:users\",\"status\":403}\
+    HTTP/1.1 200 OK\r\nContent-Type: application/json\r\nContent-Length: 52\r\nX-Hub-Revision: 0\r\n\r\n{\"kind\":\"service\",\"name\":\"bot\",\"scopes\":[\"inherit\"]}",
+    },
+    Connection {
+        name: "the last byte is wanting",
+        admin: false,
+        trail_bytes: GREATEST_TRAIL,
+        failing_call: NEVER,
+        input: b"GET /hub/api/user HTTP/1.1\r\nHost: hub\r\nAuthorization: token secret-token-ann\r\n\r",
+        times: 1,
+        end: Served::Cut(0),
+        hits: 0,
+        output: b"",
+    },
+    Connection {
+        name: "no token",
+        admin: false,
+        trail_bytes: GREATEST_TRAIL,
+        failing_call: NEVER,
+        input: b"GET /hub/api/user HTTP/1.1\r\n\r\n",
+        times: 1,
+        end: Served::Ended(1),
+        hits: 0,
+        output: b"HTTP/1.1 403 Forbidden\r\nContent-Type: application/json\r\nContent-Length: 41\r\nX-Hub-Revision: 0\r\n\r\n{\"message\":\"no valid token\",\"status\":403}",
+    },
+    Connection {
+        name: "another scheme",
+        admin: false,
+        trail_bytes: GREATEST_TRAIL,
+        failing_call: NEVER,
+        input: b"GET /hub/api/user HTTP/1.1\r\nConnection: close\r\nAuthorization: Basic secret-token-ann\r\n\r\n",
+        times: 1,
+        end: Served::Closed(1),
+        hits: 0,
+        output: b"HTTP/1.1 403 Forbidden\r\nContent-Type: application/json\r\nContent-Length: 41\r\nX-Hub-Revision: 0\r\nConnection: close\r\n\r\n{\"message\":\"no valid token\",\"status\":403}",
+    },
+    Connection {
+        name: "more was seen than is",
+        admin: false,
+        trail_bytes: GREATEST_TRAIL,
+        failing_call: NEVER,
+        input: b"GET /hub/api/user HTTP/1.1\r\nX-Hub-Seen: 1\r\nConnection: close\r\n\r\n",
+        times: 1,
+        end: Served::Closed(1),
+        hits: 0,
+        output: b"HTTP/1.1 412 Precondition Failed\r\nContent-Type: application/json\r\nContent-Length: 45\r\nX-Hub-Revision: 0\r\nConnection: close\r\n\r\n{\"message\":\"seen 1, revision 0\",\"status\":412}",
+    },
+    Connection {
+        name: "no such path",
+        admin: false,
+        trail_bytes: GREATEST_TRAIL,
+        failing_call: NEVER,
+        input: b"GET /hub/api/nothing HTTP/1.0\r\n\r\n",
+        times: 1,
+        end: Served::Closed(1),
+        hits: 0,
+        output: b"HTTP/1.1 404 Not Found\r\nContent-Type: application/json\r\nContent-Length: 39\r\nConnection: close\r\n\r\n{\"message\":\"no such path\",\"status\":404}",
+    },
+    Connection {
+        name: "a method that the path has not",
+        admin: false,
+        trail_bytes: GREATEST_TRAIL,
+        failing_call: NEVER,
+        input: b"PUT /hub/api/user HTTP/1.1\r\nConnection: close\r\n\r\n",
+        times: 1,
+        end: Served::Closed(1),
+        hits: 0,
+        output: b"HTTP/1.1 405 Method Not Allowed\r\nContent-Type: application/json\r\nContent-Length: 45\r\nConnection: close\r\n\r\n{\"message\":\"method not allowed\",\"status\":405}",
+    },
+    Connection {
+        name: "no name",
+        admin: false,
+        trail_bytes: GREATEST_TRAIL,
+        failing_call: NEVER,
+        input: b"GET /hub/api/users/Zed HTTP/1.1\r\n\r\n",
+        times: 1,
+        end: Served::Ended(1),
+        hits: 0,
+        output: b"HTTP/1.1 400 Bad Request\r\nContent-Type: application/json\r\nContent-Length: 35\r\n\r\n{\"message\":\"bad name\",\"status\":400}",
+    },
+    Connection {
+        name: "no head",
+        admin: false,
+        trail_bytes: GREATEST_TRAIL,
+        failing_call: NEVER,
+        input: b"\0",
+        times: 1,
+        end: Served::Closed(1),
+        hits: 0,
+        output: b"HTTP/1.1 400 Bad Request\r\nContent-Type: application/json\r\nContent-Length: 35\r\nConnection: close\r\n\r\n{\"message\":\"bad head\",\"status\":400}",
+    },
+    Connection {
+        name: "a body past the limit",
+        admin: false,
+        trail_bytes: GREATEST_TRAIL,
+        failing_call: NEVER,
+        input: b"GET /hub/api/user HTTP/1.1\r\nContent-Length: 1048577\r\n\r\n",
+        times: 1,
+        end: Served::Closed(1),
+        hits: 0,
+        output: b"HTTP/1.1 413 Payload Too Large\r\nContent-Type: application/json\r\nContent-Length: 36\r\nConnection: close\r\n\r\n{\"message\":\"too large\",\"status\":413}",
+    },
+    Connection {
+        name: "64 headers",
+        admin: false,
+        trail_bytes: GREATEST_TRAIL,
+        failing_call: NEVER,
+        input: b"GET /hub/api/user HTTP/1.1\r\n\
+    x:\r\nx:\r\nx:\r\nx:\r\nx:\r\nx:\r\nx:\r\nx:\r\nx:\r\nx:\r\nx:\r\nx:\r\nx:\r\nx:\r\nx:\r\nx:\r\n\
+    x:\r\nx:\r\nx:\r\nx:\r\nx:\r\nx:\r\nx:\r\nx:\r\nx:\r\nx:\r\nx:\r\nx:\r\nx:\r\nx:\r\nx:\r\nx:\r\n\
+    x:\r\nx:\r\nx:\r\nx:\r\nx:\r\nx:\r\nx:\r\nx:\r\nx:\r\nx:\r\nx:\r\nx:\r\nx:\r\nx:\r\nx:\r\nx:\r\n\
+    x:\r\nx:\r\nx:\r\nx:\r\nx:\r\nx:\r\nx:\r\nx:\r\nx:\r\nx:\r\nx:\r\nx:\r\nx:\r\nx:\r\nx:\r\nx:\r\n\
+    \r\n",
+        times: 1,
+        end: Served::Ended(1),
+        hits: 0,
+        output: b"HTTP/1.1 403 Forbidden\r\nContent-Type: application/json\r\nContent-Length: 41\r\nX-Hub-Revision: 0\r\n\r\n{\"message\":\"no valid token\",\"status\":403}",
+    },
+    Connection {
+        name: "65 headers",
+        admin: false,
+        trail_bytes: GREATEST_TRAIL,
+        failing_call: NEVER,
+        input: b"GET /hub/api/user HTTP/1.1\r\n\
+    x:\r\nx:\r\nx:\r\nx:\r\nx:\r\nx:\r\nx:\r\nx:\r\nx:\r\nx:\r\nx:\r\nx:\r\nx:\r\nx:\r\nx:\r\nx:\r\n\
+    x:\r\nx:\r\nx:\r\nx:\r\nx:\r\nx:\r\nx:\r\nx:\r\nx:\r\nx:\r\nx:\r\nx:\r\nx:\r\nx:\r\nx:\r\nx:\r\n\
+    x:\r\nx:\r\nx:\r\nx:\r\nx:\r\nx:\r\nx:\r\nx:\r\nx:\r\nx:\r\nx:\r\nx:\r\nx:\r\nx:\r\nx:\r\nx:\r\n\
+    x:\r\nx:\r\nx:\r\nx:\r\nx:\r\nx:\r\nx:\r\nx:\r\nx:\r\nx:\r\nx:\r\nx:\r\nx:\r\nx:\r\nx:\r\nx:\r\n\
+    x:\r\n\
+    \r\n",
+        times: 1,
+        end: Served::Closed(1),
+        hits: 0,
+        output: b"HTTP/1.1 413 Payload Too Large\r\nContent-Type: application/json\r\nContent-Length: 36\r\nConnection: close\r\n\r\n{\"message\":\"too large\",\"status\":413}",
+    },
+    Connection {
+        name: "a coding",
+        admin: false,
+        trail_bytes: GREATEST_TRAIL,
+        failing_call: NEVER,
+        input: b"GET /hub/api/user HTTP/1.1\r\nTransfer-Encoding: chunked\r\n\r\n",
+        times: 1,
+        end: Served::Closed(1),
+        hits: 0,
+        output: b"HTTP/1.1 501 Not Implemented\r\nContent-Type: application/json\r\nContent-Length: 47\r\nConnection: close\r\n\r\n{\"message\":\"coding not supported\",\"status\":501}",
+    },
+    Connection {
+        name: "a query out of form",
+        admin: false,
+        trail_bytes: GREATEST_TRAIL,
+        failing_call: NEVER,
+        input: b"GET /hub/api/users?limit=0 HTTP/1.1\r\nAuthorization: token secret-token-ann\r\n\r\n",
+        times: 1,
+        end: Served::Ended(1),
+        hits: 0,
+        output: b"HTTP/1.1 400 Bad Request\r\nContent-Type: application/json\r\nContent-Length: 36\r\n\r\n{\"message\":\"bad query\",\"status\":400}",
+    },
+    Connection {
+        name: "a body out of form",
+        admin: false,
+        trail_bytes: GREATEST_TRAIL,
+        failing_call: NEVER,
+        input: b"PATCH /hub/api/users/ann HTTP/1.1\r\nAuthorization: token secret-token-ann\r\nContent-Length: 14\r\n\r\n{\"admin\":null}",
+        times: 1,
+        end: Served::Ended(1),
+        hits: 0,
+        output: b"HTTP/1.1 400 Bad Request\r\nContent-Type: application/json\r\nContent-Length: 35\r\n\r\n{\"message\":\"bad body\",\"status\":400}",
+    },
+    Connection {
+        name: "two tokens",
+        admin: false,
+        trail_bytes: GREATEST_TRAIL,
+        failing_call: NEVER,
+        input: b"GET /hub/api/user HTTP/1.1\r\nAuthorization: token secret-token-ann\r\nAuthorization: token secret-token-ann\r\n\r\n",
+        times: 1,
+        end: Served::Ended(1),
+        hits: 0,
+        output: b"HTTP/1.1 403 Forbidden\r\nContent-Type: application/json\r\nContent-Length: 41\r\nX-Hub-Revision: 0\r\n\r\n{\"message\":\"no valid token\",\"status\":403}",
+    },
+    Connection {
+        name: "what was seen, twice",
+        admin: false,
+        trail_bytes: GREATEST_TRAIL,
+        failing_call: NEVER,
+        input: b"GET /hub/api/user HTTP/1.1\r\nX-Hub-Seen: 1\r\nX-Hub-Seen: 1\r\n\r\n",
+        times: 1,
+        end: Served::Closed(1),
+        hits: 0,
+        output: b"HTTP/1.1 400 Bad Request\r\nContent-Type: application/json\r\nContent-Length: 35\r\nConnection: close\r\n\r\n{\"message\":\"bad head\",\"status\":400}",
+    },
+    Connection {
+        name: "a length of two words",
+        admin: false,
+        trail_bytes: GREATEST_TRAIL,
+        failing_call: NEVER,
+        input: b"GET /hub/api/user HTTP/1.1\r\nContent-Length: 1 2\r\n\r\n",
+        times: 1,
+        end: Served::Closed(1),
+        hits: 0,
+        output: b"HTTP/1.1 400 Bad Request\r\nContent-Type: application/json\r\nContent-Length: 35\r\nConnection: close\r\n\r\n{\"message\":\"bad head\",\"status\":400}",
+    },
+    Connection {
+        name: "a body is cut",
+        admin: false,
+        trail_bytes: GREATEST_TRAIL,
+        failing_call: NEVER,
+        input: b"GET /hub/api/user HTTP/1.1\r\nContent-Length: 2\r\n\r\n{",
+        times: 1,
+        end: Served::Cut(0),
+        hits: 0,
+        output: b"",
+    },
+];
 
 type MemBook = Book<MemKeeper, ListTrail<Change>>;
 
-/// A book of ann and a token of ann's. The keeper fails at the calls with these numbers, of which the opening makes the first two.
-fn open_book(
-    alloc: Global,
-    admin: bool,
-    trail_bytes: u64,
-    failing: &[u64],
-) -> Result<MemBook, Fail> {
-    let Some(now) = moment(1_700_000_000) else {
-        return Err("no moment".into());
-    };
-    let Ok(name) = read_user(b"ann") else {
-        return Err("no name".into());
-    };
-    let user = ConfigUser { name, admin };
-    let token = ConfigToken {
-        text: Text::from_str(alloc, "secret-token-ann")?,
-        owner: Owner::User(name),
-        scopes: List::from_vec(vec![in alloc; RawScope::Inherit]?),
+/// A token of this owner that holds all that the owner holds, and has no end.
+fn token(rt: &impl Abort, alloc: Global, text: &str, owner: Owner) -> ConfigToken {
+    let scopes = Vec::from_slice(alloc, &[RawScope::Inherit]);
+    ConfigToken {
+        text: Text::from_str(alloc, text).expect(rt, "there is memory"),
+        owner,
+        scopes: List::from_vec(scopes.expect(rt, "there is memory")),
         expires_at: None,
+    }
+}
+
+/// The role `helper`, which gives the service the scope `self`.
+fn helper(rt: &impl Abort, alloc: Global, bot: ServiceName) -> Role {
+    let scopes = Vec::from_slice(alloc, &[RawScope::SelfScope]);
+    let services = Vec::from_slice(alloc, &[bot]);
+    Role {
+        name: read_role(b"helper").expect(rt, "it is a name"),
+        groups: Sorted::new(alloc),
+        scopes: List::from_vec(scopes.expect(rt, "there is memory")),
+        services: Sorted::from_vec(services.expect(rt, "there is memory")),
+        users: Sorted::new(alloc),
+    }
+}
+
+/// A configuration of the user ann and the service bot with a token each, and of bot's role.
+fn config(rt: &impl Abort, alloc: Global, connection: &Connection) -> HubConfig {
+    let ann = read_user(b"ann").expect(rt, "it is a name");
+    let bot = read_service(b"bot").expect(rt, "it is a name");
+    let user = ConfigUser {
+        name: ann,
+        admin: connection.admin,
     };
+    let service = ConfigService {
+        name: bot,
+        redirect_uri: None,
+        secret: None,
+    };
+    let tokens = vec![in alloc;
+        token(rt, alloc, "secret-token-ann", Owner::User(ann)),
+        token(rt, alloc, "secret-token-bot", Owner::Service(bot)),
+    ];
+    let roles = vec![in alloc; helper(rt, alloc, bot)];
     let mut limits = greatest_limits();
-    limits.trail_bytes = trail_bytes.min(1_073_741_824);
-    let config = HubConfig {
+    limits.trail_bytes = connection.trail_bytes.min(GREATEST_TRAIL);
+    HubConfig {
         pool: List::new(alloc),
         hub_url: None,
         limits,
         no_trail: false,
-        users: List::from_vec(vec![in alloc; user]?),
-        tokens: List::from_vec(vec![in alloc; token]?),
-    };
-    let keeper = MemKeeper::new(alloc, Vec::new(alloc), Vec::from_slice(alloc, failing)?)?;
-    match Book::open(alloc, keeper, ListTrail::new(alloc), &config, now) {
-        Ok(book) => Ok(book),
-        Err(_) => Err("no book".into()),
+        users: List::from_vec(vec![in alloc; user].expect(rt, "there is memory")),
+        groups: List::new(alloc),
+        services: List::from_vec(vec![in alloc; service].expect(rt, "there is memory")),
+        roles: List::from_vec(roles.expect(rt, "there is memory")),
+        tokens: List::from_vec(tokens.expect(rt, "there is memory")),
     }
 }
 
-/// Serves one connection over this book. The numbers are those of the read and the write that are to fail.
-fn serve_book<W: Wait>(
-    rt: &W,
-    alloc: Global,
-    book: MemBook,
-    input: &[u8],
-    cut: usize,
-    failing_read: u64,
-    failing_write: u64,
-) -> Result<(Result<Served, SessionFault>, MemSink), Fail> {
-    let Some(now) = moment(1_700_000_000) else {
-        return Err("no moment".into());
-    };
+/// The book that the connection is served by.
+fn book(rt: &impl Abort, alloc: Global, connection: &Connection, now: Moment) -> MemBook {
+    let mut config = config(rt, alloc, connection);
+    config.limits.trail_bytes = config.limits.trail_bytes.min(GREATEST_TRAIL);
+    let failing = Vec::from_slice(alloc, &[connection.failing_call]);
+    let failing = failing.expect(rt, "there is memory");
+    let keeper = MemKeeper::new(alloc, Vec::new(alloc), failing);
+    let keeper = keeper.expect(rt, "there is memory");
+    match Book::open(alloc, keeper, ListTrail::new(alloc), &config, now) {
+        Ok(book) => book,
+        Err(_) => panic!(rt; "no book"),
+    }
+}
+
+/// Whether the connection ends as it should, has written its output, and leaves so many hits.
+fn ends_so<R: Abort + Wait>(rt: &R, alloc: Global, connection: &Connection) -> bool {
+    let now = Moment::up_to(1_700_000_000);
+    let book = book(rt, alloc, connection, now);
     let Ok((desk, mut pass)) = Desk::open(alloc, book) else {
-        return Err("no desk".into());
+        panic!(rt; "no desk")
     };
-    let mut source = MemSource::new(
-        Bytes::from_slice(alloc, input)?,
-        cut,
-        Vec::from_slice(alloc, &[failing_read])?,
-    );
-    let mut sink = MemSink::new(alloc, Vec::from_slice(alloc, &[failing_write])?);
+    let input = repeated(rt, alloc, connection.input, connection.times);
+    let output = repeated(rt, alloc, connection.output, connection.times);
+    let mut source = MemSource::new(input, 5, Vec::new(alloc));
+    let mut sink = MemSink::new(alloc, Vec::new(alloc));
     let mut clock = FixedClock(now);
     let served = serve_connection(
         rt,
@@ -98,170 +421,15 @@ fn serve_book<W: Wait>(
         &mut sink,
         &mut clock,
     );
-    Ok((served, sink))
-}
-
-/// Serves one connection for ann, who is no admin.
-fn serve<W: Wait>(
-    rt: &W,
-    alloc: Global,
-    input: &[u8],
-    cut: usize,
-    failing_read: u64,
-    failing_write: u64,
-) -> Result<(Result<Served, SessionFault>, MemSink), Fail> {
-    let book = open_book(alloc, false, 1_073_741_824, &[])?;
-    serve_book(rt, alloc, book, input, cut, failing_read, failing_write)
+    let hits = desk.close(rt, pass).hits();
+    (served == Ok(connection.end))
+        & (sink.as_slice() == output.as_slice())
+        & (hits == connection.hits)
 }
 
 #[test]
-fn a_commit_fails_once(rt: HostRuntime) -> Result<(), Fail> {
-    let alloc = rt.alloc();
-    let mut input = Bytes::new(alloc);
-    ask(alloc, &mut input, "POST /hub/api/users/zed", "")?;
-    ask(alloc, &mut input, "GET /hub/api/users/zed", "")?;
-    ask(alloc, &mut input, "POST /hub/api/users/zed", "")?;
-    ask(alloc, &mut input, "POST /hub/api/users/zed", "")?;
-    let mut replies = Bytes::new(alloc);
-    let zed = user(alloc, "zed", false, "\"user\"")?;
-    refuse(
-        alloc,
-        &mut replies,
-        "503 Service Unavailable",
-        "0",
-        "keeper",
-    )?;
-    refuse(alloc, &mut replies, "404 Not Found", "0", "not found")?;
-    say(alloc, &mut replies, "201 Created", "1", zed.as_str())?;
-    refuse(alloc, &mut replies, "409 Conflict", "1", "exists: zed")?;
-    let book = open_book(alloc, true, 1_073_741_824, &[2])?;
-    let (served, sink) = serve_book(&rt, alloc, book, input.as_slice(), 100, 999, 999)?;
-    assert!(rt; served == Ok(Served::Ended(4)));
-    assert!(rt; sink.as_slice() == replies.as_slice());
-    Ok(())
-}
-
-#[test]
-fn a_full_trail_still_answers(rt: HostRuntime) -> Result<(), Fail> {
-    let alloc = rt.alloc();
-    let mut input = Bytes::new(alloc);
-    ask(alloc, &mut input, "POST /hub/api/users/zed", "")?;
-    input.push_all(IDENTITY)?;
-    let mut replies = Bytes::new(alloc);
-    refuse(
-        alloc,
-        &mut replies,
-        "500 Internal Server Error",
-        "0",
-        "trail full",
-    )?;
-    say(
-        alloc,
-        &mut replies,
-        "200 OK",
-        "0",
-        "{\"admin\":true,\"created\":\"2023-11-14T22:13:20Z\",\"groups\":[],\"kind\":\"user\",\"last_activity\":null,\"name\":\"ann\",\"roles\":[\"admin\",\"user\"],\"scopes\":[\"inherit\"],\"servers\":{}}",
-    )?;
-    let book = open_book(alloc, true, 63, &[])?;
-    let (served, sink) = serve_book(&rt, alloc, book, input.as_slice(), 100, 999, 999)?;
-    assert!(rt; served == Ok(Served::Ended(2)));
-    assert!(rt; sink.as_slice() == replies.as_slice());
-    Ok(())
-}
-
-#[test]
-fn every_cutting_gets_the_same_replies(rt: HostRuntime) -> Result<(), Fail> {
-    let mut twice = Bytes::from_slice(rt.alloc(), IDENTITY)?;
-    twice.push_all(IDENTITY)?;
-    let mut replies = Bytes::from_slice(rt.alloc(), IDENTITY_REPLY)?;
-    replies.push_all(IDENTITY_REPLY)?;
-    for cut in [1, 7, 10_000] {
-        let (served, sink) = serve(&rt, rt.alloc(), twice.as_slice(), cut, 999, 999)?;
-        assert!(rt; served == Ok(Served::Ended(2)));
-        assert!(rt; sink.as_slice() == replies.as_slice());
+fn connections(rt: HostRuntime) {
+    for connection in &CONNECTIONS {
+        assert!(rt; ends_so(&rt, rt.alloc(), connection), "{}", connection.name);
     }
-    let (served, sink) = serve(
-        &rt,
-        rt.alloc(),
-        &IDENTITY[..IDENTITY.len() - 1],
-        1,
-        999,
-        999,
-    )?;
-    assert!(rt; served == Ok(Served::Cut(0)) && sink.as_slice().is_empty());
-    Ok(())
-}
-
-#[test]
-fn refusals_and_ends(rt: HostRuntime) -> Result<(), Fail> {
-    let cases: [(&[u8], Served, &[u8]); 8] = [
-        (
-            b"GET /hub/api/user HTTP/1.1\r\n\r\n",
-            Served::Ended(1),
-            b"HTTP/1.1 403 Forbidden\r\nContent-Type: application/json\r\nContent-Length: 41\r\nX-Hub-Revision: 0\r\n\r\n{\"message\":\"no valid token\",\"status\":403}",
-        ),
-        (
-            b"GET /hub/api/user HTTP/1.1\r\nX-Hub-Seen: 1\r\nConnection: close\r\n\r\n",
-            Served::Closed(1),
-            b"HTTP/1.1 412 Precondition Failed\r\nContent-Type: application/json\r\nContent-Length: 45\r\nX-Hub-Revision: 0\r\nConnection: close\r\n\r\n{\"message\":\"seen 1, revision 0\",\"status\":412}",
-        ),
-        (
-            b"GET /hub/api/nothing HTTP/1.0\r\n\r\n",
-            Served::Closed(1),
-            b"HTTP/1.1 404 Not Found\r\nContent-Type: application/json\r\nContent-Length: 39\r\nConnection: close\r\n\r\n{\"message\":\"no such path\",\"status\":404}",
-        ),
-        (
-            b"\0",
-            Served::Closed(1),
-            b"HTTP/1.1 400 Bad Request\r\nContent-Type: application/json\r\nContent-Length: 35\r\nConnection: close\r\n\r\n{\"message\":\"bad head\",\"status\":400}",
-        ),
-        (
-            b"GET /hub/api/user HTTP/1.1\r\nContent-Length: 1048577\r\n\r\n",
-            Served::Closed(1),
-            b"HTTP/1.1 413 Payload Too Large\r\nContent-Type: application/json\r\nContent-Length: 36\r\nConnection: close\r\n\r\n{\"message\":\"too large\",\"status\":413}",
-        ),
-        (
-            b"GET /hub/api/user HTTP/1.1\r\nTransfer-Encoding: chunked\r\n\r\n",
-            Served::Closed(1),
-            b"HTTP/1.1 501 Not Implemented\r\nContent-Type: application/json\r\nContent-Length: 47\r\nConnection: close\r\n\r\n{\"message\":\"coding not supported\",\"status\":501}",
-        ),
-        (
-            b"PUT /hub/api/user HTTP/1.1\r\nConnection: close\r\n\r\n",
-            Served::Closed(1),
-            b"HTTP/1.1 405 Method Not Allowed\r\nContent-Type: application/json\r\nContent-Length: 45\r\nConnection: close\r\n\r\n{\"message\":\"method not allowed\",\"status\":405}",
-        ),
-        (
-            b"GET /hub/api/user HTTP/1.1\r\nConnection: close\r\nAuthorization: Basic secret-token-ann\r\n\r\n",
-            Served::Closed(1),
-            b"HTTP/1.1 403 Forbidden\r\nContent-Type: application/json\r\nContent-Length: 41\r\nX-Hub-Revision: 0\r\nConnection: close\r\n\r\n{\"message\":\"no valid token\",\"status\":403}",
-        ),
-    ];
-    for (input, end, text) in cases {
-        let (served, sink) = serve(&rt, rt.alloc(), input, 5, 999, 999)?;
-        assert!(rt; served == Ok(end));
-        assert!(rt; sink.as_slice() == text);
-    }
-    Ok(())
-}
-
-#[test]
-fn faults_end_the_connection(rt: HostRuntime) -> Result<(), Fail> {
-    let (read, _) = serve(&rt, rt.alloc(), IDENTITY, 10, 0, 999)?;
-    assert!(rt; read == Err(SessionFault::ReadFault(0)));
-    let (write, sink) = serve(&rt, rt.alloc(), IDENTITY, 10, 999, 0)?;
-    assert!(rt; write == Err(SessionFault::WriteFault(0)) && sink.as_slice().is_empty());
-    Ok(())
-}
-
-#[test]
-fn a_body_at_the_limit_is_read(rt: HostRuntime) -> Result<(), Fail> {
-    let head =
-        b"GET /hub/api/user HTTP/1.1\r\nAuthorization: beARer secret-token-ann\r\nContent-Length: 1048576\r\n\r\n";
-    let mut input = Bytes::from_slice(rt.alloc(), head)?;
-    let spaces = Vec::from_elem(rt.alloc(), b' ', 1_048_576)?;
-    input.push_all(spaces.as_slice())?;
-    let (served, sink) = serve(&rt, rt.alloc(), input.as_slice(), 65_536, 999, 999)?;
-    assert!(rt; served == Ok(Served::Ended(1)));
-    assert!(rt; sink.as_slice() == IDENTITY_REPLY);
-    Ok(())
 }

@@ -1,188 +1,255 @@
-//! Whole sessions of an admin, from their words to the bytes that are written.
-use crate::talk::{ask, refuse, say, user};
+//! Whole sessions, from their words to the status and the bytes that are written, by hand.
+use crate::repeated::repeated;
 use hub_devices::mem_bytes::{MemSink, MemSource};
 use hub_kit::bytes::Bytes;
 use hub_kit::text::Text;
 use hub_main::run::{Outside, run};
 use std::alloc::Global;
+use std::process::Abort;
 use std::sync::Wait;
-use std::test::Fail;
 
-/// Runs `session 1700000000 ann secret-token-ann --admin` over this input, to status 0.
-fn session<W: Wait>(rt: &W, alloc: Global, input: Bytes) -> Result<MemSink, Fail> {
+/// The words, the bytes that stand on the input, and what comes of them.
+struct Session {
+    name: &'static str,
+    words: &'static str,
+    /// The most that one read takes.
+    cut: usize,
+    failing_read: u64,
+    failing_write: u64,
+    input: &'static [u8],
+    /// How many spaces follow on the input.
+    spaces: usize,
+    status: u8,
+    output: &'static [u8],
+}
+
+/// The number of a read or a write that doesn't come.
+const NEVER: u64 = u64::MAX;
+
+/// The hub's clock stands at 1700000000.
+const SESSIONS: [Session; 14] = [
+    Session {
+        name: "an admin gives the own right away",
+        words: "session 1700000000 ann secret-token-ann --admin",
+        cut: 1000,
+        failing_read: NEVER,
+        failing_write: NEVER,
+        input: b"PATCH /hub/api/users/ann HTTP/1.1\r\nAuthorization: token secret-token-ann\r\nContent-Length: 15\r\n\r\n{\"admin\":false}\
+    POST /hub/api/users HTTP/1.1\r\nAuthorization: token secret-token-ann\r\nContent-Length: 21\r\n\r\n{\"usernames\":[\"zed\"]}",
+        spaces: 0,
+        status: 0,
+        output: b"HTTP/1.1 200 OK\r\nContent-Type: application/json\r\nContent-Length: 138\r\nX-Hub-Revision: 1\r\n\r\n{\"admin\":false,\"created\":\"2023-11-14T22:13:20Z\",\"groups\":[],\"kind\":\"user\",\"last_activity\":null,\"name\":\"ann\",\"roles\":[\"user\"],\"servers\":{}}\
+    HTTP/1.1 403 Forbidden\r\nContent-Type: application/json\r\nContent-Length: 44\r\nX-Hub-Revision: 1\r\n\r\n{\"message\":\"needs admin:users\",\"status\":403}",
+    },
+    Session {
+        name: "a role is put and refused",
+        words: "session 1700000000 ann secret-token-ann --admin",
+        cut: 1000,
+        failing_read: NEVER,
+        failing_write: NEVER,
+        input: b"PUT /hub/api/roles/r HTTP/1.1\r\nAuthorization: token secret-token-ann\r\nContent-Length: 25\r\n\r\n{\"scopes\":[\"reed:users\"]}\
+    PUT /hub/api/roles/r HTTP/1.1\r\nAuthorization: token secret-token-ann\r\nContent-Length: 17\r\n\r\n{\"users\":[\"zed\"]}\
+    PUT /hub/api/roles/admin HTTP/1.1\r\nAuthorization: token secret-token-ann\r\nContent-Length: 2\r\n\r\n{}\
+    PUT /hub/api/roles/r HTTP/1.1\r\nAuthorization: token secret-token-ann\r\nContent-Length: 2\r\n\r\n{}\
+    PUT /hub/api/roles/r HTTP/1.1\r\nAuthorization: token secret-token-ann\r\nContent-Length: 2\r\n\r\n{}",
+        spaces: 0,
+        status: 0,
+        output: b"HTTP/1.1 400 Bad Request\r\nContent-Type: application/json\r\nContent-Length: 36\r\n\r\n{\"message\":\"bad scope\",\"status\":400}\
+    HTTP/1.1 400 Bad Request\r\nContent-Type: application/json\r\nContent-Length: 45\r\nX-Hub-Revision: 0\r\n\r\n{\"message\":\"unknown holder zed\",\"status\":400}\
+    HTTP/1.1 400 Bad Request\r\nContent-Type: application/json\r\nContent-Length: 37\r\nX-Hub-Revision: 0\r\n\r\n{\"message\":\"fixed role\",\"status\":400}\
+    HTTP/1.1 201 Created\r\nContent-Type: application/json\r\nContent-Length: 61\r\nX-Hub-Revision: 1\r\n\r\n{\"groups\":[],\"name\":\"r\",\"scopes\":[],\"services\":[],\"users\":[]}\
+    HTTP/1.1 200 OK\r\nContent-Type: application/json\r\nContent-Length: 61\r\nX-Hub-Revision: 1\r\n\r\n{\"groups\":[],\"name\":\"r\",\"scopes\":[],\"services\":[],\"users\":[]}",
+    },
+    Session {
+        name: "what is not allowed here, and what nowhere",
+        words: "session 1700000000 ann secret-token-ann --admin",
+        cut: 1000,
+        failing_read: NEVER,
+        failing_write: NEVER,
+        input: b"POST /hub/api/users/bob HTTP/1.1\r\nAuthorization: token secret-token-ann\r\n\r\n\
+    POST /hub/api/users/cat HTTP/1.1\r\nAuthorization: token secret-token-ann\r\n\r\n\
+    PUT /hub/api/roles/r HTTP/1.1\r\nAuthorization: token secret-token-ann\r\nContent-Length: 50\r\n\r\n{\"scopes\":[\"read:users!user=bob\"],\"users\":[\"ann\"]}\
+    PATCH /hub/api/users/ann HTTP/1.1\r\nAuthorization: token secret-token-ann\r\nContent-Length: 15\r\n\r\n{\"admin\":false}\
+    GET /hub/api/users/cat HTTP/1.1\r\nAuthorization: token secret-token-ann\r\n\r\n\
+    GET /hub/api/groups/a HTTP/1.1\r\nAuthorization: token secret-token-ann\r\n\r\n",
+        spaces: 0,
+        status: 0,
+        output: b"HTTP/1.1 201 Created\r\nContent-Type: application/json\r\nContent-Length: 138\r\nX-Hub-Revision: 1\r\n\r\n{\"admin\":false,\"created\":\"2023-11-14T22:13:20Z\",\"groups\":[],\"kind\":\"user\",\"last_activity\":null,\"name\":\"bob\",\"roles\":[\"user\"],\"servers\":{}}\
+    HTTP/1.1 201 Created\r\nContent-Type: application/json\r\nContent-Length: 138\r\nX-Hub-Revision: 2\r\n\r\n{\"admin\":false,\"created\":\"2023-11-14T22:13:20Z\",\"groups\":[],\"kind\":\"user\",\"last_activity\":null,\"name\":\"cat\",\"roles\":[\"user\"],\"servers\":{}}\
+    HTTP/1.1 201 Created\r\nContent-Type: application/json\r\nContent-Length: 87\r\nX-Hub-Revision: 3\r\n\r\n{\"groups\":[],\"name\":\"r\",\"scopes\":[\"read:users!user=bob\"],\"services\":[],\"users\":[\"ann\"]}\
+    HTTP/1.1 200 OK\r\nContent-Type: application/json\r\nContent-Length: 142\r\nX-Hub-Revision: 4\r\n\r\n{\"admin\":false,\"created\":\"2023-11-14T22:13:20Z\",\"groups\":[],\"kind\":\"user\",\"last_activity\":null,\"name\":\"ann\",\"roles\":[\"r\",\"user\"],\"servers\":{}}\
+    HTTP/1.1 404 Not Found\r\nContent-Type: application/json\r\nContent-Length: 36\r\nX-Hub-Revision: 4\r\n\r\n{\"message\":\"not found\",\"status\":404}\
+    HTTP/1.1 403 Forbidden\r\nContent-Type: application/json\r\nContent-Length: 49\r\nX-Hub-Revision: 4\r\n\r\n{\"message\":\"needs read:groups:name\",\"status\":403}",
+    },
+    Session {
+        name: "a page shows what may be listed",
+        words: "session 1700000000 ann secret-token-ann --admin",
+        cut: 1000,
+        failing_read: NEVER,
+        failing_write: NEVER,
+        input: b"POST /hub/api/users/bob HTTP/1.1\r\nAuthorization: token secret-token-ann\r\n\r\n\
+    POST /hub/api/users/cat HTTP/1.1\r\nAuthorization: token secret-token-ann\r\n\r\n\
+    PUT /hub/api/roles/r HTTP/1.1\r\nAuthorization: token secret-token-ann\r\nContent-Length: 41\r\n\r\n{\"scopes\":[\"list:users\"],\"users\":[\"ann\"]}\
+    PATCH /hub/api/users/ann HTTP/1.1\r\nAuthorization: token secret-token-ann\r\nContent-Length: 15\r\n\r\n{\"admin\":false}\
+    GET /hub/api/users?offset=1&limit=1 HTTP/1.1\r\nAuthorization: token secret-token-ann\r\nAccept: application/jupyterhub-pagination+json\r\n\r\n",
+        spaces: 0,
+        status: 0,
+        output: b"HTTP/1.1 201 Created\r\nContent-Type: application/json\r\nContent-Length: 138\r\nX-Hub-Revision: 1\r\n\r\n{\"admin\":false,\"created\":\"2023-11-14T22:13:20Z\",\"groups\":[],\"kind\":\"user\",\"last_activity\":null,\"name\":\"bob\",\"roles\":[\"user\"],\"servers\":{}}\
+    HTTP/1.1 201 Created\r\nContent-Type: application/json\r\nContent-Length: 138\r\nX-Hub-Revision: 2\r\n\r\n{\"admin\":false,\"created\":\"2023-11-14T22:13:20Z\",\"groups\":[],\"kind\":\"user\",\"last_activity\":null,\"name\":\"cat\",\"roles\":[\"user\"],\"servers\":{}}\
+    HTTP/1.1 201 Created\r\nContent-Type: application/json\r\nContent-Length: 78\r\nX-Hub-Revision: 3\r\n\r\n{\"groups\":[],\"name\":\"r\",\"scopes\":[\"list:users\"],\"services\":[],\"users\":[\"ann\"]}\
+    HTTP/1.1 200 OK\r\nContent-Type: application/json\r\nContent-Length: 142\r\nX-Hub-Revision: 4\r\n\r\n{\"admin\":false,\"created\":\"2023-11-14T22:13:20Z\",\"groups\":[],\"kind\":\"user\",\"last_activity\":null,\"name\":\"ann\",\"roles\":[\"r\",\"user\"],\"servers\":{}}\
+    HTTP/1.1 200 OK\r\nContent-Type: application/json\r\nContent-Length: 157\r\nX-Hub-Revision: 4\r\n\r\n{\"_pagination\":{\"limit\":1,\"next\":{\"limit\":1,\"offset\":2,\"url\":\"/hub/api/users?limit=1&offset=2\"},\"offset\":1,\"total\":3},\"items\":[{\"kind\":\"user\",\"name\":\"bob\"}]}",
+    },
+    Session {
+        name: "two requests in single bytes",
+        words: "session 1700000000 ann secret-token-ann",
+        cut: 1,
+        failing_read: NEVER,
+        failing_write: NEVER,
+        input: b"GET /hub/api/user HTTP/1.1\r\nHost: hub\r\nAuthorization: token secret-token-ann\r\n\r\n\
+    GET /hub/api/user HTTP/1.1\r\nHost: hub\r\nAuthorization: token secret-token-ann\r\n\r\n",
+        spaces: 0,
+        status: 0,
+        output: b"HTTP/1.1 200 OK\r\nContent-Type: application/json\r\nContent-Length: 142\r\nX-Hub-Revision: 0\r\n\r\n{\"admin\":false,\"created\":\"2023-11-14T22:13:20Z\",\"groups\":[],\"kind\":\"user\",\"last_activity\":null,\"name\":\"ann\",\"scopes\":[\"inherit\"],\"servers\":{}}\
+    HTTP/1.1 200 OK\r\nContent-Type: application/json\r\nContent-Length: 142\r\nX-Hub-Revision: 0\r\n\r\n{\"admin\":false,\"created\":\"2023-11-14T22:13:20Z\",\"groups\":[],\"kind\":\"user\",\"last_activity\":null,\"name\":\"ann\",\"scopes\":[\"inherit\"],\"servers\":{}}",
+    },
+    Session {
+        name: "two requests in one piece",
+        words: "session 1700000000 ann secret-token-ann",
+        cut: 10000,
+        failing_read: NEVER,
+        failing_write: NEVER,
+        input: b"GET /hub/api/user HTTP/1.1\r\nHost: hub\r\nAuthorization: token secret-token-ann\r\n\r\n\
+    GET /hub/api/user HTTP/1.1\r\nHost: hub\r\nAuthorization: token secret-token-ann\r\n\r\n",
+        spaces: 0,
+        status: 0,
+        output: b"HTTP/1.1 200 OK\r\nContent-Type: application/json\r\nContent-Length: 142\r\nX-Hub-Revision: 0\r\n\r\n{\"admin\":false,\"created\":\"2023-11-14T22:13:20Z\",\"groups\":[],\"kind\":\"user\",\"last_activity\":null,\"name\":\"ann\",\"scopes\":[\"inherit\"],\"servers\":{}}\
+    HTTP/1.1 200 OK\r\nContent-Type: application/json\r\nContent-Length: 142\r\nX-Hub-Revision: 0\r\n\r\n{\"admin\":false,\"created\":\"2023-11-14T22:13:20Z\",\"groups\":[],\"kind\":\"user\",\"last_activity\":null,\"name\":\"ann\",\"scopes\":[\"inherit\"],\"servers\":{}}",
+    },
+    Session {
+        name: "the last byte is wanting",
+        words: "session 1700000000 ann secret-token-ann",
+        cut: 1,
+        failing_read: NEVER,
+        failing_write: NEVER,
+        input: b"GET /hub/api/user HTTP/1.1\r\nHost: hub\r\nAuthorization: token secret-token-ann\r\n\r",
+        spaces: 0,
+        status: 10,
+        output: b"",
+    },
+    Session {
+        name: "a body at the limit is read",
+        words: "session 1700000000 ann secret-token-ann --admin",
+        cut: 65536,
+        failing_read: NEVER,
+        failing_write: NEVER,
+        input: b"POST /hub/api/users/zed HTTP/1.1\r\nAuthorization: beARer secret-token-ann\r\nContent-Length: 1048576\r\n\r\n",
+        spaces: 1048576,
+        status: 0,
+        output: b"HTTP/1.1 201 Created\r\nContent-Type: application/json\r\nContent-Length: 138\r\nX-Hub-Revision: 1\r\n\r\n{\"admin\":false,\"created\":\"2023-11-14T22:13:20Z\",\"groups\":[],\"kind\":\"user\",\"last_activity\":null,\"name\":\"zed\",\"roles\":[\"user\"],\"servers\":{}}",
+    },
+    Session {
+        name: "no moment",
+        words: "session x ann secret-token-ann",
+        cut: 1000,
+        failing_read: NEVER,
+        failing_write: NEVER,
+        input: b"GET /hub/api/user HTTP/1.1\r\nHost: hub\r\nAuthorization: token secret-token-ann\r\n\r\n",
+        spaces: 0,
+        status: 2,
+        output: b"",
+    },
+    Session {
+        name: "no words",
+        words: "",
+        cut: 10,
+        failing_read: NEVER,
+        failing_write: NEVER,
+        input: b"GET /hub/api/user HTTP/1.1\r\nHost: hub\r\nAuthorization: token secret-token-ann\r\n\r\n",
+        spaces: 0,
+        status: 2,
+        output: b"",
+    },
+    Session {
+        name: "an option that no session has yet",
+        words: "session 1700000000 ann secret-token-ann --config f",
+        cut: 10,
+        failing_read: NEVER,
+        failing_write: NEVER,
+        input: b"GET /hub/api/user HTTP/1.1\r\nHost: hub\r\nAuthorization: token secret-token-ann\r\n\r\n",
+        spaces: 0,
+        status: 2,
+        output: b"",
+    },
+    Session {
+        name: "help is not given",
+        words: "session 1700000000 ann secret-token-ann --help",
+        cut: 10,
+        failing_read: NEVER,
+        failing_write: NEVER,
+        input: b"GET /hub/api/user HTTP/1.1\r\nHost: hub\r\nAuthorization: token secret-token-ann\r\n\r\n",
+        spaces: 0,
+        status: 2,
+        output: b"",
+    },
+    Session {
+        name: "the first read fails",
+        words: "session 1700000000 ann secret-token-ann",
+        cut: 10,
+        failing_read: 0,
+        failing_write: NEVER,
+        input: b"GET /hub/api/user HTTP/1.1\r\nHost: hub\r\nAuthorization: token secret-token-ann\r\n\r\n",
+        spaces: 0,
+        status: 5,
+        output: b"",
+    },
+    Session {
+        name: "the first write fails",
+        words: "session 1700000000 ann secret-token-ann",
+        cut: 10,
+        failing_read: NEVER,
+        failing_write: 0,
+        input: b"GET /hub/api/user HTTP/1.1\r\nHost: hub\r\nAuthorization: token secret-token-ann\r\n\r\n",
+        spaces: 0,
+        status: 6,
+        output: b"",
+    },
+];
+
+fn words_of(rt: &impl Abort, alloc: Global, line: &str) -> Vec<Text> {
     let mut words = Vec::new(alloc);
-    for word in [
-        "session",
-        "1700000000",
-        "ann",
-        "secret-token-ann",
-        "--admin",
-    ] {
-        words.push(Text::from_str(alloc, word)?)?;
+    for word in line.split(' ') {
+        let word = Text::from_str(alloc, word).expect(rt, "there is memory");
+        words.push(word).expect(rt, "there is memory");
     }
-    let mut outside = Outside {
-        input: MemSource::new(input, 1000, Vec::new(alloc)),
-        output: MemSink::new(alloc, Vec::new(alloc)),
-    };
-    if run(rt, alloc, words.as_slice(), &mut outside) == 0 {
-        Ok(outside.output)
-    } else {
-        Err("another status".into())
+    words
+}
+
+fn outside(rt: &impl Abort, alloc: Global, session: &Session) -> Outside<MemSource, MemSink> {
+    let mut input = Bytes::from_slice(alloc, session.input).expect(rt, "there is memory");
+    let spaces = repeated(rt, alloc, b" ", session.spaces);
+    input
+        .push_all(spaces.as_slice())
+        .expect(rt, "there is memory");
+    let reads = Vec::from_slice(alloc, &[session.failing_read]);
+    let writes = Vec::from_slice(alloc, &[session.failing_write]);
+    Outside {
+        input: MemSource::new(input, session.cut, reads.expect(rt, "there is memory")),
+        output: MemSink::new(alloc, writes.expect(rt, "there is memory")),
     }
 }
 
-#[test]
-fn an_admin_gives_the_own_right_away(rt: HostRuntime) -> Result<(), Fail> {
-    let alloc = rt.alloc();
-    let mut input = Bytes::new(alloc);
-    ask(
-        alloc,
-        &mut input,
-        "PATCH /hub/api/users/ann",
-        "{\"admin\":false}",
-    )?;
-    ask(
-        alloc,
-        &mut input,
-        "POST /hub/api/users",
-        "{\"usernames\":[\"zed\"]}",
-    )?;
-    let mut replies = Bytes::new(alloc);
-    let ann = user(alloc, "ann", false, "\"user\"")?;
-    say(alloc, &mut replies, "200 OK", "1", ann.as_str())?;
-    refuse(
-        alloc,
-        &mut replies,
-        "403 Forbidden",
-        "1",
-        "needs admin:users",
-    )?;
-    let sink = session(&rt, alloc, input)?;
-    assert!(rt; sink.as_slice() == replies.as_slice());
-    Ok(())
-}
-
-const NO_ROLE: &str = "{\"groups\":[],\"name\":\"r\",\"scopes\":[],\"services\":[],\"users\":[]}";
-
-#[test]
-fn a_role_is_put_and_refused(rt: HostRuntime) -> Result<(), Fail> {
-    let alloc = rt.alloc();
-    let mut input = Bytes::new(alloc);
-    ask(
-        alloc,
-        &mut input,
-        "PUT /hub/api/roles/r",
-        "{\"scopes\":[\"reed:users\"]}",
-    )?;
-    ask(
-        alloc,
-        &mut input,
-        "PUT /hub/api/roles/r",
-        "{\"users\":[\"zed\"]}",
-    )?;
-    ask(alloc, &mut input, "PUT /hub/api/roles/admin", "{}")?;
-    ask(alloc, &mut input, "PUT /hub/api/roles/r", "{}")?;
-    ask(alloc, &mut input, "PUT /hub/api/roles/r", "{}")?;
-    let mut replies = Bytes::new(alloc);
-    refuse(alloc, &mut replies, "400 Bad Request", "", "bad scope")?;
-    refuse(
-        alloc,
-        &mut replies,
-        "400 Bad Request",
-        "0",
-        "unknown holder zed",
-    )?;
-    refuse(alloc, &mut replies, "400 Bad Request", "0", "fixed role")?;
-    say(alloc, &mut replies, "201 Created", "1", NO_ROLE)?;
-    say(alloc, &mut replies, "200 OK", "1", NO_ROLE)?;
-    let sink = session(&rt, alloc, input)?;
-    assert!(rt; sink.as_slice() == replies.as_slice());
-    Ok(())
-}
-
-/// ann makes bob and cat, gives herself a role, and is no admin any more.
-fn with_role(alloc: Global, input: &mut Bytes, scope: &str) -> Result<(), Fail> {
-    let role = format!(in alloc; "{{\"scopes\":[\"{scope}\"],\"users\":[\"ann\"]}}")?;
-    ask(alloc, input, "POST /hub/api/users/bob", "")?;
-    ask(alloc, input, "POST /hub/api/users/cat", "")?;
-    ask(alloc, input, "PUT /hub/api/roles/r", role.as_str())?;
-    ask(
-        alloc,
-        input,
-        "PATCH /hub/api/users/ann",
-        "{\"admin\":false}",
-    )?;
-    Ok(())
-}
-
-/// What is answered to that.
-fn say_role(alloc: Global, replies: &mut Bytes, scope: &str) -> Result<(), Fail> {
-    let role = format!(in alloc;
-        "{{\"groups\":[],\"name\":\"r\",\"scopes\":[\"{scope}\"],\"services\":[],\"users\":[\"ann\"]}}"
-    )?;
-    say(
-        alloc,
-        replies,
-        "201 Created",
-        "1",
-        user(alloc, "bob", false, "\"user\"")?.as_str(),
-    )?;
-    say(
-        alloc,
-        replies,
-        "201 Created",
-        "2",
-        user(alloc, "cat", false, "\"user\"")?.as_str(),
-    )?;
-    say(alloc, replies, "201 Created", "3", role.as_str())?;
-    say(
-        alloc,
-        replies,
-        "200 OK",
-        "4",
-        user(alloc, "ann", false, "\"r\",\"user\"")?.as_str(),
-    )?;
-    Ok(())
+/// Whether the session ends with its status, and has written its output.
+fn ends_so<R: Abort + Wait>(rt: &R, alloc: Global, session: &Session) -> bool {
+    let words = words_of(rt, alloc, session.words);
+    let mut outside = outside(rt, alloc, session);
+    let status = run(rt, alloc, words.as_slice(), &mut outside);
+    (status == session.status) & (outside.output.as_slice() == session.output)
 }
 
 #[test]
-fn what_is_not_allowed_here_and_what_nowhere(rt: HostRuntime) -> Result<(), Fail> {
-    let alloc = rt.alloc();
-    let mut input = Bytes::new(alloc);
-    with_role(alloc, &mut input, "read:users!user=bob")?;
-    ask(alloc, &mut input, "GET /hub/api/users/cat", "")?;
-    ask(alloc, &mut input, "GET /hub/api/groups/a", "")?;
-    let mut replies = Bytes::new(alloc);
-    say_role(alloc, &mut replies, "read:users!user=bob")?;
-    refuse(alloc, &mut replies, "404 Not Found", "4", "not found")?;
-    refuse(
-        alloc,
-        &mut replies,
-        "403 Forbidden",
-        "4",
-        "needs read:groups:name",
-    )?;
-    let sink = session(&rt, alloc, input)?;
-    assert!(rt; sink.as_slice() == replies.as_slice());
-    Ok(())
-}
-
-#[test]
-fn a_page_shows_what_may_be_listed(rt: HostRuntime) -> Result<(), Fail> {
-    let alloc = rt.alloc();
-    let mut input = Bytes::new(alloc);
-    with_role(alloc, &mut input, "list:users")?;
-    ask(alloc, &mut input, "GET /hub/api/users?offset=1&limit=1", "")?;
-    let mut replies = Bytes::new(alloc);
-    say_role(alloc, &mut replies, "list:users")?;
-    say(
-        alloc,
-        &mut replies,
-        "200 OK",
-        "4",
-        "{\"_pagination\":{\"limit\":1,\"next\":{\"limit\":1,\"offset\":2,\"url\":\"/hub/api/users?limit=1&offset=2\"},\"offset\":1,\"total\":3},\"items\":[{\"kind\":\"user\",\"name\":\"bob\"}]}",
-    )?;
-    let sink = session(&rt, alloc, input)?;
-    assert!(rt; sink.as_slice() == replies.as_slice());
-    Ok(())
+fn sessions(rt: HostRuntime) {
+    for session in &SESSIONS {
+        assert!(rt; ends_so(&rt, rt.alloc(), session), "{}", session.name);
+    }
 }

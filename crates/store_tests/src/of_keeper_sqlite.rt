@@ -1,4 +1,4 @@
-//! What is committed is loaded in order, and a store with another number is refused: no clause says what a text of SQL means.
+//! That a keeper over a database succeeds where there is memory, finds the stores of this program, and refuses those of another number.
 use hub_kit::list::List;
 use hub_kit::text::Text;
 use keeper::keeper::{Batch, Item, Keeper, KeeperError, Row};
@@ -18,7 +18,13 @@ const SCRIPT: [(u8, &str, Option<&str>); 8] = [
     (2, "nobody", None),
 ];
 
-const ROWS: &str = "1  an empty key\n1 Zed é\n1 zed new\n10 a ten\n";
+/// What is then kept, in order.
+const ROWS: [(u8, &str, &str); 4] = [
+    (1, "", "an empty key"),
+    (1, "Zed", "é"),
+    (1, "zed", "new"),
+    (10, "a", "ten"),
+];
 
 fn item_of(alloc: Global, kind: u8, key: &str, text: Option<&str>) -> Result<Item, AllocError> {
     let key = Text::from_str(alloc, key)?;
@@ -40,14 +46,11 @@ fn script(alloc: Global) -> Result<Batch, AllocError> {
     Ok(batch)
 }
 
-/// The rows, a line for each.
-fn listing(alloc: Global, rows: &[Row]) -> Result<String, AllocError> {
-    let mut listing = String::new(alloc);
-    for row in rows {
-        let line = format!(in alloc; "{} {} {}\n", row.kind, row.key.as_str(), row.text.as_str())?;
-        listing.push_str(line.as_str())?;
-    }
-    Ok(listing)
+fn are_rows(rows: &[Row]) -> bool {
+    rows.len() == ROWS.len()
+        && rows.iter().zip(ROWS).all(|(row, (kind, key, text))| {
+            row.kind == kind && row.key.as_str() == key && row.text.as_str() == text
+        })
 }
 
 /// A keeper over what another one in memory left, after the statement was run there.
@@ -70,8 +73,7 @@ fn a_batch_of_puts_and_deletes(rt: HostRuntime) {
     keeper.commit(&batch).expect(&rt, "a first commit");
     keeper.commit(&batch).expect(&rt, "a second commit");
     let rows = keeper.load().expect(&rt, "a load");
-    let listing = listing(rt.alloc(), &rows).expect(&rt, "memory");
-    assert_eq!(rt; listing.as_str(), ROWS);
+    assert!(rt; are_rows(&rows));
 }
 
 #[test]
@@ -88,4 +90,21 @@ fn a_store_with_another_number(rt: HostRuntime) {
     let mut keeper = run_below(rt.alloc(), keeper, third).expect(&rt, "another form");
     assert!(rt; keeper.load().err() == Some(KeeperError::Failed));
     assert!(rt; keeper.commit(&batch).err() == Some(KeeperError::Failed));
+}
+
+#[test]
+fn a_store_is_resumed(rt: HostRuntime) {
+    let batch = script(rt.alloc()).expect(&rt, "memory");
+    let mut keeper = SqliteKeeper::in_memory(rt.alloc()).expect(&rt, "memory");
+    assert!(rt; keeper.is_own());
+    keeper.commit(&batch).expect(&rt, "a commit");
+    let mut again = SqliteKeeper::resume(rt.alloc(), keeper.into_connection());
+    assert!(rt; again.is_own());
+    let rows = again.load().expect(&rt, "a load");
+    assert!(rt; are_rows(&rows));
+    let other = "INSERT INTO row (kind, key, text) VALUES (-1, 'x', 'y')";
+    let other = run_below(rt.alloc(), again, other).expect(&rt, "a row of another kind");
+    assert!(rt; !other.is_own());
+    let other = SqliteKeeper::resume(rt.alloc(), other.into_connection());
+    assert!(rt; !other.is_own());
 }

@@ -4,6 +4,7 @@ ghost use Rattle.hub_devices.specs.Faults.{Rises};
 ghost use Rattle.keeper.specs.Costs.{batch_cost};
 ghost use Rattle.hub_machine.specs.Apply.{is_past_trail};
 ghost use Rattle.hub_machine.specs.Carry.{Entered, Kept, IsPlain};
+ghost use Rattle.hub_machine.specs.KeptRows.{Keeps};
 ghost use Rattle.hub_machine.specs.State.{owed};
 
 use crate::batch::{batch_of, items_cost};
@@ -42,6 +43,7 @@ impl Machine {
         ensures entered { Entered change result self.old self.new (T.told trail.old) (T.told trail.new) (T.long trail.old) (T.long trail.new) }
         ensures told { K.Tells keeper.new → K.Tells keeper.old }
         ensures kept { K.Tells keeper.new → Kept change result (K.rows keeper.old) (K.rows keeper.new) }
+        ensures keeps { K.Tells keeper.new → Keeps (K.rows keeper.old) self.old.tables → Keeps (K.rows keeper.new) self.new.tables }
         ensures room_ok { OnOk result (owed self.new.lives ≤ T.spare trail.new) }
         ensures room_err { OnErr result (T.spare trail.old ≤ T.spare trail.new) }
         ensures counted { K.faults keeper.old ≤ K.faults keeper.new }

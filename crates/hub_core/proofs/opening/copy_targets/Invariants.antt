@@ -1,4 +1,4 @@
-use Rattle.std.proofs.Common.{◌≡◌, drop, take}
+use Rattle.std.proofs.Common.{◌≡◌, take}
 use Rattle.hub_core.specs.Opening as spec
 use Rattle.hub_core.proofs.opening.copy_targets.Given as goal
 

@@ -9,8 +9,8 @@ use Rattle.hub_run.proofs.answering.answer.Goals as goal
 pub returns-in-Ok-clause-answers : goal.returns-in-Ok-clause-answers
 returns-in-Ok-clause-answers g c = λ start base text is.
     let visit = c.ask-outcome.ensures.answers start base in
-    made_visited start _ _ c.args.request text c.in-Ok.asked visit.0 visit.1 visit.2 c.ask-outcome.result c.args.last _ _
-    is c.in-Ok.ensures visit.3 visit.4
+    made_visited start _ _ c.args.request text c.in-Ok.asked visit.0 c.ask-outcome.result c.args.last _ _
+    is c.in-Ok.ensures visit.1 visit.2
     (subst (λ (close : Bool). SaysOutcome c.ask-outcome.result close (written_bytes c.text_of_outcome.result.0) c.text_of_outcome.result.1)
     c.closes_after-close.ensures.value c.text_of_outcome.ensures.says)
 

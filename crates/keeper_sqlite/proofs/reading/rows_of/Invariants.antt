@@ -1,5 +1,5 @@
 use Rattle.std.proofs.Common.{◌≡◌, map, take}
-use Rattle.keeper_sqlite.specs.Shown.{shown, front}
+use Rattle.row_table.specs.Shown.{shown, front}
 use Rattle.keeper_sqlite.proofs.reading.rows_of.Given as goal
 
 abbrev pub invariant-loop-row : goal.invariant-loop-row

@@ -2,7 +2,8 @@ use Rattle.std.proofs.Common.{◌∙◌, Ok, arith, sym, take}
 use Rattle.std.proofs.lemmas.List.{take_more}
 use Rattle.sqlite.specs.Held.{state}
 use Rattle.sqlite.proofs.InsideLemmas.{keeps_then}
-use Rattle.keeper_sqlite.proofs.Inside.{runs_keep, done_more}
+use Rattle.row_table.proofs.Inside.{runs_keep}
+use Rattle.keeper_sqlite.proofs.Inside.{done_more}
 use Rattle.keeper_sqlite.proofs.store.do_items.Goals as goal
 
 pub loop-item-preserved : goal.loop-item-preserved

@@ -1,4 +1,5 @@
-use Rattle.std.proofs.Common.{◌∙◌, ap, ◌≡◌}
+use Rattle.std.proofs.Common.{◌∙◌, ap, ◌≡◌, sym, subst}
+use Rattle.hub_machine.specs.KeptRows.{Keeps}
 use Rattle.hub_machine.specs.State.{Hub}
 use Rattle.hub_core.proofs.Looking.{current_empty}
 use Rattle.hub_core.proofs.Opened.{owed_spare}
@@ -11,4 +12,5 @@ invariant_of-result g c = (
       c.of-start.ensures (ap (λ (hub : Hub). hub.length) c.in-Ok-open_machine.ensures.ok.hub) c.requires.empty (g.met.T.Trail.counted c.args.trail),
   current_empty c.in-Ok.rights c.in-Ok-open_machine.machine 1024 c.in-Ok.ensures,
   owed_spare c.in-Ok-open_machine.machine.lives (g.T.Trail.spare c.args.trail) (ap (λ (hub : Hub). hub.lives) c.in-Ok-open_machine.ensures.ok.hub),
+  λ tells. subst (λ (hub : Hub). Keeps (g.K.Keeper.rows c.open_machine.new.keeper) hub.tables) (sym c.in-Ok-open_machine.ensures.ok.hub) (c.in-Ok-open_machine.ensures.keeps tells),
 )

@@ -20,6 +20,7 @@ invariant_of-self-in_err-reply g c = (
       c.self.inside.machine c.carry.new.machine (g.T.Trail.told c.self.inside.trail) (g.T.Trail.told c.carry.new.trail)
       (g.T.Trail.long c.self.inside.trail) (g.T.Trail.long c.carry.new.trail) c.carry.ensures.carried c.decide.ensures.current,
   c.carry.ensures.spare c.self.invariant.2,
+  c.carry.ensures.keeps c.self.invariant.3,
 )
 
 pub invariant_of-self-2 : goal.invariant_of-self-2
@@ -31,6 +32,7 @@ invariant_of-self-2 g c = (
       c.self.inside.machine c.carry.new.machine (g.T.Trail.told c.self.inside.trail) (g.T.Trail.told c.carry.new.trail)
       (g.T.Trail.long c.self.inside.trail) (g.T.Trail.long c.carry.new.trail) c.carry.ensures.carried c.decide.ensures.current,
   c.carry.ensures.spare c.self.invariant.2,
+  c.carry.ensures.keeps c.self.invariant.3,
 )
 
 pub returns-clause-followed : goal.returns-clause-followed
@@ -43,7 +45,7 @@ pub returns-clause-placed : goal.returns-clause-placed
 returns-clause-placed g c =
     let P : Standing → Type 0 = λ b.
     AnsweredAt b.start (entries_of b) (listed (g.T.Trail.told c.carry.new.trail) c.carry.new.machine.length) c.args.now c.args.draw c.args.asked.now (given.Answer c.in_ok-reply.reply)
-    ⊎ FaultedAt b.start (entries_of b) (listed (g.T.Trail.told c.carry.new.trail) c.carry.new.machine.length) c.args.now c.args.draw c.args.asked.now (given.Answer c.in_ok-reply.reply) in
+    ⊎ FaultedAt b.start (entries_of b) (listed (g.T.Trail.told c.carry.new.trail) c.carry.new.machine.length) b.faults (g.K.Keeper.faults c.carry.new.keeper) c.args.now c.args.draw c.args.asked.now (given.Answer c.in_ok-reply.reply) in
     let tied =
     tied_after_carry c.self.inside.start.value c.self.inside.machine c.carry.new.machine (g.T.Trail.told c.self.inside.trail) (g.T.Trail.told c.carry.new.trail)
     (g.T.Trail.long c.self.inside.trail) (g.T.Trail.long c.carry.new.trail) c.args.now c.args.draw c.args.asked.now (answer_view c.in_ok-answer.answer) c.carry.result

@@ -1,8 +1,31 @@
-use Rattle.std.proofs.Common.{rules, ◌≡◌, ◌+◌, sym, subst}
+use Rattle.std.proofs.Common.{rules, ◌≡◌, ◌+◌, sym, ◌∙◌, subst}
 use Rattle.hub_machine.specs.Apply.{apply}
+use Rattle.hub_machine.specs.KeptRows.{Keeps}
 use Rattle.hub_machine.specs.State.{Hub, IsBounded}
 use Rattle.hub_machine.proofs.Bounds.{bounded_after}
+use Rattle.hub_machine.proofs.KeptChanges.{entered_kept}
 use Rattle.hub_machine.proofs.machine.Machine.enter.Goals as goal
+
+pub returns-in_err-carry_out-clause-keeps : goal.returns-in_err-carry_out-clause-keeps
+returns-in_err-carry_out-clause-keeps g c = λ tells h.
+    let before = g.K.Keeper.rows c.args.keeper.now in
+    entered_kept c.as_slice-3.result.now c.as_slice.result.now c.in_ok-batch.batch c.carry_out.result before (g.K.Keeper.rows c.carry_out.new.keeper) c.self.inside.tables c.carry_out.new.tables
+    (c.as_slice.ensures ∙ sym c.as_slice-3.ensures) c.in_ok-batch.ensures.batch c.in_ok-batch.ensures.puts c.in_ok-batch.ensures.removals c.carry_out.ensures.done (c.carry_out.ensures.kept tells)
+    (subst (λ (s : Hub). Keeps before s.tables) (sym c.self.view_is) h)
+
+pub returns-then-not-branch-clause-keeps : goal.returns-then-not-branch-clause-keeps
+returns-then-not-branch-clause-keeps g c = λ tells h.
+    let before = g.K.Keeper.rows c.args.keeper.now in
+    entered_kept c.as_slice-3.result.now c.as_slice.result.now c.in_ok-batch.batch c.carry_out.result before (g.K.Keeper.rows c.carry_out.new.keeper) c.self.inside.tables c.carry_out.new.tables
+    (c.as_slice.ensures ∙ sym c.as_slice-3.ensures) c.in_ok-batch.ensures.batch c.in_ok-batch.ensures.puts c.in_ok-batch.ensures.removals c.carry_out.ensures.done (c.carry_out.ensures.kept tells)
+    (subst (λ (s : Hub). Keeps before s.tables) (sym c.self.view_is) h)
+
+pub returns-clause-keeps : goal.returns-clause-keeps
+returns-clause-keeps g c = λ tells h.
+    let before = g.K.Keeper.rows c.args.keeper.now in
+    entered_kept c.as_slice-3.result.now c.as_slice.result.now c.in_ok-batch.batch c.carry_out.result before (g.K.Keeper.rows c.carry_out.new.keeper) c.self.inside.tables c.carry_out.new.tables
+    (c.as_slice.ensures ∙ sym c.as_slice-3.ensures) c.in_ok-batch.ensures.batch c.in_ok-batch.ensures.puts c.in_ok-batch.ensures.removals c.carry_out.ensures.done (c.carry_out.ensures.kept tells)
+    (subst (λ (s : Hub). Keeps before s.tables) (sym c.self.view_is) h)
 
 pub invariant_of-self-2 : goal.invariant_of-self-2
 invariant_of-self-2 g c =

@@ -1,0 +1,30 @@
+-- What is known of a store that may be one's own: each conclusion here has one proof at most.
+use Rattle.std.proofs.Common.{List, Bool, IsTrue}
+use Rattle.std.proofs.Math.Logic.{∥∥₁_elim, ∥∥₁_map}
+use Rattle.std.specs.Coded.{Coded-set, coded_ℕ, coded_list, coded_option, coded_bool, ×_prop, Π_prop}
+use Rattle.std.specs.List.Sorted.{IsStrictlySortedBy-prop}
+use Rattle.keeper.specs.Rows.{Rows, AreSame, Lists, row_cmp}
+use Rattle.keeper.specs.declared.keeper.Row.{Row as Kept}
+
+AreSame-prop : (a b : Rows) → IsProp (AreSame a b)
+AreSame-prop a b = Π_prop (λ kind. Π_prop (λ key. Coded-set (coded_option (coded_list coded_ℕ)) (a kind key) (b kind key)))
+
+Lists-prop : (rows : Rows) (all : List Kept) → IsProp (Lists rows all)
+Lists-prop rows all a b i = record {
+  in_order = IsStrictlySortedBy-prop row_cmp all a.in_order b.in_order i;
+  same = AreSame-prop _ rows a.same b.same i;
+}
+
+-- what follows of a store of one's own, which this one is
+module _ {P : Type 0} {own : Bool} (owned : ∥ (IsTrue own → P) ∥₁) (is_own : IsTrue own) where
+  pub lists_known : (rows : Rows) (all : List Kept) → (P → Lists rows all) → Lists rows all
+  lists_known rows all h = ∥∥₁_elim owned (Lists-prop rows all) (λ known. h (known is_own))
+
+  pub rows_known : (a b : Rows) → (P → AreSame a b) → AreSame a b
+  rows_known a b h = ∥∥₁_elim owned (AreSame-prop a b) (λ known. h (known is_own))
+
+  pub stands_known : (open_before : Bool) (a b : Rows) → (P → IsTrue open_before × AreSame a b) → IsTrue open_before × AreSame a b
+  stands_known open_before a b h = ∥∥₁_elim owned (×_prop (Coded-set coded_bool _ _) (AreSame-prop a b)) (λ known. h (known is_own))
+
+pub owned_then : {P Q : Type 0} {own : Bool} → (P → Q) → ∥ (IsTrue own → P) ∥₁ → ∥ (IsTrue own → Q) ∥₁
+owned_then h owned = ∥∥₁_map owned (λ known own. h (known own))

@@ -1,0 +1,37 @@
+use Rattle.std.proofs.Common.{◌≡◌, IsTrue, arith, sym, subst}
+use Rattle.keeper.specs.Rows.{AreSame}
+use Rattle.sqlite.specs.Held.{state}
+use Rattle.sqlite.specs.State.{HasCleanDisk}
+use Rattle.keeper_sqlite.specs.Own.{told_rows}
+use Rattle.keeper_sqlite.proofs.Props.{lists_known, stands_known, owned_then}
+use Rattle.keeper_sqlite.proofs.Told.{loaded_owned, same_told}
+use Rattle.keeper_sqlite.proofs.sqlite_keeper.SqliteKeeperKeeper.load.Goals as goal
+
+pub invariant_of-self : goal.invariant_of-self
+invariant_of-self g c = record {
+  owned = owned_then
+      (λ own. loaded_owned g.S.Store c.args.self.now.connection c.load_rows.new.conn own c.load_rows.ensures.ended c.load_rows.ensures.clean (λ clean. c.load_rows.ensures.stands clean own))
+      c.args.self.now.owned;
+}
+
+pub returns-in-Ok-clause-listed : goal.returns-in-Ok-clause-listed
+returns-in-Ok-clause-listed g c told =
+    lists_known c.args.self.now.owned told.2 (told_rows g.S.Store c.args.self.now.connection) c.in-Ok.rows.items (λ own. c.in-Ok.ensures.listed told.0 told.1 own)
+
+pub returns-in-Ok-clause-kept : goal.returns-in-Ok-clause-kept
+returns-in-Ok-clause-kept g c told =
+    let all = stands_known c.args.self.now.owned told.2 (state g.S.Store c.args.self.now.connection).is_open (told_rows g.S.Store c.load_rows.new.conn) (told_rows g.S.Store c.args.self.now.connection)
+    (λ own. let s = c.load_rows.ensures.stands told.0 own told.1 in (s.0, same_told g.S.Store c.args.self.now.connection c.load_rows.new.conn s.1)) in
+    ((omega (arith, c.load_rows.ensures.clean, told.0), all.0, told.2), all.1)
+
+pub returns-in-Err-clause-kept : goal.returns-in-Err-clause-kept
+returns-in-Err-clause-kept g c told =
+    let conn : c.refused.new.self.connection ≡ c.load_rows.new.conn = c.refused.ensures.same.0 in
+    let clean : HasCleanDisk (state g.S.Store c.load_rows.new.conn) = subst (λ h. HasCleanDisk (state g.S.Store h)) conn told.0 in
+    let open_now : IsTrue (state g.S.Store c.load_rows.new.conn).is_open = subst (λ h. IsTrue (state g.S.Store h).is_open) conn told.1 in
+    let is_own : IsTrue c.args.self.now.is_own = subst IsTrue c.refused.ensures.same.1 told.2 in
+    let all = stands_known c.args.self.now.owned is_own (state g.S.Store c.args.self.now.connection).is_open (told_rows g.S.Store c.load_rows.new.conn) (told_rows g.S.Store c.args.self.now.connection)
+    (λ own. let s = c.load_rows.ensures.stands clean own open_now in (s.0, same_told g.S.Store c.args.self.now.connection c.load_rows.new.conn s.1)) in (
+      (omega (arith, c.load_rows.ensures.clean, clean), all.0, is_own),
+      subst (λ h. AreSame (told_rows g.S.Store h) (told_rows g.S.Store c.args.self.now.connection)) (sym conn) all.1,
+    )

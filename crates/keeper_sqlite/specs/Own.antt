@@ -1,0 +1,40 @@
+-- A store that this keeper made: which rows are in it.
+use Rattle.std.specs.Prelude.{◌≡◌, ◌⊎◌, false, Bool, IsTrue, List, [], ◌∷◌}
+use Rattle.keeper.specs.Rows.{Rows, no_rows}
+use Rattle.sqlite.specs.Effect.{Database}
+use Rattle.sqlite.specs.Held.{Held, state}
+use Rattle.sqlite.specs.Order.{Row}
+use Rattle.sqlite.specs.State.{HasCleanDisk}
+use Rattle.sqlite.specs.Store.{Ghosts}
+use Rattle.sqlite.specs.Table.{Table}
+use Rattle.row_table.specs.Stored.{rows_of, IsRowStore}
+use Rattle.row_table.specs.Tables.{no_schema}
+
+-- it is empty, or has the two tables and the rows of the hub
+abbrev pub IsOwnStore : Database → Type 0
+IsOwnStore db = (db.schema ≡ no_schema) ⊎ IsRowStore db
+
+abbrev pub rows_under : List Table → List Row → Rows
+rows_under [] tree = no_rows
+rows_under (t ∷ ts) tree = rows_of tree
+
+-- the rows of table row, where there are tables
+abbrev pub rows_in : Database → Rows
+rows_in db = rows_under db.schema.tables (db.trees 0)
+
+module _ {S : Type 0} (g : Ghosts S) where
+  -- the connection is in no transaction, and to such a store unless it is shut
+  pub record IsOwned (h : Held S) : Type 0 where
+    pub autocommit : h.in_transaction ≡ false
+    pub store : HasCleanDisk (state g h) → IsTrue (state g h).is_open → IsOwnStore (state g h).now
+
+  -- the rows are told while the connection is open and the disk has given back what was written
+  abbrev pub IsTold : Held S → Bool → Type 0
+  IsTold h is_own = HasCleanDisk (state g h) × IsTrue (state g h).is_open × IsTrue is_own
+
+  abbrev pub told_rows : Held S → Rows
+  told_rows h = rows_in (state g h).now
+
+  -- the store is as it was, unless it is shut
+  abbrev pub Stands : Held S → Held S → Type 0
+  Stands old new = IsTrue (state g new).is_open → IsTrue (state g old).is_open × ((state g new).now ≡ (state g old).now)

@@ -1,0 +1,37 @@
+use Rattle.std.proofs.Common.{◌≡◌, sym, subst, ◌∙◌}
+use Rattle.std.proofs.lemmas.Result.{IfOk-weaker}
+use Rattle.sqlite.specs.Given.{IsPlain}
+use Rattle.sqlite.specs.Held.{state}
+use Rattle.sqlite.specs.Listing.{understood}
+use Rattle.row_table.specs.Ours.{AreOurs}
+use Rattle.row_table.specs.Stored.{IsRowStore}
+use Rattle.row_table.specs.Tables.{store_schema}
+use Rattle.row_table.specs.Texts.{all_text}
+use Rattle.row_table.proofs.Found.{known_store}
+use Rattle.row_table.proofs.Upsert.{all_plain}
+use Rattle.row_table.proofs.known.has_row_store.Goals as goal
+
+pub returns-in_err-all-clause-stands : goal.returns-in_err-all-clause-stands
+returns-in_err-all-clause-stands g c clean open_now =
+    let old = state g.S.Store c.args.conn.now in
+    let schema : old.now.schema ≡ store_schema = sym c.schema.ensures.value ∙ c.is_store_schema.ensures c.if-not-is_store_schema.false in
+    let left = c.select_all.ensures.left clean open_now in
+    (left.0, (left.1 (subst (λ s. IsPlain (understood s all_text)) (sym schema) all_plain) (c.is_autocommit.ensures.settled c.if-not-is_autocommit.false left.0)).0)
+
+pub returns-clause-stands : goal.returns-clause-stands
+returns-clause-stands g c clean open_now =
+    let old = state g.S.Store c.args.conn.now in
+    let schema : old.now.schema ≡ store_schema = sym c.schema.ensures.value ∙ c.is_store_schema.ensures c.if-not-is_store_schema.false in
+    let left = c.select_all.ensures.left clean open_now in
+    (left.0, (left.1 (subst (λ s. IsPlain (understood s all_text)) (sym schema) all_plain) (c.is_autocommit.ensures.settled c.if-not-is_autocommit.false left.0)).0)
+
+pub returns-clause-known : goal.returns-clause-known
+returns-clause-known g c clean open_now =
+    let old = state g.S.Store c.args.conn.now in
+    let schema : old.now.schema ≡ store_schema = sym c.schema.ensures.value ∙ c.is_store_schema.ensures c.if-not-is_store_schema.false in
+    let left = c.select_all.ensures.left clean open_now in
+    let same = left.1 (subst (λ s. IsPlain (understood s all_text)) (sym schema) all_plain) (c.is_autocommit.ensures.settled c.if-not-is_autocommit.false left.0) in
+    IfOk-weaker c.are_ours.result _ _
+    (λ known found is. subst IsRowStore (sym same.0)
+    (known_store old.now schema (c.schema.ensures.live left.0).0 c.in_ok-all.all.items (c.in_ok-all.ensures.whole clean schema) (subst AreOurs c.as_slice.ensures.value (found is))))
+    c.are_ours.ensures

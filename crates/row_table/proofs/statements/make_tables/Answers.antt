@@ -1,0 +1,15 @@
+use Rattle.row_table.proofs.Inside.{goes_on, all_ran}
+use Rattle.row_table.proofs.Made.{made_inside}
+use Rattle.row_table.proofs.statements.make_tables.Goals as goal
+
+pub returns-clause-clean : goal.returns-clause-clean
+returns-clause-clean g c = c.execute_batch.ensures.survives.clean
+
+pub returns-clause-kept : goal.returns-clause-kept
+returns-clause-kept g c clean inside = (c.execute_batch.ensures.kept clean, goes_on _ _ c.execute_batch.result (c.execute_batch.ensures.inside clean) inside)
+
+pub returns-clause-ran : goal.returns-clause-ran
+returns-clause-ran g c clean = all_ran g.S.Store _ _ _ c.execute_batch.result (c.execute_batch.ensures.ran clean)
+
+pub returns-clause-made : goal.returns-clause-made
+returns-clause-made g c clean empty = made_inside g.S.Store c.args.tx.now.conn.now c.execute_batch.new.self.conn.now c.execute_batch.result empty (c.execute_batch.ensures.ran clean)

@@ -1,0 +1,5 @@
+pub mod Ours
+pub mod Shown
+pub mod Stored
+pub mod Tables
+pub mod Texts

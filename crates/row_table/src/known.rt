@@ -1,0 +1,25 @@
+//! Whether a store is one of this program.
+ghost use Rattle.std.specs.Prelude.{◌≡◌, ◌≤◌, false, IsTrue, IfOk};
+ghost use Rattle.sqlite.specs.View.{doubt};
+ghost use Rattle.sqlite.specs.State.{HasCleanDisk};
+ghost use Rattle.sqlite.specs.Held.{state};
+ghost use Rattle.row_table.specs.Stored.{IsRowStore};
+
+use crate::{rows, schema, statements};
+use sqlite::{Alter, Connection, Error};
+
+/// Whether the connection is in no transaction, and its store has the tables and rows of the hub. Reads every row.
+pub fn has_row_store<S: Alter>(conn: &mut Connection<S>) -> Result<bool, Error>
+    ensures clean { doubt (state S.Store conn.old).is_clean ≤ doubt (state S.Store conn.new).is_clean }
+    ensures mode { conn.old.in_transaction ≡ false → conn.new.in_transaction ≡ false }
+    ensures stands { HasCleanDisk (state S.Store conn.new) → IsTrue (state S.Store conn.new).is_open
+        → IsTrue (state S.Store conn.old).is_open × ((state S.Store conn.new).now ≡ (state S.Store conn.old).now) }
+    ensures apart { IfOk result (λ known. IsTrue known → conn.old.in_transaction ≡ false) }
+    ensures known { HasCleanDisk (state S.Store conn.new) → IsTrue (state S.Store conn.new).is_open → IfOk result (λ known. IsTrue known → IsRowStore (state S.Store conn.new).now) }
+{
+    if !conn.is_autocommit() || !schema::is_store_schema(conn.schema()) {
+        return Ok(false);
+    }
+    let all = statements::select_all(conn)?;
+    rows::are_ours(all.as_slice())
+}
