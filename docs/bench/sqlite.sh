@@ -11,7 +11,7 @@ top=$(cd "$(dirname "$0")/../.." && pwd)
 scratch=${1:-$(mktemp -d /tmp/sqlite-bench.XXXXXX)}
 count=${2:-100}
 bench=$scratch/crates/sqlite_bench
-below='hub_kit hub_devices keyed_rows keeper keeper_sqlite'
+below='hub_kit hub_devices keyed_rows keeper row_table keeper_sqlite'
 mkdir -p "$bench/src"
 cp "$top/HANDLES" "$scratch/HANDLES"
 for crate in $below; do
