@@ -3,15 +3,9 @@
 # usage: docs/bench/desk.sh [FOLDER]
 # Writes a scratch repository into FOLDER (a new one under /tmp if none is named), proves its two crates, and runs the
 # program. It stands outside the gate, and leaves the repository as it was.
-set -eu
-top=$(cd "$(dirname "$0")/../.." && pwd)
-scratch=${1:-$(mktemp -d /tmp/desk-bench.XXXXXX)}
-bench=$scratch/crates/desk_bench
-mkdir -p "$bench/src" "$bench/proofs/visit_all" "$bench/proofs/workers"
-cp "$top/HANDLES" "$scratch/HANDLES"
-cp -r "$top/crates/desk" "$scratch/crates/"
-rm -rf "$scratch/crates/desk/out"
-printf 'desk: atomic_table\ndesk_bench: desk\n' >"$scratch/crates.txt"
+. "$(dirname "$0")/scratch.sh"
+begin desk_bench "${1:-}" desk
+mkdir -p "$bench/proofs/visit_all" "$bench/proofs/workers"
 
 cat >"$bench/proofs/visit_all/Invariants.antt" <<'END'
 use Rattle.std.proofs.Common.{◌≡◌}

@@ -3,18 +3,8 @@
 # usage: docs/bench/scopes.sh [FOLDER]
 # Writes a scratch repository into FOLDER (a new one under /tmp if none is named), proves its crates over what earlier checks of
 # this checkout kept, and runs the program. It stands outside the gate, and leaves the repository as it was.
-set -eu
-top=$(cd "$(dirname "$0")/../.." && pwd)
-scratch=${1:-$(mktemp -d /tmp/scopes-bench.XXXXXX)}
-bench=$scratch/crates/scopes_bench
-below='hub_kit keyed_rows scope_names scope_filters scope_expand scope_meet'
-mkdir -p "$bench/src"
-cp "$top/HANDLES" "$scratch/HANDLES"
-for crate in $below; do
-    cp -r "$top/crates/$crate" "$scratch/crates/"
-    grep "^$crate:" "$top/crates.txt"
-done >"$scratch/crates.txt"
-echo "scopes_bench: $below" >>"$scratch/crates.txt"
+. "$(dirname "$0")/scratch.sh"
+begin scopes_bench "${1:-}" 'hub_kit keyed_rows scope_names scope_filters scope_expand scope_meet'
 
 cat >"$bench/src/main.rt" <<'END'
 //! Microseconds of a decision over 64 scopes with group filters, among 10,000 groups.

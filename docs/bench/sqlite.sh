@@ -6,19 +6,9 @@
 # of one row on a file.
 # Writes a scratch repository into FOLDER (a new one under /tmp if none is named), proves its crates over what earlier checks of
 # this checkout kept, and runs the program. It stands outside the gate, and leaves the repository as it was.
-set -eu
-top=$(cd "$(dirname "$0")/../.." && pwd)
-scratch=${1:-$(mktemp -d /tmp/sqlite-bench.XXXXXX)}
+. "$(dirname "$0")/scratch.sh"
 count=${2:-100}
-bench=$scratch/crates/sqlite_bench
-below='hub_kit hub_devices keyed_rows keeper row_table keeper_sqlite'
-mkdir -p "$bench/src"
-cp "$top/HANDLES" "$scratch/HANDLES"
-for crate in $below; do
-    cp -r "$top/crates/$crate" "$scratch/crates/"
-    grep "^$crate:" "$top/crates.txt"
-done >"$scratch/crates.txt"
-echo 'sqlite_bench: hub_kit keeper keeper_sqlite sqlite anyhow' >>"$scratch/crates.txt"
+begin sqlite_bench "${1:-}" 'hub_kit hub_devices keyed_rows keeper row_table keeper_sqlite' 'hub_kit keeper keeper_sqlite sqlite anyhow'
 
 cat >"$bench/src/main.rt" <<'END'
 //! Commits rows to keepers over SQLite, in memory and on files, and times that.

@@ -3,18 +3,8 @@
 # usage: docs/bench/tables.sh [FOLDER]
 # Writes a scratch repository into FOLDER (a new one under /tmp if none is named), proves its crates over what earlier checks of
 # this checkout kept, and runs the program. It stands outside the gate, and leaves the repository as it was.
-set -eu
-top=$(cd "$(dirname "$0")/../.." && pwd)
-scratch=${1:-$(mktemp -d /tmp/tables-bench.XXXXXX)}
-bench=$scratch/crates/tables_bench
-below='hub_kit keyed_rows row_indexes scope_names scope_filters hub_rows hub_tables'
-mkdir -p "$bench/src"
-cp "$top/HANDLES" "$scratch/HANDLES"
-for crate in $below; do
-    cp -r "$top/crates/$crate" "$scratch/crates/"
-    grep "^$crate:" "$top/crates.txt"
-done >"$scratch/crates.txt"
-echo "tables_bench: $below" >>"$scratch/crates.txt"
+. "$(dirname "$0")/scratch.sh"
+begin tables_bench "${1:-}" 'hub_kit keyed_rows row_indexes scope_names scope_filters hub_rows hub_tables'
 
 cat >"$bench/src/main.rt" <<'END'
 //! Time and memory of the tables, at so many users and ten times as many tokens.

@@ -1,2 +1,3 @@
 mod Found
+mod Taken
 pub mod Plain

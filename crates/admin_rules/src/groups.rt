@@ -1,18 +1,18 @@
 //! The calls that add, change and delete groups.
-ghost use Rattle.std.specs.Prelude.{◌≡◌, Some, IfOk};
+ghost use Rattle.std.specs.Prelude.{◌≡◌, Some, IfOk, Ok};
 ghost use Rattle.std.specs.Option.{option_copied};
 ghost use Rattle.admin_rules.specs.Rules.{ArePlain, Checks, Says, first_unkept};
 ghost use Rattle.admin_rules.specs.Groups.{add_group, delete_group, if_unknown_user, join_group, leave_group, with_members};
 
 use crate::of_groups::group_rows;
-use crate::refusals::{RuleRefusal, check_room, one};
+use crate::refusals::{RuleRefusal, check_absent, check_room};
+use crate::rows::one;
 use hub_kit::names::{GroupName, UserName};
-use hub_kit::text::Text;
 use hub_rows::changes::RowChange;
 use hub_rows::records::Group;
 use hub_tables::tables::Tables;
 use keyed_rows::sorted::Sorted;
-use std::alloc::{AllocError, Global};
+use std::alloc::Global;
 
 /// Adds a group with its users, as `POST /groups/{name}` does. The refusals in their order: `Exists`, `UnknownUser`, `Full`.
 pub fn add_group(
@@ -24,9 +24,7 @@ pub fn add_group(
     ensures answer { Says (add_group tables.now group.now users.now) result }
     ensures plain { IfOk result (λ rows. ArePlain rows.items) }
 {
-    if tables.group(group).is_some() {
-        return Err(RuleRefusal::Exists(Text::from_str(alloc, group.as_str())?));
-    }
+    check_absent(alloc, tables.group(group).is_some(), group.as_str())?;
     check_users(tables, users)?;
     check_room(
         2,
@@ -34,11 +32,14 @@ pub fn add_group(
         tables.count_of_groups() as u64,
         1,
     )?;
-    let change = RowChange::PutGroup(Group {
-        name: *group,
-        users: Sorted::from_vec(Vec::from_slice(alloc, users)?),
-    });
-    Ok(one(alloc, change)?)
+    let users = Sorted::from_vec(Vec::from_slice(alloc, users)?);
+    one(
+        alloc,
+        RowChange::PutGroup(Group {
+            name: *group,
+            users,
+        }),
+    )
 }
 
 /// Adds users to a group, as `POST /groups/{name}/users` does. `UnknownUser` names the first that isn't kept, in the order
@@ -56,7 +57,7 @@ pub fn join_group(
     match tables.group(group) {
         Some(kept) => {
             let members = kept.users.with(alloc, users)?;
-            Ok(with_members(alloc, kept, members)?)
+            with_members(alloc, kept, members)
         }
         None => Ok(Vec::new(alloc)),
     }
@@ -77,7 +78,7 @@ pub fn leave_group(
     match tables.group(group) {
         Some(kept) => {
             let members = kept.users.without(alloc, users)?;
-            Ok(with_members(alloc, kept, members)?)
+            with_members(alloc, kept, members)
         }
         None => Ok(Vec::new(alloc)),
     }
@@ -105,8 +106,8 @@ fn with_members(
     alloc: Global,
     kept: &Group,
     members: Sorted<UserName>,
-) -> Result<Vec<RowChange>, AllocError>
-    ensures rows { IfOk result (λ rows. rows.items ≡ with_members (λ _. members) (Some kept.now)) }
+) -> Result<Vec<RowChange>, RuleRefusal>
+    ensures answer { Says (Ok (with_members (λ _. members) (Some kept.now))) result }
     ensures plain { IfOk result (λ rows. ArePlain rows.items) }
 {
     if members.as_slice() == kept.users.as_slice() {

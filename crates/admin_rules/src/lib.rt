@@ -10,5 +10,6 @@ mod of_users;
 mod purges;
 pub mod refusals;
 pub mod roles;
+mod rows;
 pub mod services;
 pub mod users;

@@ -1,8 +1,9 @@
 //! What goes with a group.
-ghost use Rattle.std.specs.Prelude.{◌≡◌, IfOk};
+ghost use Rattle.std.specs.Prelude.{◌≡◌, [], IfOk, OnOk};
 ghost use Rattle.admin_rules.specs.Purges.{is_held_by_group, without_group, group_rows};
 
 use crate::purges::{Purge, purge_rows, remove_shares};
+use crate::rows::append;
 use hub_kit::names::GroupName;
 use hub_rows::changes::RowChange;
 use hub_rows::keys::Recipient;
@@ -19,11 +20,24 @@ pub(crate) fn group_rows(
     ensures { IfOk result (λ rows. rows.items ≡ group_rows tables.now group.now) }
 {
     let mut rows = Vec::new(alloc);
-    purge_rows(alloc, &mut rows, group, tables.roles())?;
-    rows.push(RowChange::RemoveGroup(*group))?;
-    let shares = tables.shares_with(alloc, &Recipient::Group(*group))?;
-    remove_shares(&mut rows, &shares)?;
+    purge_group(alloc, &mut rows, tables, group)?;
     Ok(rows)
+}
+
+/// Fills the changes, of which there are none yet, with those that go with a group.
+fn purge_group(
+    alloc: Global,
+    changes: &mut Vec<RowChange>,
+    tables: &Tables,
+    group: &GroupName,
+) -> Result<(), AllocError>
+    requires { changes.old.items ≡ [] }
+    ensures { OnOk result (changes.new.items ≡ group_rows tables.now group.now) }
+{
+    purge_rows(alloc, changes, group, tables.roles())?;
+    append(changes, RowChange::RemoveGroup(*group))?;
+    remove_shares(alloc, changes, tables, &Recipient::Group(*group))?;
+    Ok(())
 }
 
 impl Purge<Role> for GroupName {
@@ -36,8 +50,9 @@ impl Purge<Role> for GroupName {
     }
 
     fn change(&self, alloc: Global, role: &Role) -> Result<RowChange, AllocError> {
+        let groups = role.groups.without(alloc, &[*self])?;
         let mut role = role.copy(alloc)?;
-        role.groups = role.groups.without(alloc, &[*self])?;
+        role.groups = groups;
         Ok(RowChange::PutRole(role))
     }
 }

@@ -1,9 +1,11 @@
 //! What goes with a service.
-ghost use Rattle.std.specs.Prelude.{◌≡◌, IfOk};
+ghost use Rattle.std.specs.Prelude.{◌≡◌, ◌++◌, [], IfOk, OnOk};
+ghost use Rattle.std.specs.FinMap.{values};
 ghost use Rattle.hub_rows.specs.declared.changes.RowChange.TheVariants.{RemoveOAuthClient};
-ghost use Rattle.admin_rules.specs.Purges.{is_held_by_service, without_service, is_client, client_of_service, service_rows};
+ghost use Rattle.admin_rules.specs.Purges.{changes_of, is_held_by_service, without_service, is_client, client_of_service, service_rows};
 
 use crate::purges::{Purge, purge_rows, remove_tokens};
+use crate::rows::append;
 use hub_kit::names::ServiceName;
 use hub_kit::text::Text;
 use hub_rows::changes::RowChange;
@@ -20,16 +22,41 @@ pub(crate) fn service_rows(
 ) -> Result<Vec<RowChange>, AllocError>
     ensures { IfOk result (λ rows. rows.items ≡ service_rows tables.now service.now) }
 {
+    let mut rows = Vec::new(alloc);
+    purge_service(alloc, &mut rows, tables, service)?;
+    Ok(rows)
+}
+
+/// Fills the changes, of which there are none yet, with those that go with a service.
+fn purge_service(
+    alloc: Global,
+    changes: &mut Vec<RowChange>,
+    tables: &Tables,
+    service: &ServiceName,
+) -> Result<(), AllocError>
+    requires { changes.old.items ≡ [] }
+    ensures { OnOk result (changes.new.items ≡ service_rows tables.now service.now) }
+{
+    purge_rows(alloc, changes, service, tables.roles())?;
+    append(changes, RowChange::RemoveService(*service))?;
+    remove_tokens(alloc, changes, tables, &Owner::Service(*service))?;
+    remove_client(alloc, changes, tables, service)?;
+    Ok(())
+}
+
+/// Appends the removal of the service's client.
+fn remove_client(
+    alloc: Global,
+    changes: &mut Vec<RowChange>,
+    tables: &Tables,
+    service: &ServiceName,
+) -> Result<(), AllocError>
+    ensures { OnOk result (changes.new.items ≡ changes.old.items ++ changes_of (is_client (client_of_service service.now)) (λ client. RemoveOAuthClient client.id) (values tables.now.clients)) }
+{
     let client = Client {
         id: client_of_service(alloc, service)?,
     };
-    let mut rows = Vec::new(alloc);
-    purge_rows(alloc, &mut rows, service, tables.roles())?;
-    rows.push(RowChange::RemoveService(*service))?;
-    let ids = tables.tokens_of(alloc, &Owner::Service(*service))?;
-    remove_tokens(&mut rows, &ids)?;
-    purge_rows(alloc, &mut rows, &client, tables.clients())?;
-    Ok(rows)
+    purge_rows(alloc, changes, &client, tables.clients())
 }
 
 /// The id of a service's client.
@@ -57,8 +84,9 @@ impl Purge<Role> for ServiceName {
     }
 
     fn change(&self, alloc: Global, role: &Role) -> Result<RowChange, AllocError> {
+        let services = role.services.without(alloc, &[*self])?;
         let mut role = role.copy(alloc)?;
-        role.services = role.services.without(alloc, &[*self])?;
+        role.services = services;
         Ok(RowChange::PutRole(role))
     }
 }

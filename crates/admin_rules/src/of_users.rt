@@ -1,9 +1,11 @@
 //! What goes with a user.
-ghost use Rattle.std.specs.Prelude.{◌≡◌, IfOk};
+ghost use Rattle.std.specs.Prelude.{◌≡◌, ◌++◌, [], IfOk, OnOk};
+ghost use Rattle.std.specs.FinMap.{values};
 ghost use Rattle.hub_rows.specs.declared.changes.RowChange.TheVariants.{RemoveShareCode, RemoveOAuthClient, RemoveOAuthCode};
-ghost use Rattle.admin_rules.specs.Purges.{has_member, without_member, is_held_by_user, without_user, is_code_of_user, is_called, clients_of_user, is_grant_of_user, user_rows};
+ghost use Rattle.admin_rules.specs.Purges.{changes_of, has_member, without_member, is_held_by_user, without_user, is_code_of_user, is_called, clients_of_user, is_grant_of_user, user_rows};
 
 use crate::purges::{Purge, purge_rows, remove_servers, remove_shares, remove_tokens};
+use crate::rows::append;
 use hub_kit::names::UserName;
 use hub_kit::text::Text;
 use hub_rows::changes::RowChange;
@@ -21,23 +23,46 @@ pub(crate) fn user_rows(
 ) -> Result<Vec<RowChange>, AllocError>
     ensures { IfOk result (λ rows. rows.items ≡ user_rows tables.now user.now) }
 {
+    let mut rows = Vec::new(alloc);
+    purge_user(alloc, &mut rows, tables, user)?;
+    Ok(rows)
+}
+
+/// Fills the changes, of which there are none yet, with those that go with a user.
+fn purge_user(
+    alloc: Global,
+    changes: &mut Vec<RowChange>,
+    tables: &Tables,
+    user: &UserName,
+) -> Result<(), AllocError>
+    requires { changes.old.items ≡ [] }
+    ensures { OnOk result (changes.new.items ≡ user_rows tables.now user.now) }
+{
+    purge_rows(alloc, changes, user, tables.groups())?;
+    purge_rows(alloc, changes, user, tables.roles())?;
+    append(changes, RowChange::RemoveUser(*user))?;
+    remove_tokens(alloc, changes, tables, &Owner::User(*user))?;
+    remove_servers(alloc, changes, tables, user)?;
+    remove_shares(alloc, changes, tables, &Recipient::User(*user))?;
+    purge_rows(alloc, changes, user, tables.codes())?;
+    remove_clients(alloc, changes, tables, user)?;
+    purge_rows(alloc, changes, user, tables.grant_codes())?;
+    Ok(())
+}
+
+/// Appends the removal of each client of the user's servers.
+fn remove_clients(
+    alloc: Global,
+    changes: &mut Vec<RowChange>,
+    tables: &Tables,
+    user: &UserName,
+) -> Result<(), AllocError>
+    ensures { OnOk result (changes.new.items ≡ changes.old.items ++ changes_of (is_called (clients_of_user user.now)) (λ client. RemoveOAuthClient client.id) (values tables.now.clients)) }
+{
     let clients = Clients {
         beginning: clients_of_user(alloc, user)?,
     };
-    let mut rows = Vec::new(alloc);
-    purge_rows(alloc, &mut rows, user, tables.groups())?;
-    purge_rows(alloc, &mut rows, user, tables.roles())?;
-    rows.push(RowChange::RemoveUser(*user))?;
-    let ids = tables.tokens_of(alloc, &Owner::User(*user))?;
-    remove_tokens(&mut rows, &ids)?;
-    let servers = tables.servers_of(alloc, user)?;
-    remove_servers(&mut rows, &servers)?;
-    let shares = tables.shares_with(alloc, &Recipient::User(*user))?;
-    remove_shares(&mut rows, &shares)?;
-    purge_rows(alloc, &mut rows, user, tables.codes())?;
-    purge_rows(alloc, &mut rows, &clients, tables.clients())?;
-    purge_rows(alloc, &mut rows, user, tables.grant_codes())?;
-    Ok(rows)
+    purge_rows(alloc, changes, &clients, tables.clients())
 }
 
 /// How the ids of the clients of a user's servers begin.
@@ -83,8 +108,9 @@ impl Purge<Role> for UserName {
     }
 
     fn change(&self, alloc: Global, role: &Role) -> Result<RowChange, AllocError> {
+        let users = role.users.without(alloc, &[*self])?;
         let mut role = role.copy(alloc)?;
-        role.users = role.users.without(alloc, &[*self])?;
+        role.users = users;
         Ok(RowChange::PutRole(role))
     }
 }

@@ -1,12 +1,16 @@
 //! What goes with a name: one way for rows that are walked through, and one for those that an index finds.
-ghost use Rattle.std.specs.Prelude.{◌≡◌, ◌++◌, Bool, map, OnOk, IfOk};
+ghost use Rattle.std.specs.Prelude.{◌≡◌, ◌∷◌, [], ◌++◌, Bool, map, OnOk, IfOk};
 ghost use Rattle.hub_rows.specs.declared.changes.RowChange.TheVariants.{RemoveToken, RemoveServerRow, RemoveShare};
 ghost use Rattle.hub_rows.specs.declared.changes.RowChange.{RowChange};
+ghost use Rattle.hub_tables.specs.Lookups.{tokens_of, servers_of, shares_with};
 ghost use Rattle.admin_rules.specs.Purges.{changes_of};
 
-use hub_kit::names::ServerKey;
+use crate::rows::append;
+use hub_kit::names::UserName;
 use hub_rows::changes::RowChange;
-use hub_rows::keys::ShareKey;
+use hub_rows::keys::Recipient;
+use hub_tables::tables::Tables;
+use scope_filters::holder::Owner;
 use std::alloc::{AllocError, Global};
 use std::collections::btree_map::Values;
 
@@ -33,45 +37,70 @@ pub(crate) fn purge_rows<K, R, P: Purge<R>>(
     ensures { OnOk result (changes.new.items ≡ changes.old.items ++ changes_of (P.takes gone.now) (P.makes gone.now) rows.entry) }
 {
     for row in rows {
-        if gone.is_taken(row) {
-            changes.push(gone.change(alloc, row)?)?;
-        }
+        purge_row(alloc, changes, gone, row)?;
     }
     Ok(())
 }
 
-/// Appends the removal of each token.
-pub(crate) fn remove_tokens(changes: &mut Vec<RowChange>, ids: &[u64]) -> Result<(), AllocError>
-    ensures { OnOk result (changes.new.items ≡ changes.old.items ++ map (λ id. RemoveToken id) ids.now) }
+/// Appends the change of a row, if it is taken.
+fn purge_row<R, P: Purge<R>>(
+    alloc: Global,
+    changes: &mut Vec<RowChange>,
+    gone: &P,
+    row: &R,
+) -> Result<(), AllocError>
+    ensures { OnOk result (changes.new.items ≡ changes.old.items ++ changes_of (P.takes gone.now) (P.makes gone.now) (row.now ∷ [])) }
 {
-    for id in ids {
-        changes.push(RowChange::RemoveToken(*id))?;
+    if gone.is_taken(row) {
+        append(changes, gone.change(alloc, row)?)?;
     }
     Ok(())
 }
 
-/// Appends the removal of each server.
+/// Appends the removal of each token of an owner.
+pub(crate) fn remove_tokens(
+    alloc: Global,
+    changes: &mut Vec<RowChange>,
+    tables: &Tables,
+    owner: &Owner,
+) -> Result<(), AllocError>
+    ensures { OnOk result (changes.new.items ≡ changes.old.items ++ map (λ id. RemoveToken id) (tokens_of tables.now owner.now)) }
+{
+    let ids = tables.tokens_of(alloc, owner)?;
+    for id in ids.as_slice() {
+        append(changes, RowChange::RemoveToken(*id))?;
+    }
+    Ok(())
+}
+
+/// Appends the removal of each server of a user.
 pub(crate) fn remove_servers(
+    alloc: Global,
     changes: &mut Vec<RowChange>,
-    keys: &[ServerKey],
+    tables: &Tables,
+    user: &UserName,
 ) -> Result<(), AllocError>
-    ensures { OnOk result (changes.new.items ≡ changes.old.items ++ map (λ key. RemoveServerRow key) keys.now) }
+    ensures { OnOk result (changes.new.items ≡ changes.old.items ++ map (λ key. RemoveServerRow key) (servers_of tables.now user.now)) }
 {
-    for key in keys {
-        changes.push(RowChange::RemoveServerRow(*key))?;
+    let keys = tables.servers_of(alloc, user)?;
+    for key in keys.as_slice() {
+        append(changes, RowChange::RemoveServerRow(*key))?;
     }
     Ok(())
 }
 
-/// Appends the removal of each share.
+/// Appends the removal of each share with someone.
 pub(crate) fn remove_shares(
+    alloc: Global,
     changes: &mut Vec<RowChange>,
-    keys: &[ShareKey],
+    tables: &Tables,
+    to: &Recipient,
 ) -> Result<(), AllocError>
-    ensures { OnOk result (changes.new.items ≡ changes.old.items ++ map (λ key. RemoveShare key) keys.now) }
+    ensures { OnOk result (changes.new.items ≡ changes.old.items ++ map (λ key. RemoveShare key) (shares_with tables.now to.now)) }
 {
-    for key in keys {
-        changes.push(RowChange::RemoveShare(*key))?;
+    let keys = tables.shares_with(alloc, to)?;
+    for key in keys.as_slice() {
+        append(changes, RowChange::RemoveShare(*key))?;
     }
     Ok(())
 }

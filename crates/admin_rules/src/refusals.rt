@@ -1,12 +1,9 @@
 //! Why a call is refused.
-ghost use Rattle.std.specs.Prelude.{◌≡◌, ◌∷◌, [], IfOk};
-ghost use Rattle.std.specs.List.{list_any};
-ghost use Rattle.hub_tables.specs.Changes.{puts_hashed};
-ghost use Rattle.admin_rules.specs.Rules.{Checks, if_full};
+ghost use Rattle.admin_rules.specs.Rules.{Checks, if_full, if_so};
+ghost use Rattle.admin_rules.specs.declared.refusals.RuleRefusal.TheVariants.{Exists};
 
 use hub_kit::names::UserName;
 use hub_kit::text::Text;
-use hub_rows::changes::RowChange;
 use std::alloc::{AllocError, Global};
 
 /// The first rule that refuses a call.
@@ -51,12 +48,12 @@ pub(crate) fn check_room(kind: u8, limit: u32, rows: u64, new: u64) -> Result<()
     Ok(())
 }
 
-/// The rows of a change of one row.
-pub(crate) fn one(alloc: Global, change: RowChange) -> Result<Vec<RowChange>, AllocError>
-    ensures rows { IfOk result (λ rows. rows.items ≡ change ∷ []) }
-    ensures plain { IfOk result (λ rows. list_any puts_hashed rows.items ≡ puts_hashed change) }
+/// Refuses a new row under a name that is kept.
+pub(crate) fn check_absent(alloc: Global, is_kept: bool, name: &str) -> Result<(), RuleRefusal>
+    ensures { Checks (if_so is_kept (Exists name.now)) result }
 {
-    let mut rows = Vec::new(alloc);
-    rows.push(change)?;
-    Ok(rows)
+    if is_kept {
+        return Err(RuleRefusal::Exists(Text::from_str(alloc, name)?));
+    }
+    Ok(())
 }

@@ -1,11 +1,14 @@
 //! The calls that put and delete roles.
-ghost use Rattle.std.specs.Prelude.{◌≡◌, IfOk, Some};
-ghost use Rattle.std.specs.Option.{option_copied};
-ghost use Rattle.admin_rules.specs.Rules.{ArePlain, Checks, Says, first_unkept};
+ghost use Rattle.std.specs.Prelude.{◌≡◌, ◌∷◌, [], IfOk, Ok, Some};
+ghost use Rattle.std.specs.Option.{option_copied, option_or};
+ghost use Rattle.hub_rows.specs.declared.changes.RowChange.TheVariants.{PutRole};
+ghost use Rattle.admin_rules.specs.declared.refusals.RuleRefusal.TheVariants.{FixedRole};
+ghost use Rattle.admin_rules.specs.Rules.{ArePlain, Checks, Says, first_unkept, if_so};
 ghost use Rattle.admin_rules.specs.Roles.{delete_role, if_unknown_holder, if_unknown_scope, is_fixed_role, is_known_scope, put_role, same_role, unknown_holder, unknown_scope};
 
 use crate::groups::unkept_user;
-use crate::refusals::{RuleRefusal, check_room, one};
+use crate::refusals::{RuleRefusal, check_room};
+use crate::rows::one;
 use hub_kit::names::{GroupName, RoleName, ServiceName};
 use hub_kit::text::Text;
 use hub_rows::changes::RowChange;
@@ -22,21 +25,34 @@ pub fn put_role(alloc: Global, tables: &Tables, role: &Role) -> Result<Vec<RowCh
     ensures answer { Says (put_role tables.now role.now) result }
     ensures plain { IfOk result (λ rows. ArePlain rows.items) }
 {
+    check_role(alloc, tables, role)?;
+    match tables.role(&role.name) {
+        Some(kept) if same_role(role, kept) => Ok(Vec::new(alloc)),
+        Some(_) => put_copy(alloc, role),
+        None => {
+            check_room(4, tables.limits().roles, tables.count_of_roles() as u64, 1)?;
+            put_copy(alloc, role)
+        }
+    }
+}
+
+/// Refuses a role that can't be put, whether or not there is room for one more.
+fn check_role(alloc: Global, tables: &Tables, role: &Role) -> Result<(), RuleRefusal>
+    ensures { Checks (option_or (if_so (is_fixed_role role.now.name) FixedRole) (option_or (if_unknown_scope tables.now.scopes role.now.scopes) (if_unknown_holder tables.now role.now))) result }
+{
     if is_fixed_role(&role.name) {
         return Err(RuleRefusal::FixedRole);
     }
     check_scopes(alloc, tables.scope_table(), role.scopes.as_slice())?;
-    check_holders(alloc, tables, role)?;
-    match tables.role(&role.name) {
-        Some(kept) => {
-            if same_role(role, kept) {
-                return Ok(Vec::new(alloc));
-            }
-        }
-        None => check_room(4, tables.limits().roles, tables.count_of_roles() as u64, 1)?,
-    }
-    let change = RowChange::PutRole(role.copy(alloc)?);
-    Ok(one(alloc, change)?)
+    check_holders(alloc, tables, role)
+}
+
+/// The put of a copy of a role.
+fn put_copy(alloc: Global, role: &Role) -> Result<Vec<RowChange>, RuleRefusal>
+    ensures answer { Says (Ok (PutRole role.now ∷ [])) result }
+    ensures plain { IfOk result (λ rows. ArePlain rows.items) }
+{
+    one(alloc, RowChange::PutRole(role.copy(alloc)?))
 }
 
 /// Whether the role is one that every hub has, and that no call changes: `user` and `admin` (JupyterHub's documentation, "Default roles").
@@ -141,5 +157,5 @@ pub fn delete_role(
     if tables.role(role).is_none() {
         return Ok(Vec::new(alloc));
     }
-    Ok(one(alloc, RowChange::RemoveRole(*role))?)
+    one(alloc, RowChange::RemoveRole(*role))
 }

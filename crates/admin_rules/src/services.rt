@@ -4,9 +4,9 @@ ghost use Rattle.admin_rules.specs.Rules.{ArePlain, Says};
 ghost use Rattle.admin_rules.specs.Services.{add_service, delete_service};
 
 use crate::of_services::service_rows;
-use crate::refusals::{RuleRefusal, check_room, one};
+use crate::refusals::{RuleRefusal, check_absent, check_room};
+use crate::rows::one;
 use hub_kit::names::ServiceName;
-use hub_kit::text::Text;
 use hub_rows::changes::RowChange;
 use hub_rows::records::Service;
 use hub_tables::tables::Tables;
@@ -21,9 +21,7 @@ pub fn add_service(
     ensures answer { Says (add_service tables.now service.now) result }
     ensures plain { IfOk result (λ rows. ArePlain rows.items) }
 {
-    if tables.service(service).is_some() {
-        return Err(RuleRefusal::Exists(Text::from_str(alloc, service.as_str())?));
-    }
+    check_absent(alloc, tables.service(service).is_some(), service.as_str())?;
     check_room(
         3,
         tables.limits().services,
@@ -31,7 +29,7 @@ pub fn add_service(
         1,
     )?;
     let change = RowChange::PutService(Service { name: *service });
-    Ok(one(alloc, change)?)
+    one(alloc, change)
 }
 
 /// Deletes a service with its tokens and its client of OAuth, and takes its name from roles. Without such a service nothing

@@ -4,7 +4,8 @@ ghost use Rattle.admin_rules.specs.Rules.{ArePlain, Checks, Says};
 ghost use Rattle.admin_rules.specs.Users.{add_users, delete_user, if_none_new, new_user, set_admin, unkept_users};
 
 use crate::of_users::user_rows;
-use crate::refusals::{RuleRefusal, check_room, one};
+use crate::refusals::{RuleRefusal, check_room};
+use crate::rows::one;
 use hub_kit::moment::Moment;
 use hub_kit::names::UserName;
 use hub_kit::text::Text;
@@ -100,7 +101,7 @@ pub fn set_admin(
     match tables.user(user) {
         Some(kept) if kept.admin != admin => {
             let change = RowChange::PutUser(User { admin, ..*kept });
-            Ok(one(alloc, change)?)
+            one(alloc, change)
         }
         _ => Ok(Vec::new(alloc)),
     }

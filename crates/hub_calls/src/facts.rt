@@ -10,7 +10,7 @@ use hub_kit::names::{GroupName, RoleName, ServiceName, UserName, read_role};
 use hub_rows::records::User;
 use hub_tables::tables::Tables;
 use keyed_rows::sorted::Sorted;
-use roles::held::holds_role;
+use roles::naming::names_held;
 use scope_filters::holder::Owner;
 use std::alloc::{AllocError, Global};
 
@@ -27,15 +27,16 @@ pub fn groups_of(
 }
 
 /// Adds the names of the roles that an owner holds by their rows, in order.
-fn push_roles(names: &mut Vec<RoleName>, tables: &Tables, owner: &Owner) -> Result<(), AllocError>
+fn push_roles(
+    alloc: Global,
+    names: &mut Vec<RoleName>,
+    tables: &Tables,
+    owner: &Owner,
+) -> Result<(), AllocError>
     ensures { OnOk result (names.new.items ≡ names.old.items ++ spec.roles_among tables.now owner.now (map.values tables.now.roles)) }
 {
-    for role in tables.roles() {
-        if holds_role(tables, owner, role) {
-            names.push(role.name)?;
-        }
-    }
-    Ok(())
+    let held = names_held(alloc, tables, owner)?;
+    names.extend_from_slice(held.as_slice())
 }
 
 /// A name of a role that is known to be one.
@@ -70,7 +71,7 @@ pub fn roles_of_user(
 {
     let mut names = Vec::new(alloc);
     push_fixed(&mut names, user.admin)?;
-    push_roles(&mut names, tables, &Owner::User(user.name))?;
+    push_roles(alloc, &mut names, tables, &Owner::User(user.name))?;
     let sorted = Sorted::from_vec(names);
     Ok(List::from_vec(Vec::from_slice(alloc, sorted.as_slice())?))
 }
@@ -83,9 +84,7 @@ pub fn roles_of_service(
 ) -> Result<Vec<RoleName>, AllocError>
     ensures { IfOk result (λ names. names.items ≡ spec.roles_of_service tables.now service.now) }
 {
-    let mut names = Vec::new(alloc);
-    push_roles(&mut names, tables, &Owner::Service(*service))?;
-    Ok(names)
+    tables.roles_naming_service(alloc, service)
 }
 
 /// The names of the roles that a group holds, in order.
@@ -96,11 +95,5 @@ pub fn roles_of_group(
 ) -> Result<Vec<RoleName>, AllocError>
     ensures { IfOk result (λ names. names.items ≡ spec.roles_of_group tables.now group.now) }
 {
-    let mut names = Vec::new(alloc);
-    for role in tables.roles() {
-        if role.groups.contains(group) {
-            names.push(role.name)?;
-        }
-    }
-    Ok(names)
+    tables.roles_naming_group(alloc, group)
 }

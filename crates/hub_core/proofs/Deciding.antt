@@ -1,8 +1,7 @@
 -- Answers, from what was decided on the way.
-use Rattle.std.proofs.Common.{◌≡◌, ℕ, Bool, true, false, cond, List, [], ◌∷◌, Option, refl, sym, ◌∙◌, ap, subst}
-use Rattle.std.specs.Prelude.{Some, None, IsTrue, ◌↔◌}
+use Rattle.std.proofs.Common.{◌≡◌, ℕ, Bool, true, false, List, Option, refl}
+use Rattle.std.specs.Prelude.{Some, None, ◌↔◌}
 use Rattle.scope_names.specs.declared.action.Action.{Action}
-use Rattle.scope_filters.specs.declared.object.Object.{Object}
 use Rattle.scope_filters.specs.Grants as grants
 use Rattle.scope_meet.specs.Named.{AdmitsSomething}
 use Rattle.hub_tables.specs.State.{State}
@@ -10,7 +9,7 @@ use Rattle.hub_rows.specs.declared.records.Token.{Token}
 use Rattle.roles.specs.Rights.{context, IsAllowed, Holds, IsGrantOf}
 use Rattle.hub_machine.specs.State.{Hub}
 use Rattle.hub_machine.specs.Replies.{Answer, refuses}
-use Rattle.hub_core.specs.Needs.{needs, needs_token}
+use Rattle.hub_core.specs.Needs.{needs_token}
 use Rattle.hub_calls.specs.Users.{get_version}
 use Rattle.hub_core.specs.Answer.{Judgement, caller, is_past, named}
 use Rattle.hub_core.specs.Judged.{HeldOf, HasHeld, JudgesToken, ByRights}

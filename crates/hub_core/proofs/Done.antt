@@ -1,6 +1,6 @@
 -- The change of an answer may be done: the history has room for it, and no row of it is found by a hash.
-use Rattle.std.proofs.Common.{◌≡◌, ℕ, Bool, true, false, not, cond, List, [], ◌∷◌, map, length, Option, refl, sym, ◌∙◌, ap, subst}
-use Rattle.std.specs.Prelude.{Some, None, Result, Ok, Err}
+use Rattle.std.proofs.Common.{◌≡◌, ℕ, Bool, true, false, not, cond, List, [], ◌∷◌, map, length, Option, refl, sym, subst}
+use Rattle.std.specs.Prelude.{Some, None, Ok, Err}
 use Rattle.std.specs.FinMap.{get, contains_key, len}
 use Rattle.hub_kit.specs.KeyOrder.{name_cmp}
 use Rattle.keyed_rows.specs.Sorted.{in_order, with_keys, without_keys}
@@ -33,13 +33,12 @@ use Rattle.hub_machine.specs.Trails.{in_trail}
 use Rattle.hub_core.specs.Answer.{Judgement, row, if_there, by_token, by_call, action_rules, caller, is_past, named}
 use Rattle.hub_core.specs.History.{Answers}
 use Rattle.hub_core.specs.Visits.{MayBeDone}
-use Rattle.hub_machine.specs.declared.change.Change.{Change}
 use Rattle.hub_machine.specs.declared.change.Change.TheVariants.{Rows}
 use Rattle.hub_machine.specs.declared.refusal.Refusal.{Refusal}
 use Rattle.hub_machine.specs.declared.refusal.Refusal.TheVariants.{SeenPast, NotFound, TrailFull}
 use Rattle.hub_machine.specs.declared.call.Asked.{Asked}
 use Rattle.hub_machine.specs.declared.call.Call.{Call}
-use Rattle.hub_machine.specs.declared.call.Call.TheVariants.{C1, C2, C3, C4, C5, C6, C7, C8, C9, C21, C22, C23, C24, C25, C26, C27, C28, C29, C30, C31, C32, C33, C34}
+use Rattle.hub_machine.specs.declared.call.Call.TheVariants.{C5, C7, C8, C9, C23, C24, C25, C26, C29, C30, C33, C34}
 
 -- no row of the answer's change is found by a hash
 abbrev Plain : Answer → Type 0

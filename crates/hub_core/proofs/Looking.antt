@@ -1,5 +1,5 @@
 -- The cache of rights: a look that may be made, and what is true of the cache after it and after a change.
-use Rattle.std.proofs.Common.{◌≡◌, ℕ, Bool, true, false, ◌+◌, ◌≤◌, ◌<◌, List, [], Contains, Option, refl, sym, ◌∙◌, ap, subst, ◌⊎◌, inl, inr, arith}
+use Rattle.std.proofs.Common.{◌≡◌, ℕ, true, false, ◌+◌, ◌≤◌, ◌<◌, List, [], Contains, Option, refl, sym, ◌∙◌, subst, inl, inr, arith}
 use Rattle.std.specs.Prelude.{Some, None, Result, Ok, Err, IfOk}
 use Rattle.std.specs.FinMap.{get}
 use Rattle.scope_filters.specs.Grants.{Rights}
@@ -8,7 +8,7 @@ use Rattle.roles.specs.declared.cache.KeptGrant.{KeptGrant}
 use Rattle.std.specs.Borrow.{Bor}
 use Rattle.std.specs.declared.alloc.AllocError.{AllocError}
 use Rattle.hub_tables.specs.State.{State}
-use Rattle.roles.specs.Looks.{Cache, Entry, no_entries, IsAfter, IsLooked, IsRight, OfAll, found}
+use Rattle.roles.specs.Looks.{Cache, Entry, no_entries, IsAfter, IsLooked, IsRight, found}
 use Rattle.roles.specs.Rights.{IsAllowed, IsGrantOf}
 use Rattle.roles.proofs.EachEntry.{looked_all, right_of_all}
 use Rattle.hub_machine.specs.State.{Hub}

@@ -244,8 +244,8 @@ pub begins_kept : (kept : Rows) (limits : Limits) → AreSame kept no_rows → K
 begins_kept kept limits same = same_kept no_rows kept (no_tables limits) same (nothing_kept limits)
 
 -- a keeper that has what the rows of the opened tables make of no rows has those of the opened tables
-pub opened_kept : (c : HubConfig) (now : ℕ) (t : State) (rows : List RowChange) (kept : Rows) → t ≡ opened_tables c now → AreOwn t → rows ≡ rows_in t
-    → Keeps kept (change_done rows (no_tables c.limits)) → Keeps kept (opened_tables c now)
-opened_kept c now t rows kept opened own made h =
-    let makes : change_done rows (no_tables c.limits) ≡ set_up c.limits t = ap (λ rs. change_done rs (no_tables c.limits)) made ∙ change_makes c.limits t own in
+pub opened_kept : (c : HubConfig) (now : ℕ) (t : State) (kept : Rows) → t ≡ opened_tables c now → AreOwn t
+    → Keeps kept (change_done (rows_in t) (no_tables c.limits)) → Keeps kept (opened_tables c now)
+opened_kept c now t kept opened own h =
+    let makes : change_done (rows_in t) (no_tables c.limits) ≡ set_up c.limits t = change_makes c.limits t own in
     subst (Keeps kept) (makes ∙ ap (set_up c.limits) opened ∙ sym (opened_only c now)) h

@@ -1,15 +1,13 @@
 -- What a visit gives stands at a place of the book's history.
-use Rattle.std.proofs.Common.{◌≡◌, ℕ, zero, suc, ◌+◌, List, [], ◌∷◌, ◌++◌, map, length, replicate, Option, refl, sym, ◌∙◌, ap, subst, ◌⊎◌, inl, inr}
+use Rattle.std.proofs.Common.{◌≡◌, ℕ, zero, suc, List, [], ◌∷◌, map, length, replicate, Option, refl, sym, ◌∙◌, ap, subst, ◌⊎◌, inl, inr}
 use Rattle.std.specs.Prelude.{Some, None, Result, Ok, Err}
 use Rattle.std.proofs.lemmas.List.{length-map, map-append, append-nil, length-replicate}
 use Rattle.std.proofs.lemmas.Grind.{replicate_next}
 use mathlib.Core.List.{IsPrefix}
 use Rattle.hub_machine.specs.State.{Hub}
-use Rattle.hub_machine.specs.Apply.{apply}
-use Rattle.hub_machine.specs.Replies.{Answer, answered, outcome_of, reply_of, refusal_reply}
-use Rattle.hub_machine.specs.Answers.{outcome_view, reply_view}
+use Rattle.hub_machine.specs.Replies.{Answer, answered, reply_of, refusal_reply}
 use Rattle.hub_core.specs.History.{Answers, change_of}
-use Rattle.hub_core.specs.Visits.{Standing, Entry, Gave, Faulted, Visited, Follows, IsTied, Did, Undid, Carried, Reached, Noted, AnsweredAt, FaultedAt, VisitedAt, listed, entries_of, noted, told_after}
+use Rattle.hub_core.specs.Visits.{Standing, Entry, Gave, Faulted, Follows, IsTied, Did, Undid, Reached, Noted, AnsweredAt, FaultedAt, VisitedAt, listed, noted, told_after}
 use Rattle.hub_machine.specs.declared.call.Asked.{Asked}
 use Rattle.hub_machine.specs.declared.change.Change.{Change}
 use Rattle.hub_machine.specs.declared.change.Change.TheVariants.{Rows}
@@ -17,7 +15,6 @@ use Rattle.hub_machine.specs.declared.refusal.Refusal.TheVariants.{KeeperFault}
 use Rattle.hub_machine.specs.declared.reply.Outcome.{Outcome}
 use Rattle.hub_machine.specs.declared.reply.Outcome.TheVariants as given
 use Rattle.hub_machine.specs.declared.reply.Reply.{Reply}
-use Rattle.hub_core.proofs.Tied.{tied_carried}
 
 -- the changes of the entries that are told
 told_of : List Entry → List Change

@@ -1,6 +1,7 @@
 -- Why a book isn't opened, from why its rows aren't kept.
-use Rattle.std.proofs.Common.{◌≡◌, ℕ, ◌<◌, ◌≤◌, ◌+◌, ◌-◌, ◌^◌, sym, subst, arith, ◌⊎◌, inl, inr}
-use Rattle.std.specs.Prelude.{Result, Ok, Err, IfErr, IsErrAnd}
+use Rattle.std.proofs.Common.{ℕ, ◌<◌, ◌≤◌, ◌-◌, ◌^◌, arith, inl, inr}
+use Rattle.std.specs.Prelude.{Result, Ok, Err, IfErr, OnOk}
+use Rattle.std.specs.Result.{result_and}
 use Rattle.std.proofs.lemmas.Bool.{cases_lt}
 use Rattle.hub_devices.specs.Faults.{Rises}
 use Rattle.keeper.specs.Rows.{Rows}
@@ -24,6 +25,12 @@ refused_later c now Tells rows before between after (BadRow kind key) h k u = ab
 refused_later c now Tells rows before between after (Full kind limit) h k u = absurd u
 refused_later c now Tells rows before between after Memory h k u = tt
 
-pub if_err : {A E : Type 0} (r : Result A E) (P : E → Type 0) (e : E) → IsErrAnd r (λ x. x ≡ e) → P e → IfErr r P
-if_err (Ok a) P e h p = absurd h
-if_err (Err x) P e h p = subst P (sym h) p
+-- ---- a step whose value isn't used, and then another value
+
+pub ok_then : {A B E : Type 0} (r : Result A E) (b : B) (P Q S : Type 0) → (P → Q → S) → OnOk r P → OnOk r Q → OnOk (let s : Result B E = Ok b in result_and r s) S
+ok_then (Ok a) b P Q S f p q = f p q
+ok_then (Err e) b P Q S f p q = tt
+
+pub err_then : {A B E : Type 0} (r : Result A E) (b : B) (P Q : E → Type 0) → ((e : E) → P e → Q e) → IfErr r P → IfErr (let s : Result B E = Ok b in result_and r s) Q
+err_then (Ok a) b P Q f p = tt
+err_then (Err e) b P Q f p = f e p

@@ -187,6 +187,8 @@ impl<K: Keeper, T: Trail<Entry = Change>> Book<K, T> {
         // the entries that are still owed take no memory
         ensures spare { owed self.hub.lives ≤ T.spare result.1 }
     {
+        // in one call, since it has many parts
+        drop(self.machine);
         (self.keeper, self.trail)
     }
 }

@@ -14,6 +14,7 @@ ghost use Rattle.scope_names.specs.declared.action.Action.{Action};
 ghost use Rattle.hub_core.specs.Needs as need;
 ghost use Rattle.hub_machine.specs.Replies.{first_refusal};
 ghost use Rattle.hub_calls.specs.Rights.{may_of};
+ghost use Rattle.hub_calls.specs.Roles as calls;
 
 use crate::need::Need;
 use admin_rules::roles::is_fixed_role;
@@ -27,6 +28,7 @@ use hub_calls::user_calls::{
     post_users,
 };
 use hub_kit::hashes::hash_of;
+use hub_kit::list::List;
 use hub_kit::moment::Moment;
 use hub_kit::names::{GroupName, RoleName, ServiceName, UserName};
 use hub_kit::text::Text;
@@ -40,6 +42,7 @@ use hub_view::Page;
 use roles::cache::RightsCache;
 use scope_filters::grant::Grant;
 use scope_filters::object::Object;
+use scope_filters::scope::RawScope;
 use scope_meet::asks::{admits, holds_any};
 use scope_names::action::Action;
 use std::alloc::{AllocError, Global};
@@ -199,6 +202,29 @@ fn token_with<'a>(tables: &'a Tables, hash: &Text) -> Option<&'a Token>
     tables.token_of_hash(hash)
 }
 
+/// What the rules of `PUT /roles/{r}` answer, for the role with these lists.
+fn put_role_with(
+    alloc: Global,
+    hub: &Machine,
+    name: &RoleName,
+    scopes: &List<RawScope>,
+    users: &List<UserName>,
+    groups: &List<GroupName>,
+    services: &List<ServiceName>,
+) -> Result<Answer, AllocError>
+    ensures { IfOk result (λ answer. answer_view answer ≡ calls.put_role hub.now (calls.role_of name.now scopes.now users.now groups.now services.now)) }
+{
+    let role = role_of(
+        alloc,
+        name,
+        scopes.as_slice(),
+        users.as_slice(),
+        groups.as_slice(),
+        services.as_slice(),
+    )?;
+    put_role(alloc, hub, &role)
+}
+
 /// What the call's own rules answer.
 fn row(
     alloc: Global,
@@ -256,17 +282,7 @@ fn row(
             users,
             groups,
             services,
-        } => {
-            let role = role_of(
-                alloc,
-                r,
-                scopes.as_slice(),
-                users.as_slice(),
-                groups.as_slice(),
-                services.as_slice(),
-            )?;
-            put_role(alloc, hub, &role)
-        }
+        } => put_role_with(alloc, hub, r, scopes, users, groups, services),
         Call::C34 { r } => delete_role(alloc, hub, r),
     }
 }

@@ -1,5 +1,5 @@
 //! The state that a book begins with, and the keeper's rows then.
-ghost use Rattle.std.specs.Prelude.{◌≡◌, ◌≤◌, ◌^◌, ◌++◌, map, fold, IfOk, IfErr, OnOk, None};
+ghost use Rattle.std.specs.Prelude.{◌≡◌, ◌≤◌, ◌^◌, ◌++◌, map, fold, codes, IfOk, IfErr, OnOk, None};
 ghost use Rattle.std.specs.Option.{option_copied};
 ghost use Rattle.std.specs.FinMap as finite;
 ghost use Rattle.keeper.specs.Rows.{AreSame, no_rows};
@@ -22,6 +22,7 @@ use hub_kit::text::Text;
 use hub_machine::batch::batch_of;
 use hub_machine::machine::Machine;
 use hub_rows::changes::RowChange;
+use hub_rows::limits::Limits;
 use hub_rows::records::{Group, Next, OAuthClient, Role, Service, Token, User};
 use hub_tables::tables::Tables;
 use keeper::keeper::{Keeper, KeeperError, Row};
@@ -132,6 +133,15 @@ fn add_service(tables: &mut Tables, name: ServiceName) -> Result<(), AllocError>
     tables.set_service(Service { name })
 }
 
+/// The id of the client that a service is.
+fn client_id(alloc: Global, service: &ServiceName) -> Result<Text, AllocError>
+    ensures { IfOk result (λ id. id ≡ codes "service:" ++ service.now) }
+{
+    let mut id = Text::from_str(alloc, "service:")?;
+    id.push_str(service.as_str())?;
+    Ok(id)
+}
+
 /// The client of OAuth that a configured service is.
 fn client_of(alloc: Global, service: &ConfigService) -> Result<Option<OAuthClient>, AllocError>
     ensures { IfOk result (λ client. client ≡ spec.client_of service.now) }
@@ -142,10 +152,8 @@ fn client_of(alloc: Global, service: &ConfigService) -> Result<Option<OAuthClien
     let Some(secret) = &service.secret else {
         return Ok(None);
     };
-    let mut id = Text::from_str(alloc, "service:")?;
-    id.push_str(service.name.as_str())?;
     Ok(Some(OAuthClient {
-        id,
+        id: client_id(alloc, &service.name)?,
         hash: hash_of(alloc, secret.as_bytes())?,
         redirect_uri: uri.copy(alloc)?,
     }))
@@ -288,21 +296,39 @@ fn put_tokens(
     Ok(())
 }
 
+/// Puts the rows of the configuration.
+fn put_rows(
+    alloc: Global,
+    tables: &mut Tables,
+    config: &HubConfig,
+    now: Moment,
+) -> Result<(), AllocError>
+    ensures { OnOk result (tables.new ≡ fold (spec.with_token now) (fold spec.with_role (fold spec.with_service (fold spec.with_group (fold (spec.with_user now) tables.old config.now.users) config.now.groups) config.now.services) config.now.roles) config.now.tokens) }
+{
+    put_users(tables, config.users.as_slice(), now)?;
+    put_groups(alloc, tables, config.groups.as_slice())?;
+    put_services(alloc, tables, config.services.as_slice())?;
+    put_roles(alloc, tables, config.roles.as_slice())?;
+    put_tokens(alloc, tables, config.tokens.as_slice(), now)
+}
+
+/// Tables with no rows and no custom scopes.
+fn empty_tables(alloc: Global, limits: Limits) -> Result<Tables, AllocError>
+    ensures { IfOk result (λ tables. tables ≡ spec.no_tables limits) }
+{
+    // No rows always make a table, so that memory alone may be wanting.
+    match ScopeTable::new(alloc, &[]) {
+        Ok(scopes) => Ok(Tables::new(alloc, limits, scopes)),
+        Err(_) => Err(AllocError),
+    }
+}
+
 /// The tables with the rows of the configuration alone.
 fn tables_of(alloc: Global, config: &HubConfig, now: Moment) -> Result<Tables, AllocError>
     ensures { IfOk result (λ tables. tables ≡ spec.opened_tables config.now now) }
 {
-    // No rows always make a table, so that memory alone may be wanting.
-    let Ok(scopes) = ScopeTable::new(alloc, &[]) else {
-        return Err(AllocError);
-    };
-    let mut tables = Tables::new(alloc, config.limits, scopes);
-    put_users(&mut tables, config.users.as_slice(), now)?;
-    put_groups(alloc, &mut tables, config.groups.as_slice())?;
-    put_services(alloc, &mut tables, config.services.as_slice())?;
-    put_roles(alloc, &mut tables, config.roles.as_slice())?;
-    put_tokens(alloc, &mut tables, config.tokens.as_slice(), now)?;
-    Ok(tables)
+    let mut tables = empty_tables(alloc, config.limits)?;
+    put_rows(alloc, &mut tables, config, now).and(Ok(tables))
 }
 
 /// The first kind that has more rows than its limit, and this limit.
@@ -347,24 +373,37 @@ fn copy_target(alloc: Global, target: &Option<Target>) -> Result<Option<Target>,
     }
 }
 
-/// The state of the configuration.
-fn machine_of(alloc: Global, config: &HubConfig, now: Moment) -> Result<Machine, OpenError>
+/// The state of the configuration, however many rows it has.
+fn machine_of(alloc: Global, config: &HubConfig, now: Moment) -> Result<Machine, AllocError>
+    requires { config.now.limits.trail_bytes ≤ 2 ^ 62 }
+    ensures { IfOk result (λ hub. hub ≡ spec.opened config.now now) }
+{
+    let pool = copy_targets(alloc, config.pool.as_slice())?;
+    let hub_url = copy_target(alloc, &config.hub_url)?;
+    let tables = tables_of(alloc, config, now)?;
+    Ok(Machine::opening(alloc, tables, pool, hub_url, config.no_trail))
+}
+
+/// The state of the configuration, where no kind has more rows than its limit.
+fn machine_within_limits(
+    alloc: Global,
+    config: &HubConfig,
+    now: Moment,
+) -> Result<Machine, OpenError>
     requires { config.now.limits.trail_bytes ≤ 2 ^ 62 }
     ensures { spec.IsMade config.now now result }
 {
-    let Ok(tables) = tables_of(alloc, config, now) else {
+    let Ok(machine) = machine_of(alloc, config, now) else {
         return Err(OpenError::Memory);
     };
-    if let Some((kind, limit)) = first_full(&tables) {
-        return Err(OpenError::Full { kind, limit });
+    match first_full(machine.tables()) {
+        None => Ok(machine),
+        Some((kind, limit)) => {
+            // in one call, since it has many parts
+            drop(machine);
+            Err(OpenError::Full { kind, limit })
+        }
     }
-    let Ok(pool) = copy_targets(alloc, config.pool.as_slice()) else {
-        return Err(OpenError::Memory);
-    };
-    let Ok(hub_url) = copy_target(alloc, &config.hub_url) else {
-        return Err(OpenError::Memory);
-    };
-    Ok(Machine::opening(alloc, tables, pool, hub_url, config.no_trail))
 }
 
 // ---- the keeper's rows
@@ -468,6 +507,20 @@ fn commit<K: Keeper>(alloc: Global, keeper: &mut K, rows: &[RowChange]) -> Resul
     }
 }
 
+/// Has the keeper keep the rows of tables that have those of a configuration alone.
+fn keep_rows<K: Keeper>(alloc: Global, keeper: &mut K, tables: &Tables) -> Result<(), OpenError>
+    ensures keeps { OnOk result (K.Tells keeper.new → (before : State) → Keeps (K.rows keeper.old) before → Keeps (K.rows keeper.new) (change_done (spec.rows_in tables.now) before)) }
+    ensures own { OnOk result (AreOwn tables.now) }
+    ensures err { IfErr result (spec.IsUnkept (K.faults keeper.old) (K.faults keeper.new)) }
+    ensures told { K.Tells keeper.new → K.Tells keeper.old }
+    ensures counted { K.faults keeper.old ≤ K.faults keeper.new }
+{
+    let Ok(rows) = rows_in(alloc, tables) else {
+        return Err(OpenError::Memory);
+    };
+    commit(alloc, keeper, rows.as_slice())
+}
+
 /// The state of the configuration, whose rows are all that the keeper keeps from now on.
 pub fn open_machine<K: Keeper>(
     alloc: Global,
@@ -483,10 +536,6 @@ pub fn open_machine<K: Keeper>(
     ensures counted { K.faults keeper.old ≤ K.faults keeper.new }
 {
     read_rows(keeper)?;
-    let machine = machine_of(alloc, config, now)?;
-    let Ok(rows) = rows_in(alloc, machine.tables()) else {
-        return Err(OpenError::Memory);
-    };
-    commit(alloc, keeper, rows.as_slice())?;
-    Ok(machine)
+    let machine = machine_within_limits(alloc, config, now)?;
+    keep_rows(alloc, keeper, machine.tables()).and(Ok(machine))
 }

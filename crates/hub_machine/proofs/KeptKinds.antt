@@ -1,13 +1,13 @@
 -- What a keeper has of one kind, after a row of it is put or removed.
 use Rattle.std.proofs.Common.{◌≡◌, ℕ, Bool, true, false, cond, ◌&&◌, ◌==◌, List, Some, None, inl, inr, refl, sym, ap, subst, ◌∙◌}
 use Rattle.std.specs.Cmp.{IsTotalOrder}
-use Rattle.std.specs.FinMap.{FinMap, get, insert, remove, IsAntisymmetric}
+use Rattle.std.specs.FinMap.{FinMap, insert, remove, IsAntisymmetric}
 use Rattle.std.specs.Prelude.{Option, bytes_eq}
 use Rattle.std.specs.declared.cmp.Ordering.{Ordering}
 use Rattle.serde_json.specs.Data.{Data}
 use Rattle.serde_json.specs.Written.{compact_text}
 use Rattle.keyed_rows.proofs.Finite.{insert_same, insert_other, insert_cases, remove_other, remove_cases}
-use Rattle.keeper.specs.Rows.{Rows, AreSame, is_at, with_text}
+use Rattle.keeper.specs.Rows.{Rows, is_at, with_text}
 use Rattle.keeper.proofs.Places.{at_same, at_itself}
 use Rattle.hub_machine.specs.KeptRows.{HasName, KeepsKind}
 

@@ -1,5 +1,6 @@
 pub mod Bounds
 pub mod Carrying
+pub mod Entered
 pub mod Passed
 pub mod KeptKinds
 pub mod KeptChanges

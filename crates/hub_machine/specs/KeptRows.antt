@@ -1,5 +1,5 @@
 -- A keeper has exactly the rows of the tables.
-use Rattle.std.specs.Prelude.{◌≡◌, ℕ, Bool, false, ◌&&◌, nat_le, List, decimal, Option, Some, None}
+use Rattle.std.specs.Prelude.{◌≡◌, ℕ, Bool, false, ◌&&◌, nat_le, List, decimal, Some, None}
 use Rattle.std.specs.FinMap.{FinMap, get}
 use Rattle.std.specs.declared.cmp.Ordering.{Ordering}
 use Rattle.serde_json.specs.Data.{Data}

@@ -1,5 +1,5 @@
 //! Changes of the tables, done with a way back.
-ghost use Rattle.std.specs.Prelude.{◌≡◌, ◌≤◌, true, false, All, reverse, OnOk, OnErr, IfOk, Ok};
+ghost use Rattle.std.specs.Prelude.{◌≡◌, ◌≤◌, true, false, reverse, OnOk, OnErr, IfOk, Ok};
 ghost use Rattle.hub_devices.specs.Faults.{Rises};
 ghost use Rattle.hub_tables.specs.Changes.{row_done, rows_done, puts_of, removals_of};
 ghost use Rattle.hub_tables.specs.Changes as changes;
@@ -91,37 +91,49 @@ fn go_back(tables: &mut Tables, back: RowChange)
     }
 }
 
-/// The puts among the rows, copied.
-fn copied_puts(alloc: Global, rows: &[RowChange]) -> Result<Vec<RowChange>, AllocError>
-    ensures { IfOk result (λ puts. puts.items ≡ puts_of rows.now) }
+/// Writes down the way back of a put that is still to be done.
+fn log_back(
+    alloc: Global,
+    tables: &Tables,
+    row: &RowChange,
+    log: &mut Vec<RowChange>,
+) -> Result<(), AllocError>
+    requires { IsPlainPut row.now }
+    ensures ok { OnOk result (OneMore tables.now (row_done row.now tables.now) log.old.items log.new.items) }
+    ensures err { OnErr result (log.new.items ≡ log.old.items) }
 {
-    let mut puts = Vec::new(alloc);
-    for row in rows {
-        if is_put(row) {
-            puts.push(copy_put(alloc, row)?)?;
-        }
-    }
-    Ok(puts)
+    let back = way_back(tables, alloc, row)?;
+    log.push(back)?;
+    Ok(())
+}
+
+/// Does a put, of a copy of its row.
+fn put(alloc: Global, tables: &mut Tables, row: &RowChange) -> Result<(), AllocError>
+    requires { IsPlainPut row.now }
+    ensures ok { OnOk result (tables.new ≡ row_done row.now tables.old) }
+    ensures err { OnErr result (tables.new ≡ tables.old) }
+{
+    change(tables, copy_put(alloc, row)?)
 }
 
 /// Does a put, and writes down the way back.
 fn put_logged(
     alloc: Global,
     tables: &mut Tables,
-    row: RowChange,
+    row: &RowChange,
     log: &mut Vec<RowChange>,
 ) -> Result<(), AllocError>
-    requires { IsPlainPut row }
-    ensures ok { OnOk result ((tables.new ≡ row_done row tables.old) × OneMore tables.old tables.new log.old.items log.new.items) }
+    requires { IsPlainPut row.now }
+    ensures ok { OnOk result ((tables.new ≡ row_done row.now tables.old) × OneMore tables.old tables.new log.old.items log.new.items) }
     ensures err { OnErr result ((tables.new ≡ tables.old) × (log.new.items ≡ log.old.items)) }
 {
-    let back = way_back(tables, alloc, &row)?;
-    change(tables, row)?;
-    match log.push(back) {
+    let steps = log.len();
+    log_back(alloc, tables, row, log)?;
+    match put(alloc, tables, row) {
         Ok(()) => Ok(()),
-        Err(failed) => {
-            go_back(tables, failed.value);
-            Err(AllocError)
+        Err(error) => {
+            log.truncate(steps);
+            Err(error)
         }
     }
 }
@@ -136,23 +148,25 @@ fn undo(tables: &mut Tables, mut log: Vec<RowChange>)
     }
 }
 
-/// Does puts, and gives the way back; where there is no memory for one, none is done.
+/// Does the puts among the rows, and gives the way back; where there is no memory for one, none is done.
 fn stage(
     alloc: Global,
     tables: &mut Tables,
-    puts: Vec<RowChange>,
+    rows: &[RowChange],
 ) -> Result<Vec<RowChange>, AllocError>
-    requires { All IsPlainPut puts.items }
-    ensures ok { IfOk result (λ log. (tables.new ≡ rows_done puts.items tables.old) × LeadsBack log.items tables.new tables.old) }
+    requires { NoneHashed rows.now }
+    ensures ok { IfOk result (λ log. (tables.new ≡ rows_done (puts_of rows.now) tables.old) × LeadsBack log.items tables.new tables.old) }
     ensures err { OnErr result (tables.new ≡ tables.old) }
 {
     let mut log = Vec::new(alloc);
-    for row in puts {
-        match put_logged(alloc, tables, row, &mut log) {
-            Ok(()) => {}
-            Err(error) => {
-                undo(tables, log);
-                return Err(error);
+    for row in rows {
+        if is_put(row) {
+            match put_logged(alloc, tables, row, &mut log) {
+                Ok(()) => {}
+                Err(error) => {
+                    undo(tables, log);
+                    return Err(error);
+                }
             }
         }
     }
@@ -186,8 +200,7 @@ pub(crate) fn carry_out<K: Keeper>(
     ensures counted { K.faults keeper.old ≤ K.faults keeper.new }
     ensures cause { result ≡ Ok false → Rises (K.faults keeper.old) (K.faults keeper.new) }
 {
-    let puts = copied_puts(alloc, rows)?;
-    let steps_back = stage(alloc, tables, puts)?;
+    let steps_back = stage(alloc, tables, rows)?;
     match keeper.commit(batch) {
         Ok(()) => {
             settle(tables, rows);

@@ -49,12 +49,13 @@ module _ {K X : Type 0} (R : K → K → Ordering) (key : X → K) (p : X → Bo
 own_entries : {K X : Type 0} {R : K → K → Ordering} (o : IsTotalOrder R) (key : X → K) (m : BTreeMap K X) → IsOrdered R m → OwnKeys key (map_of R m) → AllByRecursion (λ e. key e.1 ≡ e.0) m.entries
 own_entries {R = R} o key m s own = recursion_from_All _ _ (All-weaker _ _ (λ e found. own e.0 e.1 (get_row o m e.0 ∙ found)) _ (All-found o m s))
 
--- the names that a scan over the groups gave, put in order
+-- the names of some groups in the order of their rows, put in order
 pub names_in_order : (p : Group → Bool) (m : BTreeMap (List ℕ) Group) → IsOrdered name_cmp m → OwnKeys (λ (g : Group). g.name) (map_of name_cmp m) → (names : List (List ℕ))
-    → names ≡ map (λ (g : Group). g.name) (filter p (tree.values m)) → in_order name_cmp names ≡ map (λ (g : Group). g.name) (filter p (values (map_of name_cmp m)))
+    → names ≡ map (λ (g : Group). g.name) (filter p (values (map_of name_cmp m))) → in_order name_cmp names ≡ map (λ (g : Group). g.name) (filter p (values (map_of name_cmp m)))
 names_in_order p m s own names is =
-    let scanned : List (List ℕ) = map (λ (g : Group). g.name) (filter p (tree.values m)) in
+    let walked : List (List ℕ) = map (λ (g : Group). g.name) (filter p (tree.values m)) in
+    let rows = ap (λ gs. map (λ (g : Group). g.name) (filter p gs)) (values_row nat_list_cmp_total m s) in
     let rise = keys_rise name_cmp (λ (g : Group). g.name) p m.entries s (own_entries nat_list_cmp_total (λ (g : Group). g.name) m s own) in
-    ap (in_order name_cmp) is
-    ∙ same_keys nat_list_cmp_total names_exact (in_order name_cmp scanned) scanned (sorted_in_order nat_list_cmp_total names_exact scanned) rise (λ q. among_in_order nat_list_cmp_total names_exact q scanned)
-    ∙ ap (λ rows. map (λ (g : Group). g.name) (filter p rows)) (sym (values_row nat_list_cmp_total m s))
+    ap (in_order name_cmp) (is ∙ rows)
+    ∙ same_keys nat_list_cmp_total names_exact (in_order name_cmp walked) walked (sorted_in_order nat_list_cmp_total names_exact walked) rise (λ q. among_in_order nat_list_cmp_total names_exact q walked)
+    ∙ sym rows

@@ -1,11 +1,11 @@
 -- A change of one kind of rows leaves what is true of the others.
-use Rattle.std.proofs.Common.{◌≡◌, sym, ap, [], Option, Some, None, IfSome}
+use Rattle.std.proofs.Common.{◌≡◌, refl, sym, ap, ℕ, List, [], Option, Some, None, IfSome}
 use Rattle.std.specs.Option.{option_copied}
 use Rattle.std.specs.Borrow.{Bor}
 use Rattle.std.specs.Ordering.{nat_cmp}
 use Rattle.std.specs.Cmp.{IsTotalOrder, nat_cmp_total}
 use Rattle.std.specs.Cmp.Lexicographic.{nat_list_cmp_total}
-use Rattle.std.specs.FinMap.{from_entries, IsAntisymmetric, nat_cmp-IsAntisymmetric}
+use Rattle.std.specs.FinMap.{FinMap, empty, from_entries, IsAntisymmetric, nat_cmp-IsAntisymmetric}
 use Rattle.std.specs.BTreeMap.{BTreeMap}
 use Rattle.std.specs.declared.cmp.Ordering.{Ordering}
 use Rattle.hub_kit.specs.KeyOrder.{name_cmp, key_exact}
@@ -14,10 +14,15 @@ use Rattle.keyed_rows.specs.Rows.{map_of, OwnKeys}
 use Rattle.keyed_rows.proofs.Finite.{own_empty}
 use Rattle.hub_rows.specs.contracts.keys.ShareKeyOrd.TheImpl.Laws as share_key
 use Rattle.hub_tables.specs.declared.trees.Trees.{Trees}
-use Rattle.hub_tables.specs.Empty.{AreEmpty}
+use Rattle.hub_tables.specs.Empty.{AreEmpty, IsEmptyIndex}
+use Rattle.hub_rows.specs.declared.records.Group.{Group}
+use Rattle.hub_rows.specs.declared.records.Role.{Role}
 use Rattle.hub_rows.specs.ShareOrder.{names_exact, share_cmp, share_exact}
 use Rattle.row_indexes.specs.Owned.{owned_cmp}
+use Rattle.row_indexes.specs.Members.{TellsMembers}
+use Rattle.row_indexes.specs.declared.owned.OwnedKey.{OwnedKey}
 use Rattle.row_indexes.proofs.Indexed.{empty_index}
+use Rattle.row_indexes.proofs.MemberKeys.{empty_members}
 use Rattle.hub_tables.specs.Parties.{party_cmp, is_token_of, is_share_of}
 use Rattle.hub_tables.proofs.Indexed.{empty_indexed}
 use Rattle.hub_tables.specs.Kept.{Kind, IsKept, Users, Groups, Services, Roles, Tokens, Servers, Leases, Shares, Codes, Clients, GrantCodes, Nexts}
@@ -28,11 +33,27 @@ AreKept t = (kind : Kind) → IsKept t kind
 no_rows : {K X : Type 0} {R : K → K → Ordering} (o : IsTotalOrder R) (exact : IsAntisymmetric R) (key : X → K) (m : BTreeMap K X) → m.entries ≡ [] → OwnKeys key (map_of R m)
 no_rows {R = R} o exact key m e = own_empty o exact key _ (ap (from_entries {R = R}) e)
 
+no_members : {X : Type 0} (members_of : X → List (List ℕ)) (rows : FinMap name_cmp X) (index : Option (BTreeMap (OwnedKey (List ℕ) (List ℕ)) (Unit {0}))) → rows ≡ empty → IsEmptyIndex index
+    → TellsMembers name_cmp name_cmp members_of rows index
+no_members members_of rows None e i = tt
+no_members members_of rows (Some index) e i = empty_members name_cmp name_cmp members_of rows (Some index) index e refl (ap (from_entries {R = owned_cmp name_cmp name_cmp}) i)
+
 pub empty_kept : (t : Trees) → AreEmpty t → AreKept t
 empty_kept t e Users = no_rows nat_list_cmp_total names_exact _ t.users e.users
-empty_kept t e Groups = no_rows nat_list_cmp_total names_exact _ t.groups e.groups
+empty_kept t e Groups = record {
+  own = no_rows nat_list_cmp_total names_exact _ t.groups e.groups;
+  ordered = e.groups_ordered;
+  told = no_members (λ (g : Group). g.users) _ _ (ap (from_entries {R = name_cmp}) e.groups) e.group_users;
+}
 empty_kept t e Services = no_rows nat_list_cmp_total names_exact _ t.services e.services
-empty_kept t e Roles = no_rows nat_list_cmp_total names_exact _ t.roles e.roles
+empty_kept t e Roles = let none = ap (from_entries {R = name_cmp}) e.roles in record {
+  own = no_rows nat_list_cmp_total names_exact _ t.roles e.roles;
+  told = record {
+    users = no_members (λ (r : Role). r.users) _ _ none e.role_indexes.users;
+    groups = no_members (λ (r : Role). r.groups) _ _ none e.role_indexes.groups;
+    services = no_members (λ (r : Role). r.services) _ _ none e.role_indexes.services;
+  };
+}
 empty_kept t e Tokens = record {
   own = no_rows nat_cmp_total nat_cmp-IsAntisymmetric _ t.tokens e.tokens;
   ordered = e.tokens_ordered;
@@ -63,17 +84,17 @@ pub users_kept : (t : Trees) (rows : _) → AreKept t → IsKept (record t { use
 users_kept t rows kept own Users = own
 users_kept t rows kept own kind = kept kind
 
-pub groups_kept : (t : Trees) (rows : _) → AreKept t → IsKept (record t { groups = rows }) Groups → AreKept (record t { groups = rows })
-groups_kept t rows kept own Groups = own
-groups_kept t rows kept own kind = kept kind
+pub groups_kept : (t : Trees) (rows users : _) → AreKept t → IsKept (record t { groups = rows; group_users = users }) Groups → AreKept (record t { groups = rows; group_users = users })
+groups_kept t rows users kept own Groups = own
+groups_kept t rows users kept own kind = kept kind
 
 pub services_kept : (t : Trees) (rows : _) → AreKept t → IsKept (record t { services = rows }) Services → AreKept (record t { services = rows })
 services_kept t rows kept own Services = own
 services_kept t rows kept own kind = kept kind
 
-pub roles_kept : (t : Trees) (rows : _) → AreKept t → IsKept (record t { roles = rows }) Roles → AreKept (record t { roles = rows })
-roles_kept t rows kept own Roles = own
-roles_kept t rows kept own kind = kept kind
+pub roles_kept : (t : Trees) (rows indexes : _) → AreKept t → IsKept (record t { roles = rows; role_indexes = indexes }) Roles → AreKept (record t { roles = rows; role_indexes = indexes })
+roles_kept t rows indexes kept own Roles = own
+roles_kept t rows indexes kept own kind = kept kind
 
 pub servers_kept : (t : Trees) (rows : _) → AreKept t → IsKept (record t { servers = rows }) Servers → AreKept (record t { servers = rows })
 servers_kept t rows kept own Servers = own

@@ -2,4 +2,5 @@ pub mod Fresh
 pub mod GroupNames
 pub mod Indexed
 pub mod Kept
+mod MemberRows
 pub mod Owners

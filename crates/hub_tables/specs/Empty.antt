@@ -1,14 +1,29 @@
 -- Trees with no rows.
-use Rattle.std.specs.Prelude.{◌≡◌, []}
+use Rattle.std.specs.Prelude.{◌≡◌, [], Option, Some, None}
 use Rattle.std.specs.Ordering.{nat_cmp}
-use Rattle.std.specs.BTreeMap.{IsOrdered}
+use Rattle.std.specs.BTreeMap.{BTreeMap, IsOrdered}
+use Rattle.hub_tables.specs.declared.memberships.RoleIndexes.{RoleIndexes}
+use Rattle.hub_kit.specs.KeyOrder.{name_cmp}
 use Rattle.hub_tables.specs.declared.trees.Trees.{Trees}
+
+-- an index with no entries, which wasn't given up
+abbrev pub IsEmptyIndex : {K X : Type 0} → Option (BTreeMap K X) → Type 0
+IsEmptyIndex None = ⊥
+IsEmptyIndex (Some index) = index.entries ≡ []
+
+pub record AreEmptyIndexes (indexes : RoleIndexes) : Type 0 where
+  pub users : IsEmptyIndex indexes.users
+  pub groups : IsEmptyIndex indexes.groups
+  pub services : IsEmptyIndex indexes.services
 
 pub record AreEmpty (t : Trees) : Type 0 where
   pub users : t.users.entries ≡ []
   pub groups : t.groups.entries ≡ []
+  pub groups_ordered : IsOrdered name_cmp t.groups
+  pub group_users : IsEmptyIndex t.group_users
   pub services : t.services.entries ≡ []
   pub roles : t.roles.entries ≡ []
+  pub role_indexes : AreEmptyIndexes t.role_indexes
   pub tokens : t.tokens.entries ≡ []
   pub tokens_ordered : IsOrdered nat_cmp t.tokens
   pub token_ids : t.token_ids.entries ≡ []

@@ -1,5 +1,5 @@
 -- The trees behind the tables: which state they hold, and what is always true of them.
-use Rattle.std.specs.Prelude.{ℕ, List}
+use Rattle.std.specs.Prelude.{ℕ, List, Option}
 use Rattle.std.specs.Ordering.{nat_cmp}
 use Rattle.std.specs.BTreeMap.{BTreeMap, IsOrdered}
 use Rattle.hub_kit.specs.KeyOrder.{name_cmp, key_cmp}
@@ -7,8 +7,12 @@ use Rattle.keyed_rows.specs.Rows.{map_of, OwnKeys}
 use Rattle.scope_names.specs.declared.custom.CustomRow.{CustomRow}
 use Rattle.hub_rows.specs.declared.limits.Limits.{Limits}
 use Rattle.hub_tables.specs.declared.trees.Trees.{Trees}
+use Rattle.hub_tables.specs.declared.memberships.RoleIndexes.{RoleIndexes}
 use Rattle.hub_tables.specs.Hashes.{IsIndexed}
+use Rattle.hub_tables.specs.MemberIndexes.{TellsGroups, TellsRoles}
 use Rattle.hub_rows.specs.ShareOrder.{share_cmp}
+use Rattle.hub_rows.specs.declared.records.Group.{Group}
+use Rattle.hub_rows.specs.declared.records.Role.{Role}
 use Rattle.hub_rows.specs.declared.records.Share.{Share}
 use Rattle.hub_rows.specs.declared.records.Token.{Token}
 use Rattle.hub_rows.specs.declared.keys.ShareKey.{ShareKey}
@@ -50,6 +54,17 @@ pub record AreTokensKept (rows : BTreeMap ℕ Token) (ids : BTreeMap (List ℕ) 
   pub indexed : IsIndexed (λ (row : Token). row.hash) (map_of nat_cmp rows) (map_of name_cmp ids)
   pub owned : IsIndex party_cmp nat_cmp is_token_of (map_of nat_cmp rows) (map_of (owned_cmp party_cmp nat_cmp) owners)
 
+-- groups under their names, with an index of their members
+pub record AreGroupsKept (rows : BTreeMap (List ℕ) Group) (users : Option (BTreeMap (OwnedKey (List ℕ) (List ℕ)) (Unit {0}))) : Type 0 where
+  pub own : OwnKeys (λ (row : Group). row.name) (map_of name_cmp rows)
+  pub ordered : IsOrdered name_cmp rows
+  pub told : TellsGroups (map_of name_cmp rows) users
+
+-- roles under their names, with indexes of those that they name
+pub record AreRolesKept (rows : BTreeMap (List ℕ) Role) (indexes : RoleIndexes) : Type 0 where
+  pub own : OwnKeys (λ (row : Role). row.name) (map_of name_cmp rows)
+  pub told : TellsRoles (map_of name_cmp rows) indexes
+
 -- shares under their keys, with an index of their parties
 pub record AreSharesKept (rows : BTreeMap ShareKey Share) (parties : BTreeMap (OwnedKey Party ShareKey) (Unit {0})) : Type 0 where
   pub own : OwnKeys (λ (row : Share). row.key) (map_of share_cmp rows)
@@ -69,12 +84,12 @@ pub data Kind : Type 0 where
   GrantCodes : Kind
   Nexts : Kind
 
--- each row of the kind stands under its own key, those with a hash are found by it, and tokens and shares by their owners and parties
+-- each row of the kind stands under its own key, those with a hash are found by it, tokens and shares by their owners and parties, and groups and roles by their members
 abbrev pub IsKept : Trees → Kind → Type 0
 IsKept t Users = OwnKeys {R = name_cmp} (λ row. row.name) (map_of name_cmp t.users)
-IsKept t Groups = OwnKeys {R = name_cmp} (λ row. row.name) (map_of name_cmp t.groups)
+IsKept t Groups = AreGroupsKept t.groups t.group_users
 IsKept t Services = OwnKeys {R = name_cmp} (λ row. row.name) (map_of name_cmp t.services)
-IsKept t Roles = OwnKeys {R = name_cmp} (λ row. row.name) (map_of name_cmp t.roles)
+IsKept t Roles = AreRolesKept t.roles t.role_indexes
 IsKept t Tokens = AreTokensKept t.tokens t.token_ids t.token_owners
 IsKept t Servers = OwnKeys {R = key_cmp} (λ row. row.key) (map_of key_cmp t.servers)
 IsKept t Leases = OwnKeys {R = name_cmp} (λ row. row.target) (map_of name_cmp t.leases)

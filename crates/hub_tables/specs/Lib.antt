@@ -3,6 +3,7 @@ pub mod Empty
 pub mod Hashes
 pub mod Kept
 pub mod Lookups
+pub mod MemberIndexes
 pub mod Memberships
 pub mod Own
 pub mod Parties

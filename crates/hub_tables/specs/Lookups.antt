@@ -16,6 +16,7 @@ use Rattle.hub_rows.specs.declared.records.Share.{Share}
 use Rattle.hub_rows.specs.declared.records.Token.{Token}
 use Rattle.hub_rows.specs.declared.records.User.{User}
 use Rattle.hub_rows.specs.declared.records.Group.{Group}
+use Rattle.hub_rows.specs.declared.records.Role.{Role}
 use Rattle.hub_rows.specs.declared.records.Next.{Next}
 use Rattle.hub_tables.specs.Memberships.{members_of}
 use Rattle.hub_tables.specs.State.{State}
@@ -33,6 +34,16 @@ is_member s user group = is_among name_cmp user (members_of s.groups group)
 -- the names of the groups that a user is in, in their order
 abbrev pub groups_of : State → (user : List ℕ) → List (List ℕ)
 groups_of s user = map (λ (g : Group). g.name) (filter (λ (g : Group). is_among name_cmp user g.users) (values s.groups))
+
+-- the names of the roles that name a user, a group or a service, in their order
+abbrev pub roles_naming_user : State → (user : List ℕ) → List (List ℕ)
+roles_naming_user s user = map (λ (r : Role). r.name) (filter (λ (r : Role). is_among name_cmp user r.users) (values s.roles))
+
+abbrev pub roles_naming_group : State → (group : List ℕ) → List (List ℕ)
+roles_naming_group s group = map (λ (r : Role). r.name) (filter (λ (r : Role). is_among name_cmp group r.groups) (values s.roles))
+
+abbrev pub roles_naming_service : State → (service : List ℕ) → List (List ℕ)
+roles_naming_service s service = map (λ (r : Role). r.name) (filter (λ (r : Role). is_among name_cmp service r.services) (values s.roles))
 
 abbrev pub number_of : Option Next → ℕ
 number_of None = 1

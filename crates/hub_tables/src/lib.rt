@@ -4,6 +4,7 @@
 #![tactic(auto)]
 
 mod hashed;
+mod memberships;
 mod owned;
 mod parties;
 pub mod tables;

@@ -1,6 +1,7 @@
 //! The trees behind the tables.
 ghost use Rattle.hub_tables.specs.Empty.{AreEmpty};
 
+use crate::memberships::RoleIndexes;
 use crate::owned::Parties;
 use hub_kit::names::{GroupName, RoleName, ServerKey, ServiceName, UserName};
 use hub_kit::target::Target;
@@ -10,17 +11,20 @@ use hub_rows::records::{
     Group, Lease, Next, OAuthClient, OAuthCode, Role, ServerRow, Service, Share, ShareCode, Token,
     User,
 };
+use row_indexes::members::MemberIndex;
 use std::alloc::Global;
 use std::collections::BTreeMap;
 
-/// The rows of each kind under their keys, the ids of tokens and share codes under their hashes, and the keys of tokens and shares
-/// under their owners and parties.
+/// The rows of each kind under their keys, the ids of tokens and share codes under their hashes, the keys of tokens and shares
+/// under their owners and parties, and the names of groups and roles under their members.
 #[derive(Drop)]
 pub(crate) struct Trees {
     pub users: BTreeMap<UserName, User>,
     pub groups: BTreeMap<GroupName, Group>,
+    pub group_users: MemberIndex<UserName, GroupName>,
     pub services: BTreeMap<ServiceName, Service>,
     pub roles: BTreeMap<RoleName, Role>,
+    pub role_indexes: RoleIndexes,
     pub tokens: BTreeMap<u64, Token>,
     pub token_ids: BTreeMap<Text, u64>,
     pub token_owners: Parties<u64>,
@@ -43,8 +47,10 @@ impl Trees {
         Trees {
             users: BTreeMap::new(alloc),
             groups: BTreeMap::new(alloc),
+            group_users: Some(BTreeMap::new(alloc)),
             services: BTreeMap::new(alloc),
             roles: BTreeMap::new(alloc),
+            role_indexes: RoleIndexes::new(alloc),
             tokens: BTreeMap::new(alloc),
             token_ids: BTreeMap::new(alloc),
             token_owners: BTreeMap::new(alloc),

@@ -1,3 +1,5 @@
 mod Calendar
 pub mod Chains
+pub mod Items
 pub mod PageLaws
+pub mod Tokens

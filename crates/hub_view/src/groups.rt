@@ -5,8 +5,7 @@ ghost use Rattle.hub_view.specs.Body.{body_tokens, members};
 ghost use Rattle.hub_view.specs.Fields as spec;
 
 use crate::body::Body;
-use crate::members::{add_member, line};
-use crate::parts::names;
+use crate::fields::{add_line, add_names};
 use hub_kit::names::{RoleName, ServiceName};
 use hub_kit::text::Text;
 use hub_rows::records::Group;
@@ -33,28 +32,10 @@ pub fn group_body<M: Members>(
     let with_roles = admits(rights, Action::ReadRolesGroups, &object, m);
     let whole = admits(rights, Action::ReadGroups, &object, m);
     let mut fields = Vec::new(alloc);
-    add_member(alloc, &mut fields, named, "kind", line(alloc, "group")?)?;
-    add_member(
-        alloc,
-        &mut fields,
-        named,
-        "name",
-        line(alloc, group.name.as_str())?,
-    )?;
-    add_member(
-        alloc,
-        &mut fields,
-        with_roles,
-        "roles",
-        names(alloc, roles)?,
-    )?;
-    add_member(
-        alloc,
-        &mut fields,
-        whole,
-        "users",
-        names(alloc, group.users.as_slice())?,
-    )?;
+    add_line(alloc, &mut fields, named, "kind", "group")?;
+    add_line(alloc, &mut fields, named, "name", group.name.as_str())?;
+    add_names(alloc, &mut fields, with_roles, "roles", roles)?;
+    add_names(alloc, &mut fields, whole, "users", group.users.as_slice())?;
     Ok(Body::Pairs(fields))
 }
 
@@ -89,7 +70,7 @@ pub fn add_service<M: Members>(
     let object = Object::Service(*service);
     let named = named || admits(rights, Action::ReadServicesName, &object, m);
     let with_roles = admits(rights, Action::ReadRolesServices, &object, m);
-    add_member(alloc, fields, named, "kind", line(alloc, "service")?)?;
-    add_member(alloc, fields, named, "name", line(alloc, service.as_str())?)?;
-    add_member(alloc, fields, with_roles, "roles", names(alloc, roles)?)
+    add_line(alloc, fields, named, "kind", "service")?;
+    add_line(alloc, fields, named, "name", service.as_str())?;
+    add_names(alloc, fields, with_roles, "roles", roles)
 }

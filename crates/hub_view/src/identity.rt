@@ -6,9 +6,9 @@ ghost use Rattle.hub_view.specs.Fields as spec;
 
 use crate::body::Body;
 use crate::facts::UserFacts;
+use crate::fields::add_scopes;
 use crate::groups::add_service;
 use crate::members::add_member;
-use crate::parts::scopes;
 use crate::users::{add_servers, add_user};
 use hub_kit::names::{RoleName, ServerKey, ServiceName};
 use hub_kit::text::Text;
@@ -34,13 +34,7 @@ pub fn user_identity<M: Members>(
 {
     let mut fields = access(alloc, m, rights, server)?;
     add_user(alloc, m, rights, &mut fields, true, facts)?;
-    add_member(
-        alloc,
-        &mut fields,
-        true,
-        "scopes",
-        scopes(alloc, token_scopes)?,
-    )?;
+    add_scopes(alloc, &mut fields, true, "scopes", token_scopes)?;
     add_servers(alloc, m, rights, &mut fields, facts)?;
     Ok(Body::Pairs(fields))
 }
@@ -59,13 +53,7 @@ pub fn service_identity<M: Members>(
 {
     let mut fields = access(alloc, m, rights, server)?;
     add_service(alloc, m, rights, &mut fields, true, service, roles)?;
-    add_member(
-        alloc,
-        &mut fields,
-        true,
-        "scopes",
-        scopes(alloc, token_scopes)?,
-    )?;
+    add_scopes(alloc, &mut fields, true, "scopes", token_scopes)?;
     Ok(Body::Pairs(fields))
 }
 

@@ -5,6 +5,7 @@
 
 mod body;
 mod facts;
+mod fields;
 mod groups;
 mod identity;
 mod listing;
@@ -22,7 +23,7 @@ pub use facts::{ServerFacts, UserFacts};
 pub use groups::{group_body, service_body};
 pub use identity::{service_identity, user_identity};
 pub use listing::Listing;
-pub use members::{add_member, line, lines, message_body};
+pub use members::{add_member, line, message_body};
 pub use moments::moment_text;
 pub use pages::{Page, page_body};
 pub use records::{code_body, new_code_body, new_token_body, role_body, share_body, token_body};

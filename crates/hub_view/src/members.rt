@@ -1,8 +1,8 @@
 //! Parts of bodies: texts, lists of texts, and objects whose members stand there where they are shown.
-ghost use Rattle.std.specs.Prelude.{◌≡◌, ◌++◌, map, OnOk, OnErr, IfOk};
+ghost use Rattle.std.specs.Prelude.{◌≡◌, ◌++◌, OnOk, OnErr, IfOk};
 ghost use Rattle.hub_view.specs.Json.{member};
 ghost use Rattle.hub_view.specs.Json as json;
-ghost use Rattle.hub_view.specs.Body.{body_tokens, bodies, members};
+ghost use Rattle.hub_view.specs.Body.{body_tokens, members};
 
 use crate::body::Body;
 use hub_kit::text::Text;
@@ -13,17 +13,6 @@ pub fn line(alloc: Global, text: &str) -> Result<Body, AllocError>
     ensures { IfOk result (λ body. body_tokens body ≡ json.line text.now) }
 {
     Ok(Body::Line(Text::from_str(alloc, text)?))
-}
-
-/// Texts as a list.
-pub fn lines(alloc: Global, texts: &[&str]) -> Result<Body, AllocError>
-    ensures { IfOk result (λ body. body_tokens body ≡ json.lines (map (λ text. text.now) texts.now)) }
-{
-    let mut items = Vec::new(alloc);
-    for text in texts {
-        items.push(line(alloc, text)?)?;
-    }
-    Ok(Body::Items(items))
 }
 
 /// Adds a member where it is shown. Keys have to come in the order of their bytes.

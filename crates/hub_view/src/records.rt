@@ -1,11 +1,12 @@
 //! Tokens, roles, shares and share codes, which are shown with all their fields.
-ghost use Rattle.std.specs.Prelude.{◌≡◌, IfOk};
+ghost use Rattle.std.specs.Prelude.{◌≡◌, ◌++◌, OnOk, IfOk};
 ghost use Rattle.hub_view.specs.Body.{body_tokens, members};
 ghost use Rattle.hub_view.specs.Records as spec;
 
 use crate::body::Body;
+use crate::fields::{add_line, add_moment, add_moment_or_null, add_names, add_scopes};
 use crate::members::{add_member, line};
-use crate::parts::{digits, key_line, line_or_null, moment, moment_or_null, names, scopes};
+use crate::parts::{digits, key_line, line_or_null};
 use hub_kit::text::Text;
 use hub_rows::keys::Recipient;
 use hub_rows::records::{Role, Share, ShareCode, Token};
@@ -16,7 +17,8 @@ use std::alloc::{AllocError, Global};
 pub fn token_body(alloc: Global, token: &Token) -> Result<Body, AllocError>
     ensures { IfOk result (λ body. body_tokens body ≡ spec.token_body token.now) }
 {
-    let mut fields = token_fields(alloc, token)?;
+    let mut fields = Vec::new(alloc);
+    add_token(alloc, &mut fields, token)?;
     add_member(
         alloc,
         &mut fields,
@@ -31,8 +33,9 @@ pub fn token_body(alloc: Global, token: &Token) -> Result<Body, AllocError>
 pub fn new_token_body(alloc: Global, token: &Token, text: &str) -> Result<Body, AllocError>
     ensures { IfOk result (λ body. body_tokens body ≡ spec.new_token_body token.now text.now) }
 {
-    let mut fields = token_fields(alloc, token)?;
-    add_member(alloc, &mut fields, true, "token", line(alloc, text)?)?;
+    let mut fields = Vec::new(alloc);
+    add_token(alloc, &mut fields, token)?;
+    add_line(alloc, &mut fields, true, "token", text)?;
     add_member(
         alloc,
         &mut fields,
@@ -43,50 +46,23 @@ pub fn new_token_body(alloc: Global, token: &Token, text: &str) -> Result<Body, 
     Ok(Body::Pairs(fields))
 }
 
-/// The fields up to the scopes.
-#[tactic(auto, unfolding(crate::specs::Records::token_members))]
-fn token_fields(alloc: Global, token: &Token) -> Result<Vec<(Text, Body)>, AllocError>
-    ensures { IfOk result (λ fields. members fields.items ≡ spec.token_members token.now) }
+/// Adds the fields of a token up to the scopes.
+fn add_token(alloc: Global, fields: &mut Vec<(Text, Body)>, token: &Token) -> Result<(), AllocError>
+    ensures { OnOk result (members fields.new.items ≡ members fields.old.items ++ spec.token_members token.now) }
 {
-    let mut fields = Vec::new(alloc);
+    add_moment(alloc, fields, true, "created", token.created)?;
+    add_moment_or_null(alloc, fields, true, "expires_at", token.expires_at)?;
+    add_member(alloc, fields, true, "id", digits(alloc, token.id)?)?;
+    add_line(alloc, fields, true, "kind", "api_token")?;
+    add_line(alloc, fields, true, "note", token.note.as_str())?;
     add_member(
         alloc,
-        &mut fields,
-        true,
-        "created",
-        moment(alloc, token.created)?,
-    )?;
-    add_member(
-        alloc,
-        &mut fields,
-        true,
-        "expires_at",
-        moment_or_null(alloc, token.expires_at)?,
-    )?;
-    add_member(alloc, &mut fields, true, "id", digits(alloc, token.id)?)?;
-    add_member(alloc, &mut fields, true, "kind", line(alloc, "api_token")?)?;
-    add_member(
-        alloc,
-        &mut fields,
-        true,
-        "note",
-        line(alloc, token.note.as_str())?,
-    )?;
-    add_member(
-        alloc,
-        &mut fields,
+        fields,
         true,
         "oauth_client",
         line_or_null(alloc, &token.client)?,
     )?;
-    add_member(
-        alloc,
-        &mut fields,
-        true,
-        "scopes",
-        scopes(alloc, token.scopes.as_slice())?,
-    )?;
-    Ok(fields)
+    add_scopes(alloc, fields, true, "scopes", token.scopes.as_slice())
 }
 
 fn user_of(alloc: Global, owner: &Owner) -> Result<Body, AllocError>
@@ -103,41 +79,17 @@ pub fn role_body(alloc: Global, role: &Role) -> Result<Body, AllocError>
     ensures { IfOk result (λ body. body_tokens body ≡ spec.role_body role.now) }
 {
     let mut fields = Vec::new(alloc);
-    add_member(
-        alloc,
-        &mut fields,
-        true,
-        "groups",
-        names(alloc, role.groups.as_slice())?,
-    )?;
-    add_member(
-        alloc,
-        &mut fields,
-        true,
-        "name",
-        line(alloc, role.name.as_str())?,
-    )?;
-    add_member(
-        alloc,
-        &mut fields,
-        true,
-        "scopes",
-        scopes(alloc, role.scopes.as_slice())?,
-    )?;
-    add_member(
+    add_names(alloc, &mut fields, true, "groups", role.groups.as_slice())?;
+    add_line(alloc, &mut fields, true, "name", role.name.as_str())?;
+    add_scopes(alloc, &mut fields, true, "scopes", role.scopes.as_slice())?;
+    add_names(
         alloc,
         &mut fields,
         true,
         "services",
-        names(alloc, role.services.as_slice())?,
+        role.services.as_slice(),
     )?;
-    add_member(
-        alloc,
-        &mut fields,
-        true,
-        "users",
-        names(alloc, role.users.as_slice())?,
-    )?;
+    add_names(alloc, &mut fields, true, "users", role.users.as_slice())?;
     Ok(Body::Pairs(fields))
 }
 
@@ -146,13 +98,7 @@ pub fn share_body(alloc: Global, share: &Share) -> Result<Body, AllocError>
     ensures { IfOk result (λ body. body_tokens body ≡ spec.share_body share.now) }
 {
     let mut fields = Vec::new(alloc);
-    add_member(
-        alloc,
-        &mut fields,
-        true,
-        "created",
-        moment(alloc, share.created)?,
-    )?;
+    add_moment(alloc, &mut fields, true, "created", share.created)?;
     add_member(
         alloc,
         &mut fields,
@@ -160,13 +106,7 @@ pub fn share_body(alloc: Global, share: &Share) -> Result<Body, AllocError>
         "group",
         group_to(alloc, &share.key.to)?,
     )?;
-    add_member(
-        alloc,
-        &mut fields,
-        true,
-        "scopes",
-        scopes(alloc, share.scopes.as_slice())?,
-    )?;
+    add_scopes(alloc, &mut fields, true, "scopes", share.scopes.as_slice())?;
     add_member(
         alloc,
         &mut fields,
@@ -206,52 +146,38 @@ fn user_to(alloc: Global, to: &Recipient) -> Result<Body, AllocError>
 pub fn code_body(alloc: Global, code: &ShareCode) -> Result<Body, AllocError>
     ensures { IfOk result (λ body. body_tokens body ≡ spec.code_body code.now) }
 {
-    Ok(Body::Pairs(code_fields(alloc, code)?))
+    let mut fields = Vec::new(alloc);
+    add_code(alloc, &mut fields, code)?;
+    Ok(Body::Pairs(fields))
 }
 
 /// The code that was just made, with its text.
 pub fn new_code_body(alloc: Global, code: &ShareCode, text: &str) -> Result<Body, AllocError>
     ensures { IfOk result (λ body. body_tokens body ≡ spec.new_code_body code.now text.now) }
 {
-    let mut fields = code_fields(alloc, code)?;
-    let key = Text::from_str(alloc, "code")?;
-    let value = line(alloc, text)?;
-    fields.insert(0, (key, value))?;
+    let mut fields = Vec::new(alloc);
+    add_line(alloc, &mut fields, true, "code", text)?;
+    add_code(alloc, &mut fields, code)?;
     Ok(Body::Pairs(fields))
 }
 
-fn code_fields(alloc: Global, code: &ShareCode) -> Result<Vec<(Text, Body)>, AllocError>
-    ensures { IfOk result (λ fields. members fields.items ≡ spec.code_members code.now) }
+/// Adds the fields of a share code.
+fn add_code(
+    alloc: Global,
+    fields: &mut Vec<(Text, Body)>,
+    code: &ShareCode,
+) -> Result<(), AllocError>
+    ensures { OnOk result (members fields.new.items ≡ members fields.old.items ++ spec.code_members code.now) }
 {
-    let mut fields = Vec::new(alloc);
+    add_moment(alloc, fields, true, "created", code.created)?;
+    add_moment(alloc, fields, true, "expires_at", code.expires_at)?;
+    add_member(alloc, fields, true, "id", digits(alloc, code.id)?)?;
+    add_scopes(alloc, fields, true, "scopes", code.scopes.as_slice())?;
     add_member(
         alloc,
-        &mut fields,
-        true,
-        "created",
-        moment(alloc, code.created)?,
-    )?;
-    add_member(
-        alloc,
-        &mut fields,
-        true,
-        "expires_at",
-        moment(alloc, code.expires_at)?,
-    )?;
-    add_member(alloc, &mut fields, true, "id", digits(alloc, code.id)?)?;
-    add_member(
-        alloc,
-        &mut fields,
-        true,
-        "scopes",
-        scopes(alloc, code.scopes.as_slice())?,
-    )?;
-    add_member(
-        alloc,
-        &mut fields,
+        fields,
         true,
         "server",
         key_line(alloc, &code.server)?,
-    )?;
-    Ok(fields)
+    )
 }

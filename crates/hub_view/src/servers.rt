@@ -1,12 +1,14 @@
 //! What is shown of a server.
 ghost use Rattle.std.specs.Prelude.{◌≡◌, ◌++◌, OnOk, IfOk};
 ghost use Rattle.hub_view.specs.Body.{body_tokens};
+ghost use Rattle.hub_view.specs.Json as json;
 ghost use Rattle.hub_view.specs.Servers as spec;
 
 use crate::body::Body;
 use crate::facts::ServerFacts;
+use crate::fields::{add_line, add_moment_or_null};
 use crate::members::{add_member, line};
-use crate::parts::moment_or_null;
+use crate::parts::truth;
 use hub_kit::names::ServerKey;
 use hub_kit::text::Text;
 use server_life::Phase;
@@ -36,6 +38,12 @@ fn pending(alloc: Global, phase: Phase) -> Result<Body, AllocError>
     }
 }
 
+fn url_line(alloc: Global, key: &ServerKey) -> Result<Body, AllocError>
+    ensures { IfOk result (λ body. body_tokens body ≡ json.line (spec.server_url key.now)) }
+{
+    Ok(Body::Line(server_url(alloc, key)?))
+}
+
 /// Where the server is entered: `/user/U/` for the default server, else `/user/U/S/`.
 fn server_url(alloc: Global, key: &ServerKey) -> Result<Text, AllocError>
     ensures { IfOk result (λ text. text ≡ spec.server_url key.now) }
@@ -62,20 +70,14 @@ fn push_server(url: &mut Text, server: &str) -> Result<(), AllocError>
 pub fn server_body(alloc: Global, server: &ServerFacts) -> Result<Body, AllocError>
     ensures { IfOk result (λ body. body_tokens body ≡ spec.server_body server.now) }
 {
-    let mut fields = Vec::new(alloc);
     let row = &server.row;
     let phase = server.life.phase;
-    let ready = Body::Truth(is_ready(phase));
-    let last_activity = moment_or_null(alloc, row.last_activity)?;
-    let started = moment_or_null(alloc, row.started)?;
-    let name = line(alloc, row.key.server.as_str())?;
-    let pending = pending(alloc, phase)?;
-    let url = Body::Line(server_url(alloc, &row.key)?);
-    add_member(alloc, &mut fields, true, "last_activity", last_activity)?;
-    add_member(alloc, &mut fields, true, "name", name)?;
-    add_member(alloc, &mut fields, true, "pending", pending)?;
-    add_member(alloc, &mut fields, true, "ready", ready)?;
-    add_member(alloc, &mut fields, true, "started", started)?;
-    add_member(alloc, &mut fields, true, "url", url)?;
+    let mut fields = Vec::new(alloc);
+    add_moment_or_null(alloc, &mut fields, true, "last_activity", row.last_activity)?;
+    add_line(alloc, &mut fields, true, "name", row.key.server.as_str())?;
+    add_member(alloc, &mut fields, true, "pending", pending(alloc, phase)?)?;
+    add_member(alloc, &mut fields, true, "ready", truth(is_ready(phase)))?;
+    add_moment_or_null(alloc, &mut fields, true, "started", row.started)?;
+    add_member(alloc, &mut fields, true, "url", url_line(alloc, &row.key)?)?;
     Ok(Body::Pairs(fields))
 }

@@ -6,8 +6,9 @@ ghost use Rattle.hub_view.specs.Fields as spec;
 
 use crate::body::Body;
 use crate::facts::{ServerFacts, UserFacts};
-use crate::members::{add_member, line};
-use crate::parts::{moment, moment_or_null, names, truth};
+use crate::fields::{add_line, add_moment, add_moment_or_null, add_names};
+use crate::members::add_member;
+use crate::parts::truth;
 use crate::servers::{is_live, server_body};
 use hub_kit::names::UserName;
 use hub_kit::text::Text;
@@ -48,30 +49,25 @@ pub fn add_user<M: Members>(
 {
     let user = &facts.user;
     let shown = shown_fields(m, rights, named, &user.name);
-    let groups = names(alloc, facts.groups.as_slice())?;
-    let roles = names(alloc, facts.roles.as_slice())?;
-    let admin = truth(user.admin);
-    let created = moment(alloc, user.created)?;
-    let last_activity = moment_or_null(alloc, user.last_activity)?;
-    add_member(alloc, fields, shown.account, "admin", admin)?;
-    add_member(alloc, fields, shown.account, "created", created)?;
-    add_member(alloc, fields, shown.groups, "groups", groups)?;
-    add_member(alloc, fields, shown.name, "kind", line(alloc, "user")?)?;
-    add_member(
+    add_member(alloc, fields, shown.account, "admin", truth(user.admin))?;
+    add_moment(alloc, fields, shown.account, "created", user.created)?;
+    add_names(
+        alloc,
+        fields,
+        shown.groups,
+        "groups",
+        facts.groups.as_slice(),
+    )?;
+    add_line(alloc, fields, shown.name, "kind", "user")?;
+    add_moment_or_null(
         alloc,
         fields,
         shown.activity,
         "last_activity",
-        last_activity,
+        user.last_activity,
     )?;
-    add_member(
-        alloc,
-        fields,
-        shown.name,
-        "name",
-        line(alloc, user.name.as_str())?,
-    )?;
-    add_member(alloc, fields, shown.roles, "roles", roles)
+    add_line(alloc, fields, shown.name, "name", user.name.as_str())?;
+    add_names(alloc, fields, shown.roles, "roles", facts.roles.as_slice())
 }
 
 /// Which fields of a user are shown: `kind` and `name`, `admin` and `created`, and the others one by one.
@@ -129,8 +125,8 @@ fn shown_servers<M: Members>(
     let mut shown = Vec::new(alloc);
     for server in servers {
         if is_shown(m, rights, server) {
-            let name = Text::from_str(alloc, server.row.key.server.as_str())?;
-            shown.push((name, server_body(alloc, server)?))?;
+            let name = server.row.key.server.as_str();
+            add_member(alloc, &mut shown, true, name, server_body(alloc, server)?)?;
         }
     }
     Ok(shown)

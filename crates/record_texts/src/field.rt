@@ -17,6 +17,23 @@ use keyed_rows::sorted::Sorted;
 use serde_json::Value;
 use std::alloc::{AllocError, Global};
 
+/// What two readers found. A record's fields are read by twos: each early return drops what was read before it, and the proof
+/// follows each drop.
+pub(crate) fn both<A: Drop, B: Drop>(
+    first: Result<A, Unread>,
+    second: Result<B, Unread>,
+) -> Result<(A, B), Unread>
+    ensures { (a : A) (b : B) → Finds first a → Finds second b → Finds result (a, b) }
+{
+    match first {
+        Ok(first) => match second {
+            Ok(second) => Ok((first, second)),
+            Err(error) => Err(error),
+        },
+        Err(error) => Err(error),
+    }
+}
+
 pub(crate) fn bool_at(value: &Value, name: &str) -> Result<bool, Unread>
     ensures { (b : Bool) → get name.now (view value.now) ≡ Some (boolean b) → Finds result b }
 {

@@ -4,6 +4,7 @@
 #![tactic(auto)]
 
 mod field;
+mod fields;
 pub mod item;
 mod people;
 pub mod record;

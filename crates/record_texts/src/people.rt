@@ -2,16 +2,15 @@
 ghost use Rattle.hub_rows.specs.declared.records.User.{User};
 ghost use Rattle.record_texts.specs.People.{user_object, group_object, service_object, role_object, IsUser, IsGroup, IsService, IsRole, user_plain, group_plain, service_plain, role_plain};
 
-use crate::field::{
-    bool_at, maybe_number, maybe_number_at, number_at, sorted_at, texts_at, texts_value,
-};
+use crate::field::{bool_at, both, maybe_number_at, number_at, sorted_at, texts_at};
+use crate::fields::Fields;
 use crate::record::Record;
 use crate::textual::Textual;
 use crate::unread::Unread;
 use hub_kit::names::{GroupName, RoleName, ServiceName, UserName};
 use hub_kit::text::Text;
 use hub_rows::records::{Group, Role, Service, User};
-use serde_json::{Value, json};
+use serde_json::Value;
 use std::alloc::{AllocError, Global};
 
 impl Record for User {
@@ -33,9 +32,11 @@ impl Record for User {
 
     fn value(&self, alloc: Global) -> Result<Value, AllocError> {
         let _name = self.name.as_str();
-        let created = self.created.seconds();
-        let last_activity = maybe_number(&self.last_activity);
-        json!(in alloc; {"admin": self.admin, "created": created, "last_activity": last_activity})
+        let fields = Fields::new(alloc)
+            .value("admin", Value::from(self.admin))?
+            .number("created", self.created.seconds())?
+            .maybe_number("last_activity", &self.last_activity)?;
+        Ok(fields.into_object())
     }
 
     fn find(alloc: Global, key: &str, value: &Value) -> Result<User, Unread> {
@@ -67,8 +68,8 @@ impl Record for Group {
 
     fn value(&self, alloc: Global) -> Result<Value, AllocError> {
         let _name = self.name.as_str();
-        let users = texts_value(alloc, self.users.as_slice())?;
-        json!(in alloc; {"users": users})
+        let fields = Fields::new(alloc).texts("users", self.users.as_slice())?;
+        Ok(fields.into_object())
     }
 
     fn find(alloc: Global, key: &str, value: &Value) -> Result<Group, Unread> {
@@ -98,7 +99,7 @@ impl Record for Service {
 
     fn value(&self, alloc: Global) -> Result<Value, AllocError> {
         let _name = self.name.as_str();
-        json!(in alloc; {})
+        Ok(Fields::new(alloc).into_object())
     }
 
     fn find(alloc: Global, key: &str, _value: &Value) -> Result<Service, Unread> {
@@ -127,20 +128,30 @@ impl Record for Role {
 
     fn value(&self, alloc: Global) -> Result<Value, AllocError> {
         let _name = self.name.as_str();
-        let groups = texts_value(alloc, self.groups.as_slice())?;
-        let scopes = texts_value(alloc, self.scopes.as_slice())?;
-        let services = texts_value(alloc, self.services.as_slice())?;
-        let users = texts_value(alloc, self.users.as_slice())?;
-        json!(in alloc; {"groups": groups, "scopes": scopes, "services": services, "users": users})
+        let fields = Fields::new(alloc)
+            .texts("groups", self.groups.as_slice())?
+            .texts("scopes", self.scopes.as_slice())?
+            .texts("services", self.services.as_slice())?
+            .texts("users", self.users.as_slice())?;
+        Ok(fields.into_object())
     }
 
     fn find(alloc: Global, key: &str, value: &Value) -> Result<Role, Unread> {
+        let name = RoleName::of_text(alloc, key)?;
+        let (groups, scopes) = both(
+            sorted_at(alloc, value, "groups"),
+            texts_at(alloc, value, "scopes"),
+        )?;
+        let (services, users) = both(
+            sorted_at(alloc, value, "services"),
+            sorted_at(alloc, value, "users"),
+        )?;
         Ok(Role {
-            name: RoleName::of_text(alloc, key)?,
-            groups: sorted_at(alloc, value, "groups")?,
-            scopes: texts_at(alloc, value, "scopes")?,
-            services: sorted_at(alloc, value, "services")?,
-            users: sorted_at(alloc, value, "users")?,
+            name,
+            groups,
+            scopes,
+            services,
+            users,
         })
     }
 }

@@ -2,10 +2,8 @@
 ghost use Rattle.record_texts.specs.KeyTexts.{server_text, share_text};
 ghost use Rattle.record_texts.specs.Servers.{server_object, lease_object, share_object, next_object, IsServerRow, IsLease, IsShare, IsNext, server_plain, lease_plain, share_plain, next_plain};
 
-use crate::field::{
-    lacking_number_at, maybe_number, maybe_number_at, number_at, text_at, text_value, texts_at,
-    texts_value,
-};
+use crate::field::{lacking_number_at, maybe_number_at, number_at, text_at, texts_at};
+use crate::fields::Fields;
 use crate::record::Record;
 use crate::textual::Textual;
 use crate::unread::Unread;
@@ -14,7 +12,7 @@ use hub_kit::target::Target;
 use hub_kit::text::Text;
 use hub_rows::keys::ShareKey;
 use hub_rows::records::{Lease, Next, ServerRow, Share};
-use serde_json::{Value, json};
+use serde_json::Value;
 use std::alloc::{AllocError, Global};
 
 impl Record for ServerRow {
@@ -36,10 +34,11 @@ impl Record for ServerRow {
 
     fn value(&self, alloc: Global) -> Result<Value, AllocError> {
         let _key = self.key.text(alloc)?;
-        let created = self.created.seconds();
-        let last_activity = maybe_number(&self.last_activity);
-        let started = maybe_number(&self.started);
-        json!(in alloc; {"created": created, "last_activity": last_activity, "started": started})
+        let fields = Fields::new(alloc)
+            .number("created", self.created.seconds())?
+            .maybe_number("last_activity", &self.last_activity)?
+            .maybe_number("started", &self.started)?;
+        Ok(fields.into_object())
     }
 
     fn find(alloc: Global, key: &str, value: &Value) -> Result<ServerRow, Unread> {
@@ -71,13 +70,13 @@ impl Record for Lease {
 
     fn value(&self, alloc: Global) -> Result<Value, AllocError> {
         let _target = self.target.as_text();
-        let server = text_value(alloc, &self.server)?;
+        let fields = Fields::new(alloc).text("server", &self.server)?;
         match &self.generation {
             Some(generation) => {
                 let generation = *generation;
-                json!(in alloc; {"generation": generation, "server": server})
+                Ok(fields.number("generation", generation)?.into_object())
             }
-            None => json!(in alloc; {"server": server}),
+            None => Ok(fields.into_object()),
         }
     }
 
@@ -109,9 +108,10 @@ impl Record for Share {
 
     fn value(&self, alloc: Global) -> Result<Value, AllocError> {
         let _key = self.key.text(alloc)?;
-        let created = self.created.seconds();
-        let scopes = texts_value(alloc, self.scopes.as_slice())?;
-        json!(in alloc; {"created": created, "scopes": scopes})
+        let fields = Fields::new(alloc)
+            .number("created", self.created.seconds())?
+            .texts("scopes", self.scopes.as_slice())?;
+        Ok(fields.into_object())
     }
 
     fn find(alloc: Global, key: &str, value: &Value) -> Result<Share, Unread> {
@@ -142,7 +142,8 @@ impl Record for Next {
 
     fn value(&self, alloc: Global) -> Result<Value, AllocError> {
         let next = self.next;
-        json!(in alloc; {"next": next})
+        let fields = Fields::new(alloc).number("next", next)?;
+        Ok(fields.into_object())
     }
 
     fn find(alloc: Global, key: &str, value: &Value) -> Result<Next, Unread> {

@@ -2,16 +2,14 @@
 ghost use Rattle.std.specs.Prelude.{decimal};
 ghost use Rattle.record_texts.specs.Tokens.{token_object, code_object, client_object, grant_code_object, IsToken, IsCode, IsClient, IsGrantCode, token_plain, code_plain, client_plain, grant_code_plain};
 
-use crate::field::{
-    maybe_number, maybe_number_at, maybe_text, maybe_text_at, number_at, text_at, text_value,
-    texts_at, texts_value,
-};
+use crate::field::{both, maybe_number_at, maybe_text_at, number_at, text_at, texts_at};
+use crate::fields::Fields;
 use crate::record::Record;
 use crate::textual::Textual;
 use crate::unread::Unread;
 use hub_kit::text::Text;
 use hub_rows::records::{OAuthClient, OAuthCode, ShareCode, Token};
-use serde_json::{Value, json};
+use serde_json::Value;
 use std::alloc::{AllocError, Global};
 
 impl Record for Token {
@@ -33,35 +31,43 @@ impl Record for Token {
 
     fn value(&self, alloc: Global) -> Result<Value, AllocError> {
         let _id = self.id;
-        let client = maybe_text(alloc, &self.client)?;
-        let created = self.created.seconds();
-        let expires_at = maybe_number(&self.expires_at);
-        let issued_for = maybe_text(alloc, &self.issued_for)?;
-        let owner = text_value(alloc, &self.owner)?;
-        let scopes = texts_value(alloc, self.scopes.as_slice())?;
-        json!(in alloc; {
-            "client": client,
-            "created": created,
-            "expires_at": expires_at,
-            "hash": self.hash.as_str(),
-            "issued_for": issued_for,
-            "note": self.note.as_str(),
-            "owner": owner,
-            "scopes": scopes
-        })
+        let fields = Fields::new(alloc)
+            .maybe_text("client", &self.client)?
+            .number("created", self.created.seconds())?
+            .maybe_number("expires_at", &self.expires_at)?
+            .string("hash", self.hash.as_str())?
+            .maybe_text("issued_for", &self.issued_for)?
+            .string("note", self.note.as_str())?
+            .text("owner", &self.owner)?
+            .texts("scopes", self.scopes.as_slice())?;
+        Ok(fields.into_object())
     }
 
     fn find(alloc: Global, key: &str, value: &Value) -> Result<Token, Unread> {
+        let id = u64::of_text(alloc, key)?;
+        let (client, issued_for) = both(
+            maybe_text_at(alloc, value, "client"),
+            maybe_text_at(alloc, value, "issued_for"),
+        )?;
+        let (created, expires_at) = both(
+            number_at(value, "created"),
+            maybe_number_at(value, "expires_at"),
+        )?;
+        let (hash, note) = both(text_at(alloc, value, "hash"), text_at(alloc, value, "note"))?;
+        let (owner, scopes) = both(
+            text_at(alloc, value, "owner"),
+            texts_at(alloc, value, "scopes"),
+        )?;
         Ok(Token {
-            id: u64::of_text(alloc, key)?,
-            client: maybe_text_at(alloc, value, "client")?,
-            created: number_at(value, "created")?,
-            expires_at: maybe_number_at(value, "expires_at")?,
-            hash: text_at(alloc, value, "hash")?,
-            issued_for: maybe_text_at(alloc, value, "issued_for")?,
-            note: text_at(alloc, value, "note")?,
-            owner: text_at(alloc, value, "owner")?,
-            scopes: texts_at(alloc, value, "scopes")?,
+            id,
+            client,
+            created,
+            expires_at,
+            hash,
+            issued_for,
+            note,
+            owner,
+            scopes,
         })
     }
 }
@@ -85,26 +91,31 @@ impl Record for ShareCode {
 
     fn value(&self, alloc: Global) -> Result<Value, AllocError> {
         let _id = self.id;
-        let created = self.created.seconds();
-        let expires_at = self.expires_at.seconds();
-        let scopes = texts_value(alloc, self.scopes.as_slice())?;
-        let server = text_value(alloc, &self.server)?;
-        json!(in alloc; {
-            "created": created,
-            "expires_at": expires_at,
-            "hash": self.hash.as_str(),
-            "scopes": scopes,
-            "server": server
-        })
+        let fields = Fields::new(alloc)
+            .number("created", self.created.seconds())?
+            .number("expires_at", self.expires_at.seconds())?
+            .string("hash", self.hash.as_str())?
+            .texts("scopes", self.scopes.as_slice())?
+            .text("server", &self.server)?;
+        Ok(fields.into_object())
     }
 
     fn find(alloc: Global, key: &str, value: &Value) -> Result<ShareCode, Unread> {
+        let id = u64::of_text(alloc, key)?;
+        let (created, expires_at) = both(
+            number_at(value, "created"),
+            number_at(value, "expires_at"),
+        )?;
+        let (hash, scopes) = both(
+            text_at(alloc, value, "hash"),
+            texts_at(alloc, value, "scopes"),
+        )?;
         Ok(ShareCode {
-            id: u64::of_text(alloc, key)?,
-            created: number_at(value, "created")?,
-            expires_at: number_at(value, "expires_at")?,
-            hash: text_at(alloc, value, "hash")?,
-            scopes: texts_at(alloc, value, "scopes")?,
+            id,
+            created,
+            expires_at,
+            hash,
+            scopes,
             server: text_at(alloc, value, "server")?,
         })
     }
@@ -128,7 +139,10 @@ impl Record for OAuthClient {
     }
 
     fn value(&self, alloc: Global) -> Result<Value, AllocError> {
-        json!(in alloc; {"hash": self.hash.as_str(), "redirect_uri": self.redirect_uri.as_str()})
+        let fields = Fields::new(alloc)
+            .string("hash", self.hash.as_str())?
+            .string("redirect_uri", self.redirect_uri.as_str())?;
+        Ok(fields.into_object())
     }
 
     fn find(alloc: Global, key: &str, value: &Value) -> Result<OAuthClient, Unread> {
@@ -158,25 +172,32 @@ impl Record for OAuthCode {
     }
 
     fn value(&self, alloc: Global) -> Result<Value, AllocError> {
-        let expires_at = self.expires_at.seconds();
-        let token = maybe_number(&self.token);
-        json!(in alloc; {
-            "client": self.client.as_str(),
-            "expires_at": expires_at,
-            "owner": self.owner.as_str(),
-            "redirect_uri": self.redirect_uri.as_str(),
-            "token": token
-        })
+        let fields = Fields::new(alloc)
+            .string("client", self.client.as_str())?
+            .number("expires_at", self.expires_at.seconds())?
+            .string("owner", self.owner.as_str())?
+            .string("redirect_uri", self.redirect_uri.as_str())?
+            .maybe_number("token", &self.token)?;
+        Ok(fields.into_object())
     }
 
     fn find(alloc: Global, key: &str, value: &Value) -> Result<OAuthCode, Unread> {
+        let (hash, client) = both(Text::of_text(alloc, key), text_at(alloc, value, "client"))?;
+        let (expires_at, token) = both(
+            number_at(value, "expires_at"),
+            maybe_number_at(value, "token"),
+        )?;
+        let (owner, redirect_uri) = both(
+            text_at(alloc, value, "owner"),
+            text_at(alloc, value, "redirect_uri"),
+        )?;
         Ok(OAuthCode {
-            hash: Text::of_text(alloc, key)?,
-            client: text_at(alloc, value, "client")?,
-            expires_at: number_at(value, "expires_at")?,
-            owner: text_at(alloc, value, "owner")?,
-            redirect_uri: text_at(alloc, value, "redirect_uri")?,
-            token: maybe_number_at(value, "token")?,
+            hash,
+            client,
+            expires_at,
+            owner,
+            redirect_uri,
+            token,
         })
     }
 }

@@ -1,4 +1,5 @@
 pub mod Lending
 pub mod Looks
+pub mod Naming
 pub mod Received
 pub mod Rights

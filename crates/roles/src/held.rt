@@ -1,20 +1,18 @@
 //! What an owner holds: roles, shares, and the scopes of both.
 ghost use Rattle.std.specs.Prelude.{◌≡◌, ◌++◌, ◌∷◌, [], map, OnOk, IfOk, if◌then◌else◌};
-ghost use Rattle.std.specs.List.{flat_map, list_any};
-ghost use Rattle.hub_kit.specs.KeyOrder.{name_cmp};
-ghost use Rattle.keyed_rows.specs.Sorted.{is_among};
+ghost use Rattle.std.specs.FinMap as finite;
+ghost use Rattle.std.specs.List.{flat_map};
 ghost use Rattle.scope_names.specs.Actions.{listed};
-ghost use Rattle.scope_filters.specs.Contexts.{is_member};
 ghost use Rattle.hub_tables.specs.Lookups.{is_admin};
-ghost use Rattle.roles.specs.Rights.{context, roles_held, shares_received};
+ghost use Rattle.roles.specs.Naming.{scopes_at};
+ghost use Rattle.roles.specs.Rights.{roles_held, shares_received};
 ghost use Rattle.roles.specs.Rights as spec;
 
+use crate::naming::names_held;
 use crate::received::push_received;
-use hub_kit::names::UserName;
-use hub_rows::records::Role;
+use hub_kit::names::{RoleName, UserName};
 use hub_tables::tables::Tables;
 use scope_filters::holder::Owner;
-use scope_filters::members::Members;
 use scope_filters::scope::{RawFilter, RawScope};
 use scope_names::action::Action;
 use std::alloc::{AllocError, Global};
@@ -29,7 +27,7 @@ pub(crate) fn scopes_held(
 {
     let mut scopes = Vec::new(alloc);
     push_fixed(&mut scopes, t, owner)?;
-    push_roles(&mut scopes, t, owner)?;
+    push_roles(alloc, &mut scopes, t, owner)?;
     push_shares(alloc, &mut scopes, t, owner)?;
     Ok(scopes)
 }
@@ -92,44 +90,36 @@ fn push_unfiltered(scopes: &mut Vec<RawScope>, actions: &[Action]) -> Result<(),
 }
 
 /// Appends the scopes of the roles that the owner holds.
-fn push_roles(scopes: &mut Vec<RawScope>, t: &Tables, owner: &Owner) -> Result<(), AllocError>
-    ensures { OnOk result (scopes.new.items ≡ scopes.old.items ++ flat_map (λ role. role.scopes) (roles_held t.now owner.now)) }
-{
-    for role in t.roles() {
-        push_role(scopes, t, owner, role)?;
-    }
-    Ok(())
-}
-
-fn push_role(
+fn push_roles(
+    alloc: Global,
     scopes: &mut Vec<RawScope>,
     t: &Tables,
     owner: &Owner,
-    role: &Role,
 ) -> Result<(), AllocError>
-    ensures { OnOk result (scopes.new.items ≡ scopes.old.items ++ (if spec.holds_role t.now owner.now role.now then role.now.scopes else [])) }
+    ensures { OnOk result (scopes.new.items ≡ scopes.old.items ++ flat_map (λ role. role.scopes) (roles_held t.now owner.now)) }
 {
-    if holds_role(t, owner, role) {
-        return scopes.extend_from_slice(role.scopes.as_slice());
+    let names = names_held(alloc, t, owner)?;
+    t.own_keys();
+    push_named(scopes, t, names.as_slice())
+}
+
+/// Appends the scopes of the roles of these names.
+fn push_named(scopes: &mut Vec<RawScope>, t: &Tables, names: &[RoleName]) -> Result<(), AllocError>
+    ensures { OnOk result (scopes.new.items ≡ scopes.old.items ++ flat_map (λ name. scopes_at (finite.get t.now.roles name)) names.now) }
+{
+    for name in names {
+        push_role(scopes, t, name)?;
     }
     Ok(())
 }
 
-/// Whether the role names the owner, or a group that the owner is in.
-pub fn holds_role(t: &Tables, owner: &Owner, role: &Role) -> bool
-    ensures { result ≡ spec.holds_role t.now owner.now role.now }
+fn push_role(scopes: &mut Vec<RawScope>, t: &Tables, name: &RoleName) -> Result<(), AllocError>
+    ensures { OnOk result (scopes.new.items ≡ scopes.old.items ++ scopes_at (finite.get t.now.roles name.now)) }
 {
-    match owner {
-        Owner::User(user) => role.users.contains(user) || names_group_of(t, role, user),
-        Owner::Service(service) => role.services.contains(service),
+    match t.role(name) {
+        Some(role) => scopes.extend_from_slice(role.scopes.as_slice()),
+        None => Ok(()),
     }
-}
-
-fn names_group_of(t: &Tables, role: &Role, user: &UserName) -> bool
-    ensures { result ≡ list_any (λ g. is_member (context t.now) user.now g) role.now.groups }
-{
-    let groups = role.groups.as_slice();
-    groups.iter().any(|group| t.is_member(user, group))
 }
 
 /// Appends the scopes of the shares that the owner received.

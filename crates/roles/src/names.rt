@@ -4,9 +4,9 @@ ghost use Rattle.hub_tables.specs.Lookups.{is_admin};
 ghost use Rattle.roles.specs.Rights.{roles_held};
 ghost use Rattle.roles.specs.Rights as spec;
 
-use crate::held::{holds_role, is_admin};
+use crate::held::is_admin;
+use crate::naming::names_held;
 use hub_kit::names::{RoleName, UserName, read_role};
-use hub_rows::records::Role;
 use hub_tables::tables::Tables;
 use keyed_rows::sorted::Sorted;
 use scope_filters::holder::Owner;
@@ -18,7 +18,7 @@ pub fn role_names(alloc: Global, t: &Tables, owner: &Owner) -> Result<Sorted<Rol
 {
     let mut names = Vec::new(alloc);
     push_fixed(&mut names, t, owner)?;
-    push_names(&mut names, t, owner)?;
+    push_names(alloc, &mut names, t, owner)?;
     Ok(Sorted::from_vec(names))
 }
 
@@ -62,25 +62,14 @@ fn fixed_admin() -> RoleName
 }
 
 /// Appends the names of the roles that the owner holds.
-fn push_names(names: &mut Vec<RoleName>, t: &Tables, owner: &Owner) -> Result<(), AllocError>
-    ensures { OnOk result (names.new.items ≡ names.old.items ++ map (λ role. role.name) (roles_held t.now owner.now)) }
-{
-    for role in t.roles() {
-        push_name(names, t, owner, role)?;
-    }
-    Ok(())
-}
-
-fn push_name(
+fn push_names(
+    alloc: Global,
     names: &mut Vec<RoleName>,
     t: &Tables,
     owner: &Owner,
-    role: &Role,
 ) -> Result<(), AllocError>
-    ensures { OnOk result (names.new.items ≡ names.old.items ++ (if spec.holds_role t.now owner.now role.now then role.now.name ∷ [] else [])) }
+    ensures { OnOk result (names.new.items ≡ names.old.items ++ map (λ role. role.name) (roles_held t.now owner.now)) }
 {
-    if holds_role(t, owner, role) {
-        names.push(role.name)?;
-    }
-    Ok(())
+    let held = names_held(alloc, t, owner)?;
+    names.extend_from_slice(held.as_slice())
 }

@@ -1,3 +1,4 @@
 pub mod Indexed
+pub mod MemberKeys
 mod ServerKeys
 mod Walked

@@ -4,5 +4,6 @@
 #![tactic(auto)]
 
 pub mod grouped;
+pub mod members;
 pub mod owned;
 pub mod servers;

@@ -1,19 +1,13 @@
-//! Who is in which group.
-ghost use Rattle.std.specs.Prelude.{◌≡◌, map, IfOk};
-ghost use Rattle.std.specs.BTreeMap as tree;
-ghost use Rattle.std.specs.BTreeMap.{IsOrdered};
-ghost use Rattle.std.specs.List.{filter};
-ghost use Rattle.hub_kit.specs.KeyOrder.{name_cmp};
-ghost use Rattle.keyed_rows.specs.Sorted.{is_among};
-ghost use Rattle.hub_tables.specs.Lookups.{groups_of};
+//! Who is in which group, and who is named by which role.
+ghost use Rattle.std.specs.Prelude.{◌≡◌, IfOk};
+ghost use Rattle.hub_tables.specs.Lookups.{groups_of, roles_naming_user, roles_naming_group, roles_naming_service};
 
+use crate::memberships::keys_with;
 use crate::tables::Tables;
-use hub_kit::names::{GroupName, UserName};
-use hub_rows::records::Group;
+use hub_kit::names::{GroupName, RoleName, ServiceName, UserName};
 use keyed_rows::sorted::Sorted;
 use scope_filters::members::Members;
 use std::alloc::{AllocError, Global};
-use std::collections::BTreeMap;
 
 impl Members for Tables {
     ghost use Rattle.hub_tables.specs.Memberships.{members_of};
@@ -36,28 +30,63 @@ impl Members for Tables {
 }
 
 impl Tables {
-    /// The names of the groups that a user is in: a scan over the groups, with a binary search in each.
+    /// The names of the groups that a user is in. By the index it walks over these groups alone; where the index was given up it
+    /// scans all groups, with a binary search in each.
     pub fn groups_of(&self, alloc: Global, user: &UserName) -> Result<Sorted<GroupName>, AllocError>
         ensures { IfOk result (λ names. names ≡ groups_of self.now user.now) }
     {
-        let names = names_with(alloc, &self.trees.groups, user)?;
+        let names = keys_with(alloc, &self.trees.groups, &self.trees.group_users, user)?;
         Ok(Sorted::from_vec(names))
     }
-}
 
-fn names_with(
-    alloc: Global,
-    groups: &BTreeMap<GroupName, Group>,
-    user: &UserName,
-) -> Result<Vec<GroupName>, AllocError>
-    ensures names { IfOk result (λ names. names.items ≡ map (λ group. group.name) (filter (λ group. is_among name_cmp user.now group.users) (tree.values groups.now))) }
-    ensures ordered { IsOrdered name_cmp groups.now }
-{
-    let mut names = Vec::new(alloc);
-    for group in groups.values() {
-        if group.users.contains(user) {
-            names.push(group.name)?;
-        }
+    /// The names of the roles that name a user, in order. By the index it walks over these roles alone; where the index was given up
+    /// it scans all roles, with a binary search in each.
+    pub fn roles_naming_user(
+        &self,
+        alloc: Global,
+        user: &UserName,
+    ) -> Result<Vec<RoleName>, AllocError>
+        ensures { IfOk result (λ names. names.items ≡ roles_naming_user self.now user.now) }
+    {
+        keys_with(
+            alloc,
+            &self.trees.roles,
+            &self.trees.role_indexes.users,
+            user,
+        )
     }
-    Ok(names)
+
+    /// The names of the roles that name a group, in order. By the index it walks over these roles alone; where the index was given up
+    /// it scans all roles, with a binary search in each.
+    pub fn roles_naming_group(
+        &self,
+        alloc: Global,
+        group: &GroupName,
+    ) -> Result<Vec<RoleName>, AllocError>
+        ensures { IfOk result (λ names. names.items ≡ roles_naming_group self.now group.now) }
+    {
+        keys_with(
+            alloc,
+            &self.trees.roles,
+            &self.trees.role_indexes.groups,
+            group,
+        )
+    }
+
+    /// The names of the roles that name a service, in order. By the index it walks over these roles alone; where the index was given up
+    /// it scans all roles, with a binary search in each.
+    pub fn roles_naming_service(
+        &self,
+        alloc: Global,
+        service: &ServiceName,
+    ) -> Result<Vec<RoleName>, AllocError>
+        ensures { IfOk result (λ names. names.items ≡ roles_naming_service self.now service.now) }
+    {
+        keys_with(
+            alloc,
+            &self.trees.roles,
+            &self.trees.role_indexes.services,
+            service,
+        )
+    }
 }

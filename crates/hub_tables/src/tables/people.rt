@@ -6,6 +6,7 @@ ghost use Rattle.std.specs.Map.Iter.{ShowsInOrder, deref};
 ghost use Rattle.keyed_rows.specs.Rows.{OwnKeys};
 ghost use Rattle.keyed_rows.specs.Puts.{IsAnswer};
 
+use crate::memberships;
 use crate::tables::Tables;
 use hub_kit::moment::Moment;
 use hub_kit::names::{GroupName, RoleName, ServiceName, UserName};
@@ -93,7 +94,13 @@ impl Tables {
             limit: self.limits.groups,
             leaving,
         };
-        keyed::put(self.alloc, &mut self.trees.groups, value, Some(room))
+        memberships::put_group(
+            self.alloc,
+            &mut self.trees.groups,
+            &mut self.trees.group_users,
+            value,
+            Some(room),
+        )
     }
 
     /// Sets the row of a group, whatever the number of rows. Memory is wanting at a new key alone.
@@ -102,7 +109,12 @@ impl Tables {
         ensures err { OnErr result (self.new ≡ self.old) }
         ensures memory { OnErr result (map.contains_key self.old.groups value.name ≡ false) }
     {
-        keyed::set(self.alloc, &mut self.trees.groups, value)
+        memberships::set_group(
+            self.alloc,
+            &mut self.trees.groups,
+            &mut self.trees.group_users,
+            value,
+        )
     }
 
     /// The number of the rows of groups.
@@ -117,7 +129,12 @@ impl Tables {
         ensures there { result ≡ map.contains_key self.old.groups key.now }
         ensures after { self.new ≡ record self.old { groups = map.remove self.old.groups key.now } }
     {
-        keyed_rows::remove_row(&mut self.trees.groups, key)
+        memberships::remove_group(
+            self.alloc,
+            &mut self.trees.groups,
+            &mut self.trees.group_users,
+            key,
+        )
     }
 
     /// The rows of groups, in the order of names.
@@ -203,7 +220,13 @@ impl Tables {
             limit: self.limits.roles,
             leaving,
         };
-        keyed::put(self.alloc, &mut self.trees.roles, value, Some(room))
+        memberships::put_role(
+            self.alloc,
+            &mut self.trees.roles,
+            &mut self.trees.role_indexes,
+            value,
+            Some(room),
+        )
     }
 
     /// Sets the row of a role, whatever the number of rows. Memory is wanting at a new key alone.
@@ -212,7 +235,12 @@ impl Tables {
         ensures err { OnErr result (self.new ≡ self.old) }
         ensures memory { OnErr result (map.contains_key self.old.roles value.name ≡ false) }
     {
-        keyed::set(self.alloc, &mut self.trees.roles, value)
+        memberships::set_role(
+            self.alloc,
+            &mut self.trees.roles,
+            &mut self.trees.role_indexes,
+            value,
+        )
     }
 
     /// The number of the rows of roles.
@@ -227,7 +255,12 @@ impl Tables {
         ensures there { result ≡ map.contains_key self.old.roles key.now }
         ensures after { self.new ≡ record self.old { roles = map.remove self.old.roles key.now } }
     {
-        keyed_rows::remove_row(&mut self.trees.roles, key)
+        memberships::remove_role(
+            self.alloc,
+            &mut self.trees.roles,
+            &mut self.trees.role_indexes,
+            key,
+        )
     }
 
     /// The rows of roles, in the order of names.

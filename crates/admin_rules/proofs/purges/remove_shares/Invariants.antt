@@ -3,4 +3,4 @@ use Rattle.hub_rows.specs.declared.changes.RowChange.TheVariants.{RemoveShare}
 use Rattle.admin_rules.proofs.purges.remove_shares.Given as goal
 
 abbrev pub invariant-loop-key : goal.invariant-loop-key
-invariant-loop-key l = l.changes.items ≡ l.fn.changes.items ++ map (λ key. RemoveShare key) (take l.key-index l.keys)
+invariant-loop-key l = l.changes.items ≡ l.fn.changes.items ++ map (λ key. RemoveShare key) (take l.key-index l.key-items)

@@ -3,4 +3,4 @@ use Rattle.hub_rows.specs.declared.changes.RowChange.TheVariants.{RemoveToken}
 use Rattle.admin_rules.proofs.purges.remove_tokens.Given as goal
 
 abbrev pub invariant-loop-id : goal.invariant-loop-id
-invariant-loop-id l = l.changes.items ≡ l.fn.changes.items ++ map (λ id. RemoveToken id) (take l.id-index l.ids)
+invariant-loop-id l = l.changes.items ≡ l.fn.changes.items ++ map (λ id. RemoveToken id) (take l.id-index l.id-items)

@@ -1,4 +1,3 @@
-use Rattle.std.proofs.Common.{◌∙◌, sym}
 use Rattle.hub_core.proofs.Looking.{look_may, current_after, looked_after}
 use Rattle.hub_core.proofs.decide.by_rights.Goals as goal
 

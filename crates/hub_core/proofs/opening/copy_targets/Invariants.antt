@@ -1,5 +1,4 @@
 use Rattle.std.proofs.Common.{◌≡◌, take}
-use Rattle.hub_core.specs.Opening as spec
 use Rattle.hub_core.proofs.opening.copy_targets.Given as goal
 
 abbrev pub invariant-loop-target : goal.invariant-loop-target

@@ -6,5 +6,5 @@ use Rattle.hub_core.proofs.opening.machine_of.Goals as goal
 
 pub opening-requires : goal.opening-requires
 opening-requires c =
-    let same : c.in-Ok.tables.limits ≡ c.args.config.now.limits = ap (λ (t : State). t.limits) c.in-Ok.ensures ∙ opened_limits c.args.config.now c.args.now in
+    let same : c.in_ok-tables.tables.limits ≡ c.args.config.now.limits = ap (λ (t : State). t.limits) c.in_ok-tables.ensures ∙ opened_limits c.args.config.now c.args.now in
     subst (λ (l : Limits). l.trail_bytes ≤ 2 ^ 62) (sym same) c.requires

@@ -1,7 +1,7 @@
-use Rattle.std.proofs.Common.{◌≡◌, Bool, true, false, not, sym, ◌∙◌, ap}
+use Rattle.std.proofs.Common.{◌≡◌, true, false, sym, ◌∙◌, ap}
 use Rattle.hub_tables.specs.Changes.{is_put}
 use Rattle.record_texts.specs.Items.{item_of, IsValid}
-use Rattle.hub_machine.proofs.Passed.{made_taken, made_left, good_taken, good_left}
+use Rattle.hub_machine.proofs.Passed.{made_taken, made_left, good_taken, good_left, made_all, good_all}
 use Rattle.hub_machine.proofs.batch.push_puts.Goals as goal
 use Rattle.hub_machine.proofs.batch.push_puts.Goals.{then-is_put+in_ok-push_item, else-is_put}
 
@@ -25,3 +25,9 @@ loop-row-preserved c =
             valid = good_left is_put item_of IsValid rows i row within c.row-item.is stays c.loop-row.invariant.valid;
           }
     ]
+
+pub returns-clause-items : goal.returns-clause-items
+returns-clause-items c = made_all is_put item_of IsValid c.args.rows.now c.loop-row.row-index c.loop-row-test.false c.loop-row.items.items _ c.loop-row.invariant.items
+
+pub returns-clause-valid : goal.returns-clause-valid
+returns-clause-valid c = good_all is_put item_of IsValid c.args.rows.now c.loop-row.row-index c.loop-row-test.false c.loop-row.invariant.valid

@@ -1,8 +1,8 @@
-use Rattle.std.proofs.Common.{◌≡◌, Bool, true, false, not, sym, ◌∙◌, ap}
+use Rattle.std.proofs.Common.{◌≡◌, true, false, not, sym, ◌∙◌, ap}
 use Rattle.hub_rows.specs.declared.changes.RowChange.{RowChange}
 use Rattle.hub_tables.specs.Changes.{is_put}
 use Rattle.record_texts.specs.Items.{item_of, IsValid}
-use Rattle.hub_machine.proofs.Passed.{made_taken, made_left, good_taken, good_left}
+use Rattle.hub_machine.proofs.Passed.{made_taken, made_left, good_taken, good_left, made_all, good_all}
 use Rattle.hub_machine.proofs.batch.push_removals.Goals as goal
 use Rattle.hub_machine.proofs.batch.push_removals.Goals.{then-not-is_put+in_ok-push_item, else-not-is_put}
 
@@ -26,3 +26,9 @@ loop-row-preserved c =
             valid = good_left (λ (r : RowChange). not (is_put r)) item_of IsValid rows i row within c.row-item.is stays c.loop-row.invariant.valid;
           }
     ]
+
+pub returns-clause-items : goal.returns-clause-items
+returns-clause-items c = made_all (λ (r : RowChange). not (is_put r)) item_of IsValid c.args.rows.now c.loop-row.row-index c.loop-row-test.false c.loop-row.items.items _ c.loop-row.invariant.items
+
+pub returns-clause-valid : goal.returns-clause-valid
+returns-clause-valid c = good_all (λ (r : RowChange). not (is_put r)) item_of IsValid c.args.rows.now c.loop-row.row-index c.loop-row-test.false c.loop-row.invariant.valid

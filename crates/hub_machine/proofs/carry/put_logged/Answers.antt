@@ -1,21 +1,19 @@
-use Rattle.std.proofs.Common.{rules, ◌≡◌, true, sym, ◌∙◌, ap, subst}
-use Rattle.hub_tables.specs.Changes.{row_done, has_row, FitsRow}
+use Rattle.std.proofs.Common.{rules, ◌≡◌, ◌∙◌, sym, subst}
+use Rattle.hub_tables.specs.Changes.{row_done}
 use Rattle.hub_tables.specs.State.{State}
-use Rattle.hub_machine.proofs.Carrying.{plain_fits}
+use Rattle.hub_machine.specs.Carry.{OneMore}
+use Rattle.hub_machine.proofs.Carrying.{taken_back}
 use Rattle.hub_machine.proofs.carry.put_logged.Goals as goal
 
 pub returns-in-Ok-clause-ok : goal.returns-in-Ok-clause-ok
 returns-in-Ok-clause-ok c =
-    let back = c.in_ok-back.back in
-    let done : c.change.new.tables ≡ row_done c.args.row c.args.tables.now = c.in_ok-change.ensures.ok in (
+    let done : c.put.new.tables ≡ row_done c.args.row.now c.args.tables.now = c.in-Ok.ensures.ok in (
       done,
-      record {
-        step = back;
-        logged = search rules;
-        free = record {
-          fits = subst (λ (t : State). FitsRow t back) (sym done) (c.in_ok-back.ensures.fits c.requires.put (plain_fits c.args.tables.now c.args.row c.requires.unhashed));
-          there = λ p. subst (λ (t : State). has_row t back ≡ true) (sym done) (c.in_ok-back.ensures.kept c.requires.put p);
-        };
-        back = ap (row_done back) done ∙ c.in_ok-back.ensures.undoes;
-      },
+      subst (λ (t : State). OneMore c.args.tables.now t c.args.log.now.items c.log_back.new.log.items) (sym done) c.in_ok-log_back.ensures.ok,
     )
+
+pub returns-in-Err-clause-err : goal.returns-in-Err-clause-err
+returns-in-Err-clause-err c = (
+  c.in-Err.ensures.err,
+  c.truncate.ensures.items ∙ taken_back c.args.tables.now (row_done c.args.row.now c.args.tables.now) c.args.log.now.items c.log_back.new.log.items c.len-steps.result (search rules) c.in_ok-log_back.ensures.ok,
+)

@@ -1,14 +1,38 @@
-use Rattle.std.proofs.Common.{rules}
-use Rattle.std.proofs.lemmas.List.Elements.{All-rest}
-use Rattle.hub_machine.specs.Carry.{IsPlainPut}
-use Rattle.hub_machine.proofs.Carrying.{one_more, leads}
+use Rattle.std.proofs.Common.{◌≡◌, true, false, ◌∙◌, sym, ap}
+use Rattle.hub_tables.specs.Changes.{is_put, puts_of, rows_done}
+use Rattle.hub_tables.specs.State.{State}
+use Rattle.hub_machine.proofs.Carrying.{leads, leads_still, unhashed_here, unhashed_after, put_here, none_here}
 use Rattle.hub_machine.proofs.carry.stage.Goals as goal
+use Rattle.hub_machine.proofs.carry.stage.Goals.{then-is_put+in-Ok, else-is_put}
+
+pub put_logged-requires : goal.put_logged-requires
+put_logged-requires c = record {
+  put = sym c.is_put.ensures ∙ c.if-is_put.true;
+  unhashed = unhashed_here c.args.rows.now c.loop-row.row-index c.row-item.result c.loop-row-test.true c.row-item.is c.loop-row.invariant.plain;
+}
 
 pub loop-row-preserved : goal.loop-row-preserved
 loop-row-preserved c =
-    let before = c.loop-row in
-    let after = c.put_logged.new in record {
-      done = one_more before.yielded c.in-Some.row c.args.tables.now before.tables after.tables before.invariant.done c.in-Ok.ensures.ok.0;
-      leads = leads before.log.items after.log.items before.tables after.tables c.args.tables.now before.invariant.leads c.in-Ok.ensures.ok.1;
-      plain = All-rest IsPlainPut c.in-Some.row c.next.new.self.rest.items before.row-iterator.rest.items (search rules) before.invariant.plain;
-    }
+    let rows = c.args.rows.now in
+    let i = c.loop-row.row-index in
+    let row = c.row-item.result in
+    let within = c.loop-row-test.true in
+    let before = c.loop-row.tables in
+    let whole : State = rows_done (puts_of rows) c.args.tables.now in
+    let log = c.loop-row.log.items in
+    let now = c.if-is_put.log.items in
+    let plain = unhashed_after rows i row within c.row-item.is c.loop-row.invariant.plain in
+    elim c.if-is_put.branch [
+      | then-is_put+in-Ok w ↦
+          let put : is_put row ≡ true = sym c.is_put.ensures ∙ w.if-is_put.true in record {
+            done = put_here rows i row within c.row-item.is before c.if-is_put.tables whole put (w.tables-is ∙ w.in-Ok.ensures.ok.0) c.loop-row.invariant.done;
+            leads = leads_still w.put_logged.new.log.items now w.put_logged.new.tables c.if-is_put.tables c.args.tables.now (ap (λ v. v.items) w.log-is) w.tables-is (leads log w.put_logged.new.log.items before w.put_logged.new.tables c.args.tables.now c.loop-row.invariant.leads w.in-Ok.ensures.ok.1);
+            plain = plain;
+          }
+      | else-is_put w ↦
+          let none : is_put row ≡ false = sym c.is_put.ensures ∙ w.if-is_put.false in record {
+            done = none_here rows i row within c.row-item.is before c.if-is_put.tables whole none w.tables-is c.loop-row.invariant.done;
+            leads = leads_still log now before c.if-is_put.tables c.args.tables.now (ap (λ v. v.items) w.log-is) w.tables-is c.loop-row.invariant.leads;
+            plain = plain;
+          }
+    ]

@@ -1,11 +1,11 @@
-use Rattle.std.proofs.Common.{◌≡◌, All}
-use Rattle.hub_tables.specs.Changes.{rows_done}
-use Rattle.hub_machine.specs.Carry.{IsPlainPut, LeadsBack}
+use Rattle.std.proofs.Common.{◌≡◌, drop}
+use Rattle.hub_tables.specs.Changes.{rows_done, puts_of}
+use Rattle.hub_machine.specs.Carry.{NoneHashed, LeadsBack}
 use Rattle.hub_machine.proofs.carry.stage.Given as goal
 
 abbrev pub invariant-loop-row : goal.invariant-loop-row
 invariant-loop-row l = record {
-  done : rows_done l.yielded l.fn.tables ≡ l.tables;
+  done : rows_done (puts_of (drop l.row-index l.rows)) l.tables ≡ rows_done (puts_of l.rows) l.fn.tables;
   leads : LeadsBack l.log.items l.tables l.fn.tables;
-  plain : All IsPlainPut l.row-iterator.rest.items;
+  plain : NoneHashed (drop l.row-index l.rows);
 }

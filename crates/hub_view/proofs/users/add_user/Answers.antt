@@ -1,29 +1,32 @@
-use Rattle.std.proofs.Common.{◌≡◌, ◌++◌, ◌∙◌, ap, codes}
-use Rattle.std.proofs.lemmas.List.{map-id}
+use Rattle.std.proofs.Common.{◌≡◌, ◌++◌, ◌∙◌, ap, map, ℕ, List, codes}
 use Rattle.std.proofs.lemmas.Result.{on_ok_weaker}
 use Rattle.scope_filters.specs.Grants.{grant_admits}
-use Rattle.hub_view.specs.Json.{line, lines, member}
-use Rattle.hub_view.specs.Body.{body_tokens, members}
-use Rattle.hub_view.proofs.Chains.{user_added}
+use Rattle.hub_view.specs.Json.{Json, line, lines, member}
+use Rattle.hub_view.specs.Body.{members}
+use Rattle.hub_view.proofs.Chains.{named, user_added}
 use Rattle.hub_view.proofs.users.add_user.Goals as goal
 
 pub returns : goal.returns
 returns g c =
-    let shown = c.shown_fields-shown.ensures in
-    on_ok_weaker c.add_member-7.result
-    (λ (last : members c.add_member-7.new.fields.items ≡ members c.add_member-6.new.fields.items ++ member c.shown_fields-shown.result.roles (codes "roles") (body_tokens c.in_ok-roles.roles)).
+    let x0 = members c.args.fields.now.items in
+    let x2 = members c.add_moment.new.fields.items in
+    let x3 = members c.add_names.new.fields.items in
+    let x5 = members c.add_moment_or_null.new.fields.items in
+    let x6 = members c.add_line-2.new.fields.items in
+    let x7 = members c.add_names-2.new.fields.items in
+    let shown = c.shown_fields-shown.result in
+    let rights = c.shown_fields-shown.ensures in
+    on_ok_weaker c.add_names-2.result
+    (λ (last : x7 ≡ x6 ++ member shown.roles (codes "roles") (lines (map (λ (n : List ℕ). n) c.as_slice-2.result.now))).
     user_added (grant_admits (g.M.Members.context c.args.m.now) c.args.rights.now) c.args.named c.args.facts.now
-    (members c.args.fields.now.items) (members c.add_member.new.fields.items) (members c.add_member-2.new.fields.items)
-    (members c.add_member-3.new.fields.items) (members c.add_member-4.new.fields.items) (members c.add_member-5.new.fields.items)
-    (members c.add_member-6.new.fields.items) (members c.add_member-7.new.fields.items)
-    c.shown_fields-shown.result.account c.shown_fields-shown.result.groups c.shown_fields-shown.result.name
-    c.shown_fields-shown.result.activity c.shown_fields-shown.result.roles
-    (body_tokens c.truth-admin.result) (body_tokens c.in_ok-created.created) (body_tokens c.in_ok-groups.groups) (body_tokens c.in_ok-line.field-0)
-    (body_tokens c.in_ok-last_activity.last_activity) (body_tokens c.in_ok-line-2.field-0) (body_tokens c.in_ok-roles.roles)
+    x0 (members c.add_member.new.fields.items) x2 x3 (members c.add_line.new.fields.items) x5 x6 x7
     shown.account shown.groups shown.name shown.activity shown.roles
-    c.truth-admin.ensures c.in_ok-created.ensures (c.in_ok-groups.ensures ∙ ap lines (map-id c.as_slice.result.now ∙ c.as_slice.ensures))
-    c.in_ok-line.ensures c.in_ok-last_activity.ensures (c.in_ok-line-2.ensures ∙ ap line c.as_str.ensures.value)
-    (c.in_ok-roles.ensures ∙ ap lines (map-id c.as_slice-2.result.now ∙ c.as_slice-2.ensures))
-    c.in_ok-add_member.ensures.ok c.in_ok-add_member-2.ensures.ok c.in_ok-add_member-3.ensures.ok c.in_ok-add_member-4.ensures.ok
-    c.in_ok-add_member-5.ensures.ok c.in_ok-add_member-6.ensures.ok last)
-    c.add_member-7.ensures.ok
+    rights.account rights.groups rights.name rights.activity rights.roles
+    (c.in_ok-add_member.ensures.ok ∙ ap (λ (v : Json). x0 ++ member shown.account (codes "admin") v) c.truth.ensures)
+    c.in_ok-add_moment.ensures
+    (named x2 x3 shown.groups (codes "groups") c.as_slice.result.now _ c.in_ok-add_names.ensures c.as_slice.ensures)
+    c.in_ok-add_line.ensures
+    c.in_ok-add_moment_or_null.ensures
+    (c.in_ok-add_line-2.ensures ∙ ap (λ (v : List ℕ). x5 ++ member shown.name (codes "name") (line v)) c.as_str.ensures.value)
+    (named x6 x7 shown.roles (codes "roles") c.as_slice-2.result.now _ last c.as_slice-2.ensures))
+    c.add_names-2.ensures

@@ -4,7 +4,8 @@ use Rattle.std.specs.List.{flat_map}
 use Rattle.hub_rows.specs.ShareOrder.{share_cmp}
 use Rattle.keyed_rows.specs.Sorted.{in_order}
 use Rattle.roles.specs.Received.{scopes_at}
-use Rattle.roles.proofs.SharesOf.{received_scopes, more_given}
+use Rattle.roles.proofs.Appended.{more_given}
+use Rattle.roles.proofs.SharesOf.{received_scopes}
 use Rattle.roles.proofs.received.push_received.Goals as goal
 
 pub returns : goal.returns

@@ -1,4 +1,3 @@
-use Rattle.std.proofs.Common.{sym, ◌∙◌}
 use Rattle.hub_core.proofs.Places.{visited_appends}
 use Rattle.hub_core.proofs.ask.AskJobBook.act.Goals as goal
 

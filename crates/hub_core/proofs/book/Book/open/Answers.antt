@@ -1,4 +1,4 @@
-use Rattle.std.proofs.Common.{◌∙◌, ap, ◌≡◌, sym, subst}
+use Rattle.std.proofs.Common.{ap, sym, subst}
 use Rattle.hub_machine.specs.KeptRows.{Keeps}
 use Rattle.hub_machine.specs.State.{Hub}
 use Rattle.hub_core.proofs.Looking.{current_empty}

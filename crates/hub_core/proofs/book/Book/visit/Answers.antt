@@ -1,10 +1,10 @@
 use Rattle.std.proofs.Common.{subst, ◌⊎◌}
 use Rattle.hub_machine.specs.Answers.{answer_view}
 use Rattle.hub_machine.specs.declared.reply.Outcome.TheVariants as given
-use Rattle.hub_core.specs.Visits.{Standing, AnsweredAt, FaultedAt, entries_of, listed}
+use Rattle.hub_core.specs.Visits.{Standing, Gave, Faulted, AnsweredAt, FaultedAt, entries_of, listed}
 use Rattle.hub_core.proofs.Done.{may_be_done}
 use Rattle.hub_core.proofs.Looking.{current_carried}
-use Rattle.hub_core.proofs.Places.{placed}
+use Rattle.hub_core.proofs.Places.{gave, placed}
 use Rattle.hub_core.proofs.Tied.{tied_after_carry}
 use Rattle.hub_core.proofs.book.Book.visit.Goals as goal
 
@@ -34,6 +34,20 @@ invariant_of-self-2 g c = (
   c.carry.ensures.spare c.self.invariant.2,
   c.carry.ensures.keeps c.self.invariant.3,
 )
+
+pub returns-clause-visited : goal.returns-clause-visited
+returns-clause-visited g c =
+    let new : Standing = record {
+      start = c.self.inside.start.value;
+      hub = c.carry.new.machine;
+      told = g.T.Trail.told c.carry.new.trail;
+      faults = g.K.Keeper.faults c.carry.new.keeper;
+      rights = c.decide.new.rights;
+    } in
+    let P : Standing → Type 0 = λ b. Gave b new c.args.now c.args.draw c.args.asked.now (given.Answer c.in_ok-reply.reply) ⊎ Faulted b new c.args.now c.args.draw c.args.asked.now (given.Answer c.in_ok-reply.reply) in
+    subst P c.self.view_is
+    (gave _ new c.args.now c.args.draw c.args.asked.now (answer_view c.in_ok-answer.answer) c.in_ok-reply.reply
+    (g.T.Trail.long c.self.inside.trail) (g.T.Trail.long c.carry.new.trail) (c.in_ok-answer.ensures.answers c.args.draw) c.in_ok-reply.ensures.carried)
 
 pub returns-clause-followed : goal.returns-clause-followed
 returns-clause-followed g c =

@@ -1,35 +1,34 @@
-use Rattle.std.proofs.Common.{rules, ◌≡◌, ◌+◌, sym, ◌∙◌, subst}
+use Rattle.std.proofs.Common.{◌≡◌, ◌+◌, ◌++◌, ◌∷◌, [], arith, ap, ◌∙◌}
+use Rattle.std.specs.Prelude.{option_map}
 use Rattle.hub_machine.specs.Apply.{apply}
-use Rattle.hub_machine.specs.KeptRows.{Keeps}
-use Rattle.hub_machine.specs.State.{Hub, IsBounded}
-use Rattle.hub_machine.proofs.Bounds.{bounded_after}
-use Rattle.hub_machine.proofs.KeptChanges.{entered_kept}
+use Rattle.hub_machine.specs.State.{Hub, owed}
+use Rattle.hub_machine.proofs.Entered.{applied, unchanged, owed_then}
 use Rattle.hub_machine.proofs.machine.Machine.enter.Goals as goal
 
-pub returns-in_err-carry_out-clause-keeps : goal.returns-in_err-carry_out-clause-keeps
-returns-in_err-carry_out-clause-keeps g c = λ tells h.
-    let before = g.K.Keeper.rows c.args.keeper.now in
-    entered_kept c.as_slice-3.result.now c.as_slice.result.now c.in_ok-batch.batch c.carry_out.result before (g.K.Keeper.rows c.carry_out.new.keeper) c.self.inside.tables c.carry_out.new.tables
-    (c.as_slice.ensures ∙ sym c.as_slice-3.ensures) c.in_ok-batch.ensures.batch c.in_ok-batch.ensures.puts c.in_ok-batch.ensures.removals c.carry_out.ensures.done (c.carry_out.ensures.kept tells)
-    (subst (λ (s : Hub). Keeps before s.tables) (sym c.self.view_is) h)
+pub returns-then-not-branch-clause-entered : goal.returns-then-not-branch-clause-entered
+returns-then-not-branch-clause-entered g c = (
+  unchanged c.args.change c.args.self.now c.carry.new.self c.in_ok-carry.field-0 c.in_ok-carry.ensures.carried c.if-not-branch.true,
+  c.in_ok-reserve.ensures.same.0,
+  c.in_ok-reserve.ensures.same.1,
+)
 
-pub returns-then-not-branch-clause-keeps : goal.returns-then-not-branch-clause-keeps
-returns-then-not-branch-clause-keeps g c = λ tells h.
-    let before = g.K.Keeper.rows c.args.keeper.now in
-    entered_kept c.as_slice-3.result.now c.as_slice.result.now c.in_ok-batch.batch c.carry_out.result before (g.K.Keeper.rows c.carry_out.new.keeper) c.self.inside.tables c.carry_out.new.tables
-    (c.as_slice.ensures ∙ sym c.as_slice-3.ensures) c.in_ok-batch.ensures.batch c.in_ok-batch.ensures.puts c.in_ok-batch.ensures.removals c.carry_out.ensures.done (c.carry_out.ensures.kept tells)
-    (subst (λ (s : Hub). Keeps before s.tables) (sym c.self.view_is) h)
+pub returns-then-not-branch-clause-room_ok : goal.returns-then-not-branch-clause-room_ok
+returns-then-not-branch-clause-room_ok g c =
+    let same : c.carry.new.self ≡ c.args.self.now = unchanged c.args.change c.args.self.now c.carry.new.self c.in_ok-carry.field-0 c.in_ok-carry.ensures.carried c.if-not-branch.true in
+    let owing : owed c.carry.new.self.lives ≡ owed c.args.self.now.lives = ap (λ (s : Hub). owed s.lives) same in
+    let was : owed c.self.inside.lives ≡ owed c.args.self.now.lives = ap (λ (s : Hub). owed s.lives) c.self.view_is in
+    omega (arith, c.owed-owed.ensures.value, c.in_ok-reserve.ensures.room)
 
-pub returns-clause-keeps : goal.returns-clause-keeps
-returns-clause-keeps g c = λ tells h.
-    let before = g.K.Keeper.rows c.args.keeper.now in
-    entered_kept c.as_slice-3.result.now c.as_slice.result.now c.in_ok-batch.batch c.carry_out.result before (g.K.Keeper.rows c.carry_out.new.keeper) c.self.inside.tables c.carry_out.new.tables
-    (c.as_slice.ensures ∙ sym c.as_slice-3.ensures) c.in_ok-batch.ensures.batch c.in_ok-batch.ensures.puts c.in_ok-batch.ensures.removals c.carry_out.ensures.done (c.carry_out.ensures.kept tells)
-    (subst (λ (s : Hub). Keeps before s.tables) (sym c.self.view_is) h)
+pub returns-clause-entered : goal.returns-clause-entered
+returns-clause-entered g c = (
+  applied c.args.change c.args.self.now c.carry.new.self c.in_ok-carry.field-0 c.in_ok-carry.ensures.carried c.if-not-branch.false,
+  c.note.ensures.told ∙ ap (option_map (λ h. h ++ c.args.change ∷ [])) c.in_ok-reserve.ensures.same.0,
+  c.note.ensures.long ∙ ap (λ n. n + 1) c.in_ok-reserve.ensures.same.1,
+)
 
-pub invariant_of-self-2 : goal.invariant_of-self-2
-invariant_of-self-2 g c =
-    let was = c.self.inside in
-    let is : Hub = record { tables = c.carry_out.new.tables; lives = was.lives; length = was.length + 1; cost = was.cost + c.in_ok-cost.cost; pool = was.pool; hub_url = was.hub_url; no_trail = was.no_trail } in
-    let entered : is ≡ apply c.args.change c.args.self.now = search rules in
-    subst IsBounded (sym entered) (bounded_after c.args.self.now c.args.change (subst IsBounded c.self.view_is c.self.invariant) c.requires.room)
+pub returns-clause-room_ok : goal.returns-clause-room_ok
+returns-clause-room_ok g c =
+    let now : c.carry.new.self ≡ apply c.args.change c.args.self.now = applied c.args.change c.args.self.now c.carry.new.self c.in_ok-carry.field-0 c.in_ok-carry.ensures.carried c.if-not-branch.false in
+    let owing : owed c.carry.new.self.lives ≡ owed c.args.self.now.lives = ap (λ (s : Hub). owed s.lives) now ∙ owed_then c.args.change c.args.self.now in
+    let was : owed c.self.inside.lives ≡ owed c.args.self.now.lives = ap (λ (s : Hub). owed s.lives) c.self.view_is in
+    omega (arith, c.owed-owed.ensures.value, c.in_ok-reserve.ensures.room, c.note.ensures.spare)

@@ -12,4 +12,4 @@ pub returns-clause-rows : goal.returns-clause-rows
 returns-clause-rows c = c.values.ensures.rest ∙ sym (values_row nat_list_cmp_total c.self.inside.trees.groups c.values.ensures.ordered) ∙ ap (λ (s : State). map.values s.groups) c.self.view_is
 
 pub returns-clause-own : goal.returns-clause-own
-returns-clause-own c = subst (λ (s : State). OwnKeys (λ (row : Group). row.name) s.groups) c.self.view_is (c.self.invariant Groups)
+returns-clause-own c = subst (λ (s : State). OwnKeys (λ (row : Group). row.name) s.groups) c.self.view_is (c.self.invariant Groups).own

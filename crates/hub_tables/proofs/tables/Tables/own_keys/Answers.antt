@@ -6,9 +6,9 @@ use Rattle.hub_tables.proofs.tables.Tables.own_keys.Goals as goal
 pub returns : goal.returns
 returns c = subst AreOwn c.self.view_is (record {
   users = c.self.invariant Users;
-  groups = c.self.invariant Groups;
+  groups = (c.self.invariant Groups).own;
   services = c.self.invariant Services;
-  roles = c.self.invariant Roles;
+  roles = (c.self.invariant Roles).own;
   tokens = (c.self.invariant Tokens).own;
   servers = c.self.invariant Servers;
   leases = c.self.invariant Leases;

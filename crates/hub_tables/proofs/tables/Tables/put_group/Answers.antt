@@ -6,9 +6,16 @@ use Rattle.hub_rows.specs.ShareOrder.{names_exact}
 use Rattle.hub_tables.proofs.Kept.{groups_kept}
 use Rattle.hub_tables.proofs.tables.Tables.put_group.Goals as goal
 
+pub put_group-requires : goal.put_group-requires
+put_group-requires c = record { told = (c.self.invariant Groups).told }
+
 pub invariant_of-self : goal.invariant_of-self
 invariant_of-self c =
-    groups_kept c.self.inside.trees c.put.new.rows c.self.invariant (own_put nat_list_cmp_total names_exact (λ (row : Group). row.name) _ _ c.args.value c.put.result c.put.ensures.ok c.put.ensures.err (c.self.invariant Groups))
+    groups_kept c.self.inside.trees c.put_group.new.rows c.put_group.new.users c.self.invariant (record {
+      own = own_put nat_list_cmp_total names_exact (λ (row : Group). row.name) _ _ c.args.value c.put_group.result c.put_group.ensures.ok c.put_group.ensures.err (c.self.invariant Groups).own;
+      ordered = c.put_group.ensures.ordered;
+      told = c.put_group.ensures.told;
+    })
 
 pub returns-clause-answer : goal.returns-clause-answer
-returns-clause-answer c = rw (← c.self.view_is) c.put.ensures.answer
+returns-clause-answer c = rw (← c.self.view_is) c.put_group.ensures.answer

@@ -12,4 +12,4 @@ pub returns-clause-rows : goal.returns-clause-rows
 returns-clause-rows c = c.values.ensures.rest ∙ sym (values_row nat_list_cmp_total c.self.inside.trees.roles c.values.ensures.ordered) ∙ ap (λ (s : State). map.values s.roles) c.self.view_is
 
 pub returns-clause-own : goal.returns-clause-own
-returns-clause-own c = subst (λ (s : State). OwnKeys (λ (row : Role). row.name) s.roles) c.self.view_is (c.self.invariant Roles)
+returns-clause-own c = subst (λ (s : State). OwnKeys (λ (row : Role). row.name) s.roles) c.self.view_is (c.self.invariant Roles).own

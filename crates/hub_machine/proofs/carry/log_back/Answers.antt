@@ -1,0 +1,15 @@
+use Rattle.std.proofs.Common.{rules}
+use Rattle.hub_machine.proofs.Carrying.{plain_fits}
+use Rattle.hub_machine.proofs.carry.log_back.Goals as goal
+
+pub returns-clause-ok : goal.returns-clause-ok
+returns-clause-ok c =
+    record {
+      step = c.in_ok-back.back;
+      logged = search rules;
+      free = record {
+        fits = c.in_ok-back.ensures.fits c.requires.put (plain_fits c.args.tables.now c.args.row.now c.requires.unhashed);
+        there = λ p. c.in_ok-back.ensures.kept c.requires.put p;
+      };
+      back = c.in_ok-back.ensures.undoes;
+    }

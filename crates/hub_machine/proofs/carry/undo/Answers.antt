@@ -1,0 +1,14 @@
+use Rattle.std.proofs.Common.{reverse}
+use Rattle.hub_tables.specs.Changes.{rows_done}
+use Rattle.hub_machine.proofs.Carrying.{free_then, back_then}
+use Rattle.hub_machine.proofs.carry.undo.Goals as goal
+
+pub loop-back-preserved : goal.loop-back-preserved
+loop-back-preserved c =
+    let log = c.loop-back.log.items in
+    let rest = c.pop.new.self.items in
+    let before = c.loop-back.tables in
+    let after = c.go_back.new.tables in record {
+      free = free_then log rest c.in-Some.back before after c.in-Some.ensures.items c.go_back.ensures c.loop-back.invariant.free;
+      back = back_then log rest c.in-Some.back before after c.in-Some.ensures.items c.go_back.ensures (rows_done (reverse c.args.log.items) c.args.tables.now) c.loop-back.invariant.back;
+    }

@@ -1,0 +1,17 @@
+-- The tokens of a text, of a list and of an object.
+use Rattle.std.proofs.Common.{◌≡◌, ℕ, List, Vec, Global, sym, ap, ◌∙◌}
+use Rattle.hub_view.specs.Json.{Json, line, items, pairs}
+use Rattle.hub_view.specs.Body.{body_step, body_tokens, bodies, members}
+use Rattle.hub_view.specs.declared.body.Body.{Body}
+use Rattle.hub_view.specs.declared.body.Body.TheOpen.{Body-F}
+use Rattle.hub_view.specs.declared.body.Body.TheVariants.{Line, Items, Pairs, rolls-Line, rolls-Items, rolls-Pairs}
+use Rattle.hub_view.specs.declared.body.Body.TheFolds.{fold-roll-Body}
+
+pub tokens_of_line : (text : List ℕ) → body_tokens (Line text) ≡ line text
+tokens_of_line text = ap body_tokens (sym (rolls-Line text)) ∙ fold-roll-Body Json body_step (Body-F.Line text)
+
+pub tokens_of_items : (list : Vec Body Global) → body_tokens (Items list) ≡ items (bodies list.items)
+tokens_of_items list = ap body_tokens (sym (rolls-Items list)) ∙ fold-roll-Body Json body_step (Body-F.Items list)
+
+pub tokens_of_pairs : (fields : Vec (List ℕ × Body) Global) → body_tokens (Pairs fields) ≡ pairs (members fields.items)
+tokens_of_pairs fields = ap body_tokens (sym (rolls-Pairs fields)) ∙ fold-roll-Body Json body_step (Body-F.Pairs fields)
