@@ -4,7 +4,6 @@ use Rattle.std.specs.FinMap.{values}
 use Rattle.scope_filters.specs.Contexts.{same}
 use Rattle.scope_filters.specs.declared.holder.Owner.{Owner}
 use Rattle.scope_filters.specs.declared.holder.Owner.TheVariants as Of
-use Rattle.hub_rows.specs.declared.changes.RowChange.{RowChange}
 use Rattle.hub_rows.specs.declared.changes.RowChange.TheVariants.{RemoveToken, RemoveServerRow, RemoveShare}
 use Rattle.hub_rows.specs.declared.keys.Recipient.{Recipient}
 use Rattle.hub_rows.specs.declared.keys.Recipient.TheVariants as To

@@ -1,3 +1,4 @@
 mod Found
 mod Taken
 pub mod Plain
+mod Walked

@@ -98,7 +98,12 @@ fn check_users(tables: &Tables, users: &[UserName]) -> Result<(), RuleRefusal>
 pub(crate) fn unkept_user<'a>(tables: &Tables, users: &'a [UserName]) -> Option<&'a UserName>
     ensures { option_copied result ≡ first_unkept tables.now.users users.now }
 {
-    users.iter().find(|user| tables.user(user).is_none())
+    for user in users {
+        if tables.user(user).is_none() {
+            return Some(user);
+        }
+    }
+    None
 }
 
 /// A kept group with other members, unless they are the same.

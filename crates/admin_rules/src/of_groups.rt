@@ -20,8 +20,7 @@ pub(crate) fn group_rows(
     ensures { IfOk result (λ rows. rows.items ≡ group_rows tables.now group.now) }
 {
     let mut rows = Vec::new(alloc);
-    purge_group(alloc, &mut rows, tables, group)?;
-    Ok(rows)
+    purge_group(alloc, &mut rows, tables, group).and(Ok(rows))
 }
 
 /// Fills the changes, of which there are none yet, with those that go with a group.

@@ -23,8 +23,7 @@ pub(crate) fn service_rows(
     ensures { IfOk result (λ rows. rows.items ≡ service_rows tables.now service.now) }
 {
     let mut rows = Vec::new(alloc);
-    purge_service(alloc, &mut rows, tables, service)?;
-    Ok(rows)
+    purge_service(alloc, &mut rows, tables, service).and(Ok(rows))
 }
 
 /// Fills the changes, of which there are none yet, with those that go with a service.

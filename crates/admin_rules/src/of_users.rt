@@ -24,8 +24,7 @@ pub(crate) fn user_rows(
     ensures { IfOk result (λ rows. rows.items ≡ user_rows tables.now user.now) }
 {
     let mut rows = Vec::new(alloc);
-    purge_user(alloc, &mut rows, tables, user)?;
-    Ok(rows)
+    purge_user(alloc, &mut rows, tables, user).and(Ok(rows))
 }
 
 /// Fills the changes, of which there are none yet, with those that go with a user.

@@ -52,7 +52,7 @@ fn purge_row<R, P: Purge<R>>(
     ensures { OnOk result (changes.new.items ≡ changes.old.items ++ changes_of (P.takes gone.now) (P.makes gone.now) (row.now ∷ [])) }
 {
     if gone.is_taken(row) {
-        append(changes, gone.change(alloc, row)?)?;
+        return append(changes, gone.change(alloc, row)?);
     }
     Ok(())
 }

@@ -76,7 +76,12 @@ fn check_scopes(alloc: Global, table: &ScopeTable, scopes: &[RawScope]) -> Resul
 fn unknown_scope<'a>(table: &ScopeTable, scopes: &'a [RawScope]) -> Option<&'a RawScope>
     ensures { option_copied result ≡ unknown_scope table.now scopes.now }
 {
-    scopes.iter().find(|scope| !is_known_scope(table, scope))
+    for scope in scopes {
+        if !is_known_scope(table, scope) {
+            return Some(scope);
+        }
+    }
+    None
 }
 
 fn is_known_scope(table: &ScopeTable, scope: &RawScope) -> bool
@@ -120,15 +125,23 @@ fn unknown_holder<'a>(tables: &Tables, role: &'a Role) -> Option<&'a str>
 fn unkept_group<'a>(tables: &Tables, groups: &'a [GroupName]) -> Option<&'a GroupName>
     ensures { option_copied result ≡ first_unkept tables.now.groups groups.now }
 {
-    groups.iter().find(|group| tables.group(group).is_none())
+    for group in groups {
+        if tables.group(group).is_none() {
+            return Some(group);
+        }
+    }
+    None
 }
 
 fn unkept_service<'a>(tables: &Tables, services: &'a [ServiceName]) -> Option<&'a ServiceName>
     ensures { option_copied result ≡ first_unkept tables.now.services services.now }
 {
-    services
-        .iter()
-        .find(|service| tables.service(service).is_none())
+    for service in services {
+        if tables.service(service).is_none() {
+            return Some(service);
+        }
+    }
+    None
 }
 
 /// Whether two roles have the same scopes in the same order, and the same holders. Scopes are equal exactly where their texts

@@ -5,7 +5,7 @@ ghost use Rattle.admin_rules.specs.Users.{add_users, delete_user, if_none_new, n
 
 use crate::of_users::user_rows;
 use crate::refusals::{RuleRefusal, check_room};
-use crate::rows::one;
+use crate::rows::{append, one};
 use hub_kit::moment::Moment;
 use hub_kit::names::UserName;
 use hub_kit::text::Text;
@@ -44,11 +44,13 @@ fn unkept_users(
 ) -> Result<Vec<UserName>, AllocError>
     ensures { IfOk result (λ new. new.items ≡ unkept_users tables.now names.now) }
 {
-    names
-        .iter()
-        .copied()
-        .filter(|name| tables.user(name).is_none())
-        .collect(alloc)
+    let mut new = Vec::new(alloc);
+    for name in names {
+        if tables.user(name).is_none() {
+            new.push(*name)?;
+        }
+    }
+    Ok(new)
 }
 
 /// Refuses where none of the names is new.
@@ -71,10 +73,11 @@ fn new_users(
 ) -> Result<Vec<RowChange>, AllocError>
     ensures { IfOk result (λ rows. rows.items ≡ map (new_user admin now) names.now) }
 {
-    names
-        .iter()
-        .map(|name| new_user(*name, admin, now))
-        .collect(alloc)
+    let mut users = Vec::new(alloc);
+    for name in names {
+        append(&mut users, new_user(*name, admin, now))?;
+    }
+    Ok(users)
 }
 
 fn new_user(name: UserName, admin: bool, now: Moment) -> RowChange

@@ -1,5 +1,5 @@
 //! The heads of a source's requests.
-ghost use Rattle.std.specs.Prelude.{◌≡◌, ◌≤◌, ◌<◌, ◌++◌, ◌*◌, ◌/◌, ◌+◌, ℕ, List, length, drop, Some, IfOk, IfErr, IfSome, IfNone};
+ghost use Rattle.std.specs.Prelude.{◌≡◌, ◌≤◌, ◌<◌, ◌++◌, ◌*◌, ◌/◌, ◌+◌, ℕ, List, length, drop, Some, IfOk, IfErr, OnOk, IfSome, IfNone};
 ghost use Rattle.httparse.specs.Grammar.{RequestHead, print_request};
 ghost use Rattle.httparse.specs.Spans.{IsRequestWithin, IsRequestOf};
 ghost use Rattle.hub_devices.specs.Streams.{Takes, IsEnd};
@@ -90,6 +90,25 @@ fn look(alloc: Global, kept: &mut WireBuffer) -> Result<Option<Head>, WireError>
     }
 }
 
+/// Reads once where no head is whole yet. An error says why nothing came.
+fn read_more<I: Source>(input: &mut I, kept: &mut WireBuffer) -> Result<(), WireError>
+    requires open { IsOpen kept.old }
+    requires short { length kept.old < 16384 }
+    ensures took { Took (I.left input.old) kept.old (I.left input.new) kept.new }
+    ensures longer { OnOk result (length kept.old < length kept.new) }
+    ensures err { IfErr result (λ e. RefusedAt (I.left input.new) kept.new e) }
+    ensures counted { I.faults input.old ≤ I.faults input.new }
+    ensures cause { result ≡ Err WireError.ReadFault → Rises (I.faults input.old) (I.faults input.new) }
+{
+    match fill(input, kept) {
+        Ok(0) if kept.as_slice().is_empty() => Err(WireError::Ended),
+        Ok(0) => Err(WireError::Cut),
+        Ok(_) => Ok(()),
+        Err(FillError::Fault) => Err(WireError::ReadFault),
+        Err(FillError::Memory) => Err(WireError::Memory),
+    }
+}
+
 /// Reads until a head is whole.
 fn read_until_head<I: Source>(
     alloc: Global,
@@ -108,12 +127,9 @@ fn read_until_head<I: Source>(
             Some(head) => return Ok(head),
             None => {}
         }
-        match fill(input, kept) {
-            Ok(0) if kept.as_slice().is_empty() => return Err(WireError::Ended),
-            Ok(0) => return Err(WireError::Cut),
-            Ok(_) => {}
-            Err(FillError::Fault) => return Err(WireError::ReadFault),
-            Err(FillError::Memory) => return Err(WireError::Memory),
+        match read_more(input, kept) {
+            Ok(()) => {}
+            Err(e) => return Err(e),
         }
     }
 }

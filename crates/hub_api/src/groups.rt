@@ -73,8 +73,9 @@ fn add_group(alloc: Global, request: &Request) -> Result<Call, ApiRefusal>
 {
     let g: GroupName = name_at(alloc, request, 4)?;
     let body = body_of(alloc, request)?;
-    let users: List<UserName> = list(alloc, &body, "users")?;
-    Ok(Call::C23 { g, users })
+    let users: Result<List<UserName>, ApiRefusal> = list(alloc, &body, "users");
+    drop(body);
+    Ok(Call::C23 { g, users: users? })
 }
 
 #[tactic(auto, unfolding(crate::specs::Readings::delete_group))]
@@ -91,8 +92,9 @@ fn join_group(alloc: Global, request: &Request) -> Result<Call, ApiRefusal>
 {
     let g: GroupName = name_at(alloc, request, 4)?;
     let body = body_of(alloc, request)?;
-    let users = some_names(alloc, &body, "users")?;
-    Ok(Call::C25 { g, users })
+    let users = some_names(alloc, &body, "users");
+    drop(body);
+    Ok(Call::C25 { g, users: users? })
 }
 
 #[tactic(auto, unfolding(crate::specs::Readings::leave_group))]
@@ -101,6 +103,7 @@ fn leave_group(alloc: Global, request: &Request) -> Result<Call, ApiRefusal>
 {
     let g: GroupName = name_at(alloc, request, 4)?;
     let body = body_of(alloc, request)?;
-    let users = some_names(alloc, &body, "users")?;
-    Ok(Call::C26 { g, users })
+    let users = some_names(alloc, &body, "users");
+    drop(body);
+    Ok(Call::C26 { g, users: users? })
 }

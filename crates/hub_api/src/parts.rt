@@ -22,7 +22,7 @@ use serde_json::Value;
 use std::alloc::Global;
 
 /// A part of a list.
-#[derive(Clone, Copy, Debug, PartialEq, Eq)]
+#[derive(Clone, Copy)]
 pub(crate) struct Page {
     pub(crate) offset: u64,
     /// How many objects at most, of which there is one at least.

@@ -1,5 +1,5 @@
 //! The paths of the calls, found by `matchit`.
-ghost use Rattle.std.specs.Prelude.{◌≡◌, [], map, IfOk};
+ghost use Rattle.std.specs.Prelude.{◌≡◌, [], map, IfOk, OnOk};
 ghost use Rattle.hub_api.specs.Paths.{with_all, hub_paths, hub_rows};
 ghost use Rattle.hub_api.specs.Paths as spec;
 
@@ -31,12 +31,19 @@ fn router_of(alloc: Global, paths: &[&str]) -> Result<ApiRouter, AllocError>
     ensures { IfOk result (λ router. router ≡ with_all [] 0 (map (λ s. s.now) paths.now)) }
 {
     let mut router = Router::new(alloc);
+    insert_all(&mut router, paths).and(Ok(router))
+}
+
+/// Adds paths to a router that has none, each with its place.
+fn insert_all(router: &mut ApiRouter, paths: &[&str]) -> Result<(), AllocError>
+    ensures { OnOk result (router.new ≡ with_all router.old 0 (map (λ s. s.now) paths.now)) }
+{
     for i in 0..paths.len() {
         if router.insert(paths[i], i).is_err() {
             return Err(AllocError);
         }
     }
-    Ok(router)
+    Ok(())
 }
 
 /// The table.

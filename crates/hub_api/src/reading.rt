@@ -100,12 +100,18 @@ pub fn read_call(alloc: Global, router: &ApiRouter, request: Request) -> Result<
     ensures { Gives result (spec.call_read request) }
 {
     let row = row_of(router, request.path.as_str());
-    let call = call_of(alloc, row, &request)?;
-    Ok(Asked {
-        token: request.token,
-        seen: request.seen,
-        call,
-    })
+    match call_of(alloc, row, &request) {
+        Ok(call) => Ok(Asked {
+            token: request.token,
+            seen: request.seen,
+            call,
+        }),
+        Err(refusal) => {
+            // in one call, since it has many parts
+            drop(request);
+            Err(refusal)
+        }
+    }
 }
 
 /// Whether a call draws random bytes before its visit. None of the calls that are built does.

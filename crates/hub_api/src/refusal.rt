@@ -1,5 +1,5 @@
 //! Refusals that come before any visit: of the wire, and of what a request asks.
-ghost use Rattle.std.specs.Prelude.{◌≡◌, IfOk, option_map};
+ghost use Rattle.std.specs.Prelude.{◌≡◌, Some, IfOk, option_map};
 ghost use Rattle.hub_machine.specs.Answers.{reply_view};
 ghost use Rattle.hub_api.specs.ReplyText as spec;
 ghost use Rattle.hub_api.specs.Refusals.{api_refusal, wire_refusal};
@@ -13,7 +13,7 @@ use std::alloc::{AllocError, Global};
 
 /// Why a request asks no call. The first that applies is answered, in this order; `Memory` may stand in the place of any
 /// other, and of a call.
-#[derive(Clone, Copy, Debug, PartialEq, Eq)]
+#[derive(Clone, Copy, PartialEq, Eq)]
 pub enum ApiRefusal {
     /// The path isn't in the table of calls: 404 `no such path`.
     NoPath,
@@ -87,9 +87,15 @@ pub fn wire_refusal_reply(alloc: Global, error: WireError) -> Result<Option<Repl
     ensures { IfOk result (λ reply. option_map reply_view reply ≡ wire_refusal error) }
 {
     match error {
-        WireError::BadHead => Ok(Some(refused(alloc, 400, "bad head")?)),
-        WireError::TooLarge(_) => Ok(Some(refused(alloc, 413, "too large")?)),
-        WireError::Coding => Ok(Some(refused(alloc, 501, "coding not supported")?)),
+        WireError::BadHead => some_refused(alloc, 400, "bad head"),
+        WireError::TooLarge(_) => some_refused(alloc, 413, "too large"),
+        WireError::Coding => some_refused(alloc, 501, "coding not supported"),
         WireError::Ended | WireError::Cut | WireError::ReadFault | WireError::Memory => Ok(None),
     }
+}
+
+fn some_refused(alloc: Global, status: u16, message: &str) -> Result<Option<Reply>, AllocError>
+    ensures { IfOk result (λ reply. option_map reply_view reply ≡ Some (spec.refused status message.now)) }
+{
+    Ok(Some(refused(alloc, status, message)?))
 }

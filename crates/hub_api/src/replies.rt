@@ -1,5 +1,7 @@
 //! The bytes of replies.
-ghost use Rattle.std.specs.Prelude.{◌≡◌, ◌++◌, OnOk, IfOk, decimal};
+ghost use Rattle.std.specs.Prelude.{◌≡◌, [], ◌++◌, OnOk, IfOk, decimal};
+ghost use Rattle.http.specs.StatusCode.{reason_phrase};
+ghost use Rattle.json.specs.Print.{print};
 ghost use Rattle.hub_view.specs.Body.{body_tokens};
 ghost use Rattle.hub_machine.specs.Answers.{reply_view};
 ghost use Rattle.hub_api.specs.ReplyText as spec;
@@ -44,12 +46,19 @@ fn add_number(alloc: Global, text: &mut Bytes, name: &[u8], value: u64) -> Resul
 fn add_status_line(alloc: Global, text: &mut Bytes, status: u16) -> Result<(), AllocError>
     ensures { OnOk result (text.new ≡ text.old ++ spec.status_line status) }
 {
-    let digits = format!(in alloc; "{status}")?;
     text.push_all(b"HTTP/1.1 ")?;
-    text.push_all(digits.as_bytes())?;
+    add_decimal(alloc, text, status)?;
     text.push_all(b" ")?;
     text.push_all(phrase(status).as_bytes())?;
     text.push_all(b"\r\n")
+}
+
+/// Adds the digits of a number.
+fn add_decimal(alloc: Global, text: &mut Bytes, number: u16) -> Result<(), AllocError>
+    ensures { OnOk result (text.new ≡ text.old ++ decimal number) }
+{
+    let digits = format!(in alloc; "{number}")?;
+    text.push_all(digits.as_bytes())
 }
 
 /// The phrase of a status, or nothing where none is known.
@@ -57,11 +66,17 @@ fn phrase(status: u16) -> &'static str
     ensures { result.now ≡ spec.phrase status }
 {
     match StatusCode::from_u16(status) {
-        Ok(code) => match code.canonical_reason() {
-            Some(phrase) => phrase,
-            None => "",
-        },
+        Ok(code) => phrase_of(code),
         Err(_) => "",
+    }
+}
+
+fn phrase_of(code: StatusCode) -> &'static str
+    ensures { result.now ≡ spec.text_or_none (reason_phrase code) }
+{
+    match code.canonical_reason() {
+        Some(phrase) => phrase,
+        None => "",
     }
 }
 
@@ -147,22 +162,31 @@ fn has_body(body: &Body) -> bool
     !matches!(body, Body::Nothing)
 }
 
+/// Adds the parts of a reply whose body has these bytes.
+fn add_reply(
+    alloc: Global,
+    text: &mut Bytes,
+    reply: &Reply,
+    body: &[u8],
+    close: bool,
+) -> Result<(), AllocError>
+    requires { text.old ≡ [] }
+    ensures { OnOk result (body.now ≡ print (body_tokens reply.now.body) → text.new ≡ spec.reply_text (reply_view reply.now) close) }
+{
+    add_status_line(alloc, text, reply.status)?;
+    add_body_headers(alloc, text, reply.status, has_body(&reply.body), body.len())?;
+    add_other_headers(alloc, text, reply, close)?;
+    text.push_all(b"\r\n")?;
+    text.push_all(body)
+}
+
 /// The bytes of a reply (RFC 9112); `close` says that the connection is closed after it.
 pub fn reply_text(alloc: Global, reply: &Reply, close: bool) -> Result<Bytes, AllocError>
     ensures { IfOk result (λ text. text ≡ spec.reply_text (reply_view reply.now) close) }
 {
     let body = body_text(alloc, &reply.body)?;
     let mut text = Bytes::new(alloc);
-    add_status_line(alloc, &mut text, reply.status)?;
-    add_body_headers(
-        alloc,
-        &mut text,
-        reply.status,
-        has_body(&reply.body),
-        body.len(),
-    )?;
-    add_other_headers(alloc, &mut text, reply, close)?;
-    text.push_all(b"\r\n")?;
-    text.push_all(body.as_slice())?;
-    Ok(text)
+    let added = add_reply(alloc, &mut text, reply, body.as_slice(), close);
+    drop(body);
+    added.and(Ok(text))
 }

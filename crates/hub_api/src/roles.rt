@@ -1,4 +1,9 @@
 //! The calls on roles.
+ghost use Rattle.std.specs.Prelude.{◌≡◌, Ok};
+ghost use Rattle.http_wire.specs.declared.request.Request.{Request};
+ghost use Rattle.serde_json.specs.View.{view};
+ghost use Rattle.hub_api.specs.Bodies.{body_of};
+ghost use Rattle.hub_api.specs.Names.{name_at};
 ghost use Rattle.hub_api.specs.Refusals.{Gives};
 ghost use Rattle.hub_api.specs.Readings as spec;
 ghost use Rattle.hub_api.specs.Calls as paths;
@@ -10,6 +15,7 @@ use http_wire::request::Request;
 use hub_kit::list::List;
 use hub_kit::names::{GroupName, RoleName, ServiceName, UserName};
 use hub_machine::call::Call;
+use serde_json::Value;
 use std::alloc::Global;
 
 /// `/roles`, by its methods.
@@ -56,17 +62,26 @@ fn get_role(alloc: Global, request: &Request) -> Result<Call, ApiRefusal>
     Ok(Call::C32 { r })
 }
 
-/// The body is read whole before its scopes are.
 #[tactic(auto, unfolding(crate::specs::Readings::put_role))]
 fn put_role(alloc: Global, request: &Request) -> Result<Call, ApiRefusal>
     ensures { Gives result (spec.put_role request.now) }
 {
     let r: RoleName = name_at(alloc, request, 4)?;
     let body = body_of(alloc, request)?;
-    let texts = scope_texts(alloc, &body)?;
-    let users: List<UserName> = list(alloc, &body, "users")?;
-    let groups: List<GroupName> = list(alloc, &body, "groups")?;
-    let services: List<ServiceName> = list(alloc, &body, "services")?;
+    let call = put_role_of(alloc, r, &body);
+    drop(body);
+    call
+}
+
+/// The call that puts a role, by its name and its body. The body is read whole before its scopes are.
+#[tactic(auto, unfolding(crate::specs::Readings::put_role))]
+fn put_role_of(alloc: Global, r: RoleName, body: &Value) -> Result<Call, ApiRefusal>
+    ensures { (q : Request) → name_at 4 q ≡ Ok r → body_of q ≡ Ok (view body.now) → Gives result (spec.put_role q) }
+{
+    let texts = scope_texts(alloc, body)?;
+    let users: List<UserName> = list(alloc, body, "users")?;
+    let groups: List<GroupName> = list(alloc, body, "groups")?;
+    let services: List<ServiceName> = list(alloc, body, "services")?;
     let scopes = scopes(alloc, &texts)?;
     Ok(Call::C33 {
         r,

@@ -52,9 +52,13 @@ fn add_users(alloc: Global, request: &Request) -> Result<Call, ApiRefusal>
     ensures { Gives result (spec.add_users request.now) }
 {
     let body = body_of(alloc, request)?;
-    let usernames = distinct_names(alloc, &body, "usernames")?;
-    let admin = truth(&body, "admin")?;
-    Ok(Call::C5 { usernames, admin })
+    let usernames = distinct_names(alloc, &body, "usernames");
+    let admin = truth(&body, "admin");
+    drop(body);
+    Ok(Call::C5 {
+        usernames: usernames?,
+        admin: admin?,
+    })
 }
 
 #[tactic(auto, unfolding(crate::specs::Readings::get_user))]
@@ -79,8 +83,9 @@ fn change_user(alloc: Global, request: &Request) -> Result<Call, ApiRefusal>
 {
     let u: UserName = name_at(alloc, request, 4)?;
     let body = body_of(alloc, request)?;
-    let admin = needed_truth(&body, "admin")?;
-    Ok(Call::C8 { u, admin })
+    let admin = needed_truth(&body, "admin");
+    drop(body);
+    Ok(Call::C8 { u, admin: admin? })
 }
 
 #[tactic(auto, unfolding(crate::specs::Readings::delete_user))]

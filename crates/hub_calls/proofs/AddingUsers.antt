@@ -15,10 +15,7 @@ use Rattle.hub_machine.specs.Apply.{change_done}
 use Rattle.hub_rows.specs.declared.records.User.{User}
 use Rattle.hub_rows.specs.declared.changes.RowChange.{RowChange}
 use Rattle.admin_rules.specs.Users.{new_user, add_users, unkept_users}
-use Rattle.hub_calls.proofs.Ruling.{ok_rows, ruled}
-use Rattle.hub_calls.specs.Users.{post_users}
-use Rattle.hub_machine.specs.Replies.{good, rows_then}
-use Rattle.hub_view.specs.Json.{items}
+use Rattle.hub_calls.proofs.Ruling.{ruled}
 use Rattle.hub_view.specs.Json.{Json}
 use Rattle.hub_view.specs.Fields.{Rights}
 use Rattle.hub_machine.specs.State.{Hub}
@@ -90,11 +87,10 @@ users_shown may s admin now (u ∷ us) =
     ap (λ (t : State). bodies_in may s t (u ∷ us)) (change_added admin now (u ∷ us) s.tables)
     ∙ shown may s admin now (added admin now (u ∷ us) s.tables.users) (u ∷ us) (have admin now (u ∷ us) s.tables.users)
 
--- the answer of the rows that the rules made of these names
-pub posted : (may : Rights) (s : Hub) (admin : Bool) (now : ℕ) (names : List (List ℕ)) (rows : List RowChange)
-    → add_users s.tables names admin now ≡ Ok rows → rows_then rows (good 201 (items (bodies_put may s rows))) ≡ post_users s may now names admin
-posted may s admin now names rows e =
+-- what is shown of the rows that the rules made of these names
+pub shown_when_added : (may : Rights) (s : Hub) (admin : Bool) (now : ℕ) (names : List (List ℕ)) (rows : List RowChange)
+    → add_users s.tables names admin now ≡ Ok rows → bodies_put may s rows ≡ map (user_at may (after_rows rows s)) (unkept_users s.tables names)
+shown_when_added may s admin now names rows e =
     let new : List (List ℕ) = unkept_users s.tables names in
     let P : List RowChange → Type 0 = λ r. bodies_put may s r ≡ map (user_at may (after_rows r s)) new in
-    ok_rows s (add_users s.tables names admin now) rows (λ after. good 201 (items (map (user_at may after) new))) _ e
-    (ap (λ b. good 201 (items b)) (subst P (ruled (users.if_none_new new names ∷ rules.if_full 1 s.tables.limits.users (len s.tables.users) (length new) ∷ []) (map (new_user admin now) new) rows e) (sym (users_shown may s admin now new))))
+    subst P (ruled (users.if_none_new new names ∷ rules.if_full 1 s.tables.limits.users (len s.tables.users) (length new) ∷ []) (map (new_user admin now) new) rows e) (sym (users_shown may s admin now new))

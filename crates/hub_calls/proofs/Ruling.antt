@@ -1,6 +1,8 @@
 -- Calls that answer by the rules.
 use Rattle.std.proofs.Common.{◌≡◌, ℕ, Bool, true, false, not, cond, List, [], ◌∷◌, map, length, Option, refl, sym, ◌∙◌, ap, subst}
-use Rattle.std.specs.Prelude.{Some, None, Ok, Err}
+use Rattle.std.specs.Prelude.{Some, None, Ok, Err, Result, IfOk}
+use Rattle.std.specs.declared.vec.Vec.{Vec}
+use Rattle.std.specs.declared.alloc.Global.{Global}
 use Rattle.std.specs.FinMap.{get, contains_key, len}
 use Rattle.keyed_rows.specs.Sorted.{in_order, with_keys, without_keys}
 use Rattle.admin_rules.specs.declared.refusals.RuleRefusal.TheVariants.{Exists}
@@ -9,11 +11,14 @@ use Rattle.hub_tables.specs.State.{State}
 use Rattle.hub_rows.specs.declared.records.User.{User}
 use Rattle.hub_rows.specs.declared.records.Group.{Group}
 use Rattle.hub_rows.specs.declared.changes.RowChange.{RowChange}
-use Rattle.hub_rows.specs.declared.changes.RowChange.TheVariants.{PutUser, PutGroup}
+use Rattle.hub_rows.specs.declared.changes.RowChange.TheVariants.{PutUser, PutGroup, PutService}
 use Rattle.admin_rules.specs.declared.refusals.RuleRefusal.{RuleRefusal}
 use Rattle.admin_rules.specs.Rules as rules
 use Rattle.admin_rules.specs.Users as users
 use Rattle.admin_rules.specs.Groups as groups
+use Rattle.admin_rules.specs.Services as services
+use Rattle.hub_view.specs.Fields.{Rights}
+use Rattle.hub_calls.specs.Facts.{service_body}
 use Rattle.hub_machine.specs.State.{Hub}
 use Rattle.hub_machine.specs.Replies.{Good, rows_then}
 use Rattle.hub_calls.specs.Calling.{after_rows, by_rules}
@@ -85,3 +90,17 @@ add_group_puts t g names rows e =
     let P : List RowChange → Type 0 = λ r. PutsGroup g r in
     let made : List RowChange = PutGroup (record { name = g; users = in_order name_cmp names }) ∷ [] in
     subst P (ruled (rules.if_so (contains_key t.groups g) (Exists g) ∷ groups.if_unknown_user t names ∷ rules.if_full 2 t.limits.groups (len t.groups) 1 ∷ []) made rows e) refl
+
+-- a new service changes nothing that its body shows
+pub add_service_keeps : (may : Rights) (s : Hub) (v : List ℕ) (rows : List RowChange)
+    → services.add_service s.tables v ≡ Ok rows → service_body may s v ≡ service_body may (after_rows rows s) v
+add_service_keeps may s v rows e =
+    let P : List RowChange → Type 0 = λ r. service_body may s v ≡ service_body may (after_rows r s) v in
+    let made : List RowChange = PutService (record { name = v }) ∷ [] in
+    subst P (ruled (rules.if_so (contains_key s.tables.services v) (Exists v) ∷ rules.if_full 3 s.tables.limits.services (len s.tables.services) 1 ∷ []) made rows e) refl
+
+-- what holds of the rows that an answer gives holds where a call says that answer
+pub says_rows : (answer : rules.Answer) (r : Result (Vec RowChange Global) RuleRefusal) (P : List RowChange → Type 0)
+    → ((rows : List RowChange) → answer ≡ Ok rows → P rows) → rules.Says answer r → IfOk r (λ v. P v.items)
+says_rows answer (Ok v) P f h = f v.items h
+says_rows answer (Err x) P f h = tt

@@ -1,19 +1,25 @@
 //! The calls on groups.
-ghost use Rattle.std.specs.Prelude.{◌≡◌, IfOk};
+ghost use Rattle.std.specs.Prelude.{◌≡◌, [], OnOk, IfOk};
+ghost use Rattle.std.specs.FinMap as map;
 ghost use Rattle.std.specs.Option.{option_copied};
 ghost use Rattle.hub_view.specs.Body.{body_tokens};
+ghost use Rattle.hub_view.specs.Pages.{after};
+ghost use Rattle.admin_rules.specs.Rules as rules;
+ghost use Rattle.hub_machine.specs.Replies.{good};
 ghost use Rattle.hub_machine.specs.Answers.{answer_view};
-ghost use Rattle.hub_calls.specs.Calling.{after_rows};
-ghost use Rattle.hub_calls.specs.Facts.{group_at};
+ghost use Rattle.hub_calls.specs.Calling.{after_rows, by_rules};
+ghost use Rattle.hub_calls.specs.Facts.{group_at, groups_shown};
 ghost use Rattle.hub_calls.specs.Puts.{PutsGroup, group_put, with_put_group};
 ghost use Rattle.hub_calls.specs.Rights.{may_of};
 ghost use Rattle.hub_calls.specs.Groups as spec;
 
 use crate::bodies::{allows, group_at, group_body, names_are_own, show_group};
-use crate::ruled::{carried, refused};
+use crate::lists::listed;
+use crate::ruled::{answered, carried, refused};
 use admin_rules::groups;
+use admin_rules::refusals::RuleRefusal;
 use hub_kit::names::{GroupName, UserName};
-use hub_machine::answer::{Answer, gives, plain, rows_then};
+use hub_machine::answer::{Answer, gives};
 use hub_machine::machine::Machine;
 use hub_rows::changes::RowChange;
 use hub_rows::records::Group;
@@ -43,13 +49,26 @@ pub fn get_groups(
     ensures { IfOk result (λ answer. answer_view answer ≡ spec.get_groups hub.now (may_of hub.now rights.now) page) }
 {
     let mut list = Listing::new(alloc, page);
+    list_groups(alloc, hub, rights, &mut list)?;
+    listed(alloc, list, "/groups")
+}
+
+/// Shows the groups that the caller may list.
+fn list_groups(
+    alloc: Global,
+    hub: &Machine,
+    rights: &Grant,
+    list: &mut Listing,
+) -> Result<(), AllocError>
+    ensures { OnOk result (after list.new [] ≡ after list.old (groups_shown (may_of hub.now rights.now) hub.now (map.values hub.now.tables.groups))) }
+{
     for group in hub.tables().groups() {
         let object = Object::Group(group.name);
         if allows(hub, rights, Action::ListGroups, &object) {
-            show_group(alloc, hub, rights, &mut list, group)?;
+            show_group(alloc, hub, rights, list, group)?;
         }
     }
-    Ok(gives(200, list.into_body(alloc, "/groups")?))
+    Ok(())
 }
 
 /// `GET /groups/{g}`
@@ -94,6 +113,27 @@ fn group_after(
     put_or_kept_group(alloc, hub, rights, group, group_put(rows))
 }
 
+/// The answer of a rule whose rows put that group or nothing: it shows the group as they leave it.
+fn answer_of_group(
+    alloc: Global,
+    hub: &Machine,
+    rights: &Grant,
+    group: &GroupName,
+    status: u16,
+    rows: Result<Vec<RowChange>, RuleRefusal>,
+) -> Result<Answer, AllocError>
+    requires { IfOk rows (λ rows. PutsGroup group.now rows.items) }
+    ensures { IfOk result (λ a. (answer : rules.Answer) → rules.Says answer rows → answer_view a ≡ by_rules hub.now answer (λ after. good status (group_at (may_of hub.now rights.now) after group.now))) }
+{
+    match rows {
+        Ok(rows) => {
+            let body = group_after(alloc, hub, rights, group, rows.as_slice());
+            answered(rows, status, body)
+        }
+        Err(refusal) => refused(alloc, refusal),
+    }
+}
+
 /// `POST /groups/{g}`
 pub fn post_group(
     alloc: Global,
@@ -104,13 +144,8 @@ pub fn post_group(
 ) -> Result<Answer, AllocError>
     ensures { IfOk result (λ answer. answer_view answer ≡ spec.post_group hub.now (may_of hub.now rights.now) group.now users.now) }
 {
-    match groups::add_group(alloc, hub.tables(), group, users) {
-        Ok(rows) => {
-            let body = group_after(alloc, hub, rights, group, rows.as_slice())?;
-            Ok(rows_then(rows, plain(201, body)))
-        }
-        Err(refusal) => refused(alloc, refusal),
-    }
+    let rows = groups::add_group(alloc, hub.tables(), group, users);
+    answer_of_group(alloc, hub, rights, group, 201, rows)
 }
 
 /// `DELETE /groups/{g}`
@@ -132,13 +167,8 @@ pub fn join_group(
 {
     let tables = hub.tables();
     names_are_own(tables);
-    match groups::join_group(alloc, tables, group, users) {
-        Ok(rows) => {
-            let body = group_after(alloc, hub, rights, group, rows.as_slice())?;
-            Ok(rows_then(rows, plain(200, body)))
-        }
-        Err(refusal) => refused(alloc, refusal),
-    }
+    let rows = groups::join_group(alloc, tables, group, users);
+    answer_of_group(alloc, hub, rights, group, 200, rows)
 }
 
 /// `DELETE /groups/{g}/users`
@@ -153,11 +183,6 @@ pub fn leave_group(
 {
     let tables = hub.tables();
     names_are_own(tables);
-    match groups::leave_group(alloc, tables, group, users) {
-        Ok(rows) => {
-            let body = group_after(alloc, hub, rights, group, rows.as_slice())?;
-            Ok(rows_then(rows, plain(200, body)))
-        }
-        Err(refusal) => refused(alloc, refusal),
-    }
+    let rows = groups::leave_group(alloc, tables, group, users);
+    answer_of_group(alloc, hub, rights, group, 200, rows)
 }

@@ -6,6 +6,7 @@
 pub mod bodies;
 pub mod facts;
 pub mod group_calls;
+mod lists;
 pub mod role_calls;
 mod ruled;
 pub mod service_calls;

@@ -1,16 +1,21 @@
 //! The calls on roles.
-ghost use Rattle.std.specs.Prelude.{◌≡◌, IfOk};
+ghost use Rattle.std.specs.Prelude.{◌≡◌, [], map as over, OnOk, IfOk, if◌then◌else◌};
+ghost use Rattle.std.specs.FinMap as map;
+ghost use Rattle.hub_view.specs.Pages.{after};
+ghost use Rattle.hub_view.specs.Records.{role_body};
 ghost use Rattle.hub_machine.specs.Answers.{answer_view};
 ghost use Rattle.hub_calls.specs.Roles as spec;
 
 use crate::bodies::{role_at, show_role};
-use crate::ruled::{carried, refused};
+use crate::lists::listed;
+use crate::ruled::{answered, carried, refused};
 use admin_rules::roles;
 use hub_kit::list::List;
 use hub_kit::names::{GroupName, RoleName, ServiceName, UserName};
-use hub_machine::answer::{Answer, gives, plain, rows_then};
+use hub_machine::answer::{Answer, gives};
 use hub_machine::machine::Machine;
 use hub_rows::records::Role;
+use hub_tables::tables::Tables;
 use hub_view::{Listing, Page, role_body};
 use keyed_rows::sorted::Sorted;
 use scope_filters::scope::RawScope;
@@ -41,10 +46,17 @@ pub fn get_roles(alloc: Global, hub: &Machine, page: Page) -> Result<Answer, All
     ensures { IfOk result (λ answer. answer_view answer ≡ spec.get_roles hub.now page) }
 {
     let mut list = Listing::new(alloc, page);
+    list_roles(alloc, hub, &mut list)?;
+    listed(alloc, list, "/roles")
+}
+
+fn list_roles(alloc: Global, hub: &Machine, list: &mut Listing) -> Result<(), AllocError>
+    ensures { OnOk result (after list.new [] ≡ after list.old (over role_body (map.values hub.now.tables.roles))) }
+{
     for role in hub.tables().roles() {
-        show_role(alloc, &mut list, role)?;
+        show_role(alloc, list, role)?;
     }
-    Ok(gives(200, list.into_body(alloc, "/roles")?))
+    Ok(())
 }
 
 /// `GET /roles/{r}`
@@ -54,20 +66,24 @@ pub fn get_role(alloc: Global, hub: &Machine, role: &RoleName) -> Result<Answer,
     Ok(gives(200, role_at(alloc, hub, role)?))
 }
 
+/// 201 for a new role, and 200 for one that is kept.
+fn put_status(tables: &Tables, role: &RoleName) -> u16
+    ensures { result ≡ (if map.contains_key tables.now.roles role.now then 200 else 201) }
+{
+    if tables.role(role).is_some() {
+        200
+    } else {
+        201
+    }
+}
+
 /// `PUT /roles/{r}`
 pub fn put_role(alloc: Global, hub: &Machine, role: &Role) -> Result<Answer, AllocError>
     ensures { IfOk result (λ answer. answer_view answer ≡ spec.put_role hub.now role.now) }
 {
-    let status = if hub.tables().role(&role.name).is_some() {
-        200
-    } else {
-        201
-    };
+    let status = put_status(hub.tables(), &role.name);
     match roles::put_role(alloc, hub.tables(), role) {
-        Ok(rows) => {
-            let body = role_body(alloc, role)?;
-            Ok(rows_then(rows, plain(status, body)))
-        }
+        Ok(rows) => answered(rows, status, role_body(alloc, role)),
         Err(refusal) => refused(alloc, refusal),
     }
 }

@@ -4,7 +4,9 @@ ghost use Rattle.admin_rules.specs.Rules as rules;
 ghost use Rattle.hub_machine.specs.Answers.{answer_view};
 ghost use Rattle.hub_machine.specs.Replies as spec;
 ghost use Rattle.hub_machine.specs.State.{Hub};
-ghost use Rattle.hub_calls.specs.Calling.{refusal_of, by_rules, done};
+ghost use Rattle.hub_view.specs.Body.{body_tokens};
+ghost use Rattle.hub_view.specs.Json.{Json};
+ghost use Rattle.hub_calls.specs.Calling.{after_rows, refusal_of, by_rules, done};
 
 use admin_rules::refusals::RuleRefusal;
 use hub_kit::text::Text;
@@ -57,5 +59,20 @@ pub fn carried(
     match rows {
         Ok(rows) => Ok(rows_then(rows, plain(204, Body::Nothing))),
         Err(refusal) => refused(alloc, refusal),
+    }
+}
+
+/// The answer of a call whose Ok shows what the rows leave. Where there was no memory for the body, the rows go too.
+pub fn answered(
+    rows: Vec<RowChange>,
+    status: u16,
+    body: Result<Body, AllocError>,
+) -> Result<Answer, AllocError>
+    ensures { IfOk result (λ a. (answer : rules.Answer) → answer ≡ Ok rows.items → (s : Hub) (shown : Hub → Json)
+        → IfOk body (λ b. body_tokens b ≡ shown (after_rows rows.items s)) → answer_view a ≡ by_rules s answer (λ after. spec.good status (shown after))) }
+{
+    match body {
+        Ok(body) => Ok(rows_then(rows, plain(status, body))),
+        Err(error) => Err(error),
     }
 }

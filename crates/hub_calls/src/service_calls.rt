@@ -1,14 +1,18 @@
 //! The calls on services.
-ghost use Rattle.std.specs.Prelude.{◌≡◌, IfOk};
+ghost use Rattle.std.specs.Prelude.{◌≡◌, [], OnOk, IfOk};
+ghost use Rattle.std.specs.FinMap as map;
+ghost use Rattle.hub_view.specs.Pages.{after};
 ghost use Rattle.hub_machine.specs.Answers.{answer_view};
+ghost use Rattle.hub_calls.specs.Facts.{services_shown};
 ghost use Rattle.hub_calls.specs.Rights.{may_of};
 ghost use Rattle.hub_calls.specs.Groups as spec;
 
 use crate::bodies::{allows, service_body, show_service};
-use crate::ruled::{carried, refused};
+use crate::lists::listed;
+use crate::ruled::{answered, carried, refused};
 use admin_rules::services;
 use hub_kit::names::ServiceName;
-use hub_machine::answer::{Answer, gives, plain, rows_then};
+use hub_machine::answer::{Answer, gives};
 use hub_machine::machine::Machine;
 use hub_view::{Listing, Page};
 use scope_filters::grant::Grant;
@@ -26,13 +30,26 @@ pub fn get_services(
     ensures { IfOk result (λ answer. answer_view answer ≡ spec.get_services hub.now (may_of hub.now rights.now) page) }
 {
     let mut list = Listing::new(alloc, page);
+    list_services(alloc, hub, rights, &mut list)?;
+    listed(alloc, list, "/services")
+}
+
+/// Shows the services that the caller may list.
+fn list_services(
+    alloc: Global,
+    hub: &Machine,
+    rights: &Grant,
+    list: &mut Listing,
+) -> Result<(), AllocError>
+    ensures { OnOk result (after list.new [] ≡ after list.old (services_shown (may_of hub.now rights.now) hub.now (map.values hub.now.tables.services))) }
+{
     for service in hub.tables().services() {
         let object = Object::Service(service.name);
         if allows(hub, rights, Action::ListServices, &object) {
-            show_service(alloc, hub, rights, &mut list, &service.name)?;
+            show_service(alloc, hub, rights, list, &service.name)?;
         }
     }
-    Ok(gives(200, list.into_body(alloc, "/services")?))
+    Ok(())
 }
 
 /// `GET /services/{v}`
@@ -57,10 +74,7 @@ pub fn post_service(
     ensures { IfOk result (λ answer. answer_view answer ≡ spec.post_service hub.now (may_of hub.now rights.now) service.now) }
 {
     match services::add_service(alloc, hub.tables(), service) {
-        Ok(rows) => {
-            let body = service_body(alloc, hub, rights, service)?;
-            Ok(rows_then(rows, plain(201, body)))
-        }
+        Ok(rows) => answered(rows, 201, service_body(alloc, hub, rights, service)),
         Err(refusal) => refused(alloc, refusal),
     }
 }

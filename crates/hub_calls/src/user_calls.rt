@@ -1,23 +1,29 @@
 //! The calls on the hub, the identity and users.
-ghost use Rattle.std.specs.Prelude.{◌≡◌, IfOk};
+ghost use Rattle.std.specs.Prelude.{◌≡◌, ◌++◌, true, [], length, codes, OnOk, IfOk};
 ghost use Rattle.std.specs.Option.{option_copied};
 ghost use Rattle.std.specs.FinMap as map;
 ghost use Rattle.hub_view.specs.Json as json;
-ghost use Rattle.hub_view.specs.Body.{body_tokens};
+ghost use Rattle.hub_view.specs.Body.{body_tokens, members};
+ghost use Rattle.hub_view.specs.Pages.{after};
+ghost use Rattle.admin_rules.specs.Rules as rules;
+ghost use Rattle.hub_machine.specs.Replies.{good};
 ghost use Rattle.hub_machine.specs.Answers.{answer_view};
-ghost use Rattle.hub_calls.specs.Calling.{after_rows};
-ghost use Rattle.hub_calls.specs.Facts.{user_at};
+ghost use Rattle.hub_calls.specs.Calling.{after_rows, by_rules};
+ghost use Rattle.hub_calls.specs.Facts.{user_at, users_shown};
 ghost use Rattle.hub_calls.specs.Puts.{PutsUser, user_put, with_put_user, bodies_put};
 ghost use Rattle.hub_calls.specs.Rights.{may_of};
 ghost use Rattle.hub_calls.specs.Users as spec;
 
 use crate::bodies::{allows, facts_of, names_are_own, show_user, user_at, user_body};
 use crate::facts::roles_of_service;
-use crate::ruled::{carried, refused};
+use crate::lists::listed;
+use crate::ruled::{answered, carried, refused};
+use admin_rules::refusals::RuleRefusal;
 use admin_rules::users;
 use hub_kit::moment::Moment;
 use hub_kit::names::{ServerKey, ServiceName, UserName};
-use hub_machine::answer::{Answer, gives, plain, rows_then};
+use hub_kit::text::Text;
+use hub_machine::answer::{Answer, gives};
 use hub_machine::machine::Machine;
 use hub_rows::changes::RowChange;
 use hub_rows::records::{Token, User};
@@ -33,8 +39,14 @@ pub fn get_version(alloc: Global) -> Result<Answer, AllocError>
     ensures { IfOk result (λ answer. answer_view answer ≡ spec.get_version) }
 {
     let mut fields = Vec::new(alloc);
-    add_member(alloc, &mut fields, true, "version", line(alloc, "5.0.0")?)?;
+    add_version(alloc, &mut fields)?;
     Ok(gives(200, Body::Pairs(fields)))
+}
+
+fn add_version(alloc: Global, fields: &mut Vec<(Text, Body)>) -> Result<(), AllocError>
+    ensures { OnOk result (members fields.new.items ≡ members fields.old.items ++ json.member true (codes "version") (json.line (codes "5.0.0"))) }
+{
+    add_member(alloc, fields, true, "version", line(alloc, "5.0.0")?)
 }
 
 /// The user that the first row puts, if it does.
@@ -52,12 +64,20 @@ pub fn get_info(alloc: Global, hub: &Machine) -> Result<Answer, AllocError>
     ensures { IfOk result (λ answer. answer_view answer ≡ spec.get_info hub.now) }
 {
     let mut fields = Vec::new(alloc);
-    let leases = Body::Number(hub.lives().len());
-    let pool = Body::Number(hub.pool().len() as u64);
-    add_member(alloc, &mut fields, true, "leases", leases)?;
-    add_member(alloc, &mut fields, true, "pool", pool)?;
-    add_member(alloc, &mut fields, true, "version", line(alloc, "5.0.0")?)?;
+    add_info(alloc, &mut fields, hub)?;
     Ok(gives(200, Body::Pairs(fields)))
+}
+
+/// Adds how many targets are leased, how many there are, and the version.
+fn add_info(alloc: Global, fields: &mut Vec<(Text, Body)>, hub: &Machine) -> Result<(), AllocError>
+    ensures { OnOk result (members fields.new.items ≡ members fields.old.items ++ json.member true (codes "leases") (json.whole (map.len hub.now.lives))
+        ++ json.member true (codes "pool") (json.whole (length hub.now.pool)) ++ json.member true (codes "version") (json.line (codes "5.0.0"))) }
+{
+    let leases = hub.lives().len();
+    add_member(alloc, fields, true, "leases", Body::Number(leases))?;
+    let pool = hub.pool().len() as u64;
+    add_member(alloc, fields, true, "pool", Body::Number(pool))?;
+    add_version(alloc, fields)
 }
 
 fn identity_of_user(
@@ -131,13 +151,26 @@ pub fn get_users(
     ensures { IfOk result (λ answer. answer_view answer ≡ spec.get_users hub.now (may_of hub.now rights.now) page) }
 {
     let mut list = Listing::new(alloc, page);
+    list_users(alloc, hub, rights, &mut list)?;
+    listed(alloc, list, "/users")
+}
+
+/// Shows the users that the caller may list.
+fn list_users(
+    alloc: Global,
+    hub: &Machine,
+    rights: &Grant,
+    list: &mut Listing,
+) -> Result<(), AllocError>
+    ensures { OnOk result (after list.new [] ≡ after list.old (users_shown (may_of hub.now rights.now) hub.now (map.values hub.now.tables.users))) }
+{
     for user in hub.tables().users() {
         let object = Object::User(user.name);
         if allows(hub, rights, Action::ListUsers, &object) {
-            show_user(alloc, hub, rights, &mut list, user)?;
+            show_user(alloc, hub, rights, list, user)?;
         }
     }
-    Ok(gives(200, list.into_body(alloc, "/users")?))
+    Ok(())
 }
 
 /// `GET /users/{u}`
@@ -183,8 +216,8 @@ pub fn post_users(
 {
     match users::add_users(alloc, hub.tables(), names, admin, now) {
         Ok(rows) => {
-            let body = bodies_put(alloc, hub, rights, rows.as_slice())?;
-            Ok(rows_then(rows, plain(201, body)))
+            let body = bodies_put(alloc, hub, rights, rows.as_slice());
+            answered(rows, 201, body)
         }
         Err(refusal) => refused(alloc, refusal),
     }
@@ -220,6 +253,27 @@ fn user_after(
     put_or_kept(alloc, hub, rights, user, user_put(rows))
 }
 
+/// The answer of a rule whose rows put that user or nothing: it shows the user as they leave it.
+fn answer_of_user(
+    alloc: Global,
+    hub: &Machine,
+    rights: &Grant,
+    user: &UserName,
+    status: u16,
+    rows: Result<Vec<RowChange>, RuleRefusal>,
+) -> Result<Answer, AllocError>
+    requires { IfOk rows (λ rows. PutsUser user.now rows.items) }
+    ensures { IfOk result (λ a. (answer : rules.Answer) → rules.Says answer rows → answer_view a ≡ by_rules hub.now answer (λ after. good status (user_at (may_of hub.now rights.now) after user.now))) }
+{
+    match rows {
+        Ok(rows) => {
+            let body = user_after(alloc, hub, rights, user, rows.as_slice());
+            answered(rows, status, body)
+        }
+        Err(refusal) => refused(alloc, refusal),
+    }
+}
+
 /// `POST /users/{u}`
 pub fn post_user(
     alloc: Global,
@@ -230,13 +284,8 @@ pub fn post_user(
 ) -> Result<Answer, AllocError>
     ensures { IfOk result (λ answer. answer_view answer ≡ spec.post_user hub.now (may_of hub.now rights.now) now user.now) }
 {
-    match users::add_users(alloc, hub.tables(), &[*user], false, now) {
-        Ok(rows) => {
-            let body = user_after(alloc, hub, rights, user, rows.as_slice())?;
-            Ok(rows_then(rows, plain(201, body)))
-        }
-        Err(refusal) => refused(alloc, refusal),
-    }
+    let rows = users::add_users(alloc, hub.tables(), &[*user], false, now);
+    answer_of_user(alloc, hub, rights, user, 201, rows)
 }
 
 /// `PATCH /users/{u}`
@@ -251,13 +300,8 @@ pub fn patch_user(
 {
     let tables = hub.tables();
     names_are_own(tables);
-    match users::set_admin(alloc, tables, user, admin) {
-        Ok(rows) => {
-            let body = user_after(alloc, hub, rights, user, rows.as_slice())?;
-            Ok(rows_then(rows, plain(200, body)))
-        }
-        Err(refusal) => refused(alloc, refusal),
-    }
+    let rows = users::set_admin(alloc, tables, user, admin);
+    answer_of_user(alloc, hub, rights, user, 200, rows)
 }
 
 /// `DELETE /users/{u}`

@@ -3,8 +3,5 @@ pub mod Done
 pub mod Tied
 pub mod Places
 pub mod Keys
-pub mod Reading
-pub mod Opened
-pub mod OpenedRows
 pub mod Looking
 pub mod Statuses

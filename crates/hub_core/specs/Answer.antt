@@ -1,8 +1,6 @@
 -- The answer to an asked call: the first refusal of the frame, else what the call's own definition gives.
-use Rattle.std.specs.Prelude.{ℕ, Bool, true, false, not, nat_le, nat_lt, List, [], ◌∷◌, Option, Some, None, if◌then◌else◌}
+use Rattle.std.specs.Prelude.{ℕ, Bool, false, not, nat_le, nat_lt, List, [], ◌∷◌, Option, Some, None, if◌then◌else◌}
 use Rattle.hub_kit.specs.Hashes.{hash_text}
-use Rattle.scope_names.specs.declared.action.Action.{Action}
-use Rattle.scope_filters.specs.declared.object.Object.{Object}
 use Rattle.hub_rows.specs.declared.records.Token.{Token}
 use Rattle.hub_tables.specs.Hashes.{row_with}
 use Rattle.hub_tables.specs.State.{State}
@@ -10,7 +8,7 @@ use Rattle.hub_view.specs.Fields.{Rights}
 use Rattle.hub_view.specs.declared.pages.Page.{Page}
 use Rattle.hub_machine.specs.State.{Hub}
 use Rattle.hub_machine.specs.Trails.{in_trail}
-use Rattle.hub_machine.specs.Replies.{Answer, refuses, gives, changes, rules, if_so}
+use Rattle.hub_machine.specs.Replies.{Answer, refuses, gives, rules, if_so}
 use Rattle.hub_core.specs.Needs.{needs, needs_token, is_there}
 use Rattle.hub_calls.specs.Users.{get_version, get_info, get_identity, get_users, post_users, get_user, post_user, patch_user, delete_user}
 use Rattle.hub_calls.specs.Groups.{get_groups, get_group, post_group, delete_group, join_group, leave_group, get_services, get_service, post_service, delete_service}

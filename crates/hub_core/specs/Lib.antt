@@ -4,4 +4,4 @@ pub mod Judged
 pub mod History
 pub mod Current
 pub mod Visits
-pub mod Opening
+pub mod Opened

@@ -1,5 +1,5 @@
 -- What each call needs of its token, and what has to be there.
-use Rattle.std.specs.Prelude.{ℕ, Bool, true, false, ◌||◌, List}
+use Rattle.std.specs.Prelude.{Bool, true, false, ◌||◌}
 use Rattle.std.specs.FinMap.{contains_key}
 use Rattle.scope_names.specs.declared.action.Action.TheVariants as A
 use Rattle.scope_filters.specs.declared.object.Object.TheVariants as Ob

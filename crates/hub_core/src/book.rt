@@ -2,25 +2,27 @@
 //! Whenever nobody acts on it, its state is what its history leaves, and its keeper, where it tells its rows, has exactly those of that
 //! state: so the rows kept are those of the history.
 ghost use Rattle.std.specs.Prelude.{◌≡◌, ◌≤◌, ◌^◌, ◌↔◌, IsTrue, IfOk, IfErr, length};
-ghost use Rattle.hub_machine.specs.Answers.{answer_view};
+ghost use Rattle.hub_machine.specs.Answers.{answer_view, good_view};
+ghost use Rattle.hub_machine.specs.Replies.{changes};
 ghost use Rattle.hub_machine.specs.KeptRows.{Keeps};
 ghost use Rattle.hub_machine.specs.State.{owed};
 ghost use Rattle.hub_core.specs.Current.{Looked};
 ghost use Rattle.hub_core.specs.Judged.{decider};
-ghost use Rattle.hub_core.specs.Opening.{HasOpened, IsRefused};
+ghost use Rattle.hub_core.specs.Opened.{HasOpened};
+ghost use Rattle.hub_opening.specs.Opening.{IsRefused};
 ghost use Rattle.hub_core.specs.Visits.{Visited, VisitedAt, Carried, MayBeDone, IsFollowed, entries_of};
 
-use crate::config::HubConfig;
 use crate::decide::decide;
-use crate::open_error::OpenError;
-use crate::opening::open_machine;
 use hub_kit::moment::Moment;
-use hub_machine::answer::{Answer, good_reply, refusal_reply};
+use hub_machine::answer::{Answer, Good, good_reply, refusal_reply};
 use hub_machine::call::Asked;
 use hub_machine::change::Change;
 use hub_machine::machine::Machine;
 use hub_machine::refusal::Refusal;
 use hub_machine::reply::{Outcome, Reply};
+use hub_opening::config::HubConfig;
+use hub_opening::open_error::OpenError;
+use hub_opening::opening::open_machine;
 use keeper::keeper::Keeper;
 use keeper::trail::Trail;
 use roles::cache::RightsCache;
@@ -80,12 +82,46 @@ fn carry<K: Keeper, T: Trail<Entry = Change>>(
         Answer::Refuses(refusal) => refusal_reply(alloc, machine.length(), &refusal),
         Answer::Gives(good) => Ok(good_reply(machine.length(), good)),
         Answer::Changes { change, good } => {
-            let fault = refusal_reply(alloc, machine.length(), &Refusal::KeeperFault)?;
-            if machine.enter(alloc, keeper, trail, change)? {
-                Ok(good_reply(machine.length(), good))
-            } else {
-                Ok(fault)
-            }
+            carry_change(alloc, machine, keeper, trail, change, good)
+        }
+    }
+}
+
+/// Carries a change out, and gives its reply.
+fn carry_change<K: Keeper, T: Trail<Entry = Change>>(
+    alloc: Global,
+    machine: &mut Machine,
+    keeper: &mut K,
+    trail: &mut T,
+    change: Change,
+    good: Good,
+) -> Result<Reply, AllocError>
+    requires { MayBeDone machine.old (changes change (good_view good)) }
+    ensures carried { Carried (changes change (good_view good)) result (K.faults keeper.old) (K.faults keeper.new) machine.old machine.new (T.told trail.old) (T.told trail.new) (T.long trail.old) (T.long trail.new) }
+    ensures counted { K.faults keeper.old ≤ K.faults keeper.new }
+    ensures spare { owed machine.old.lives ≤ T.spare trail.old → owed machine.new.lives ≤ T.spare trail.new }
+    ensures keeps { (K.Tells keeper.old → Keeps (K.rows keeper.old) machine.old.tables) → K.Tells keeper.new → Keeps (K.rows keeper.new) machine.new.tables }
+{
+    // The reply to a refusal of the keeper is made before the change is tried, so that no memory can be wanting between them.
+    let Ok(fault) = refusal_reply(alloc, machine.length(), &Refusal::KeeperFault) else {
+        drop(change);
+        drop(good);
+        return Err(AllocError);
+    };
+    // What isn't given is dropped in one call each, since it has many parts.
+    match machine.enter(alloc, keeper, trail, change) {
+        Ok(true) => {
+            drop(fault);
+            Ok(good_reply(machine.length(), good))
+        }
+        Ok(false) => {
+            drop(good);
+            Ok(fault)
+        }
+        Err(error) => {
+            drop(good);
+            drop(fault);
+            Err(error)
         }
     }
 }
@@ -121,7 +157,10 @@ impl<K: Keeper, T: Trail<Entry = Change>> Book<K, T> {
                     start,
                 })
             }
-            Err(error) => Err((keeper, error)),
+            Err(error) => {
+                drop(rights);
+                Err((keeper, error))
+            }
         }
     }
 
@@ -187,8 +226,9 @@ impl<K: Keeper, T: Trail<Entry = Change>> Book<K, T> {
         // the entries that are still owed take no memory
         ensures spare { owed self.hub.lives ≤ T.spare result.1 }
     {
-        // in one call, since it has many parts
+        // in one call each, since they have many parts
         drop(self.machine);
+        drop(self.rights);
         (self.keeper, self.trail)
     }
 }

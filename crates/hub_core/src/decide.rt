@@ -222,7 +222,10 @@ fn put_role_with(
         groups.as_slice(),
         services.as_slice(),
     )?;
-    put_role(alloc, hub, &role)
+    let answer = put_role(alloc, hub, &role);
+    // in one call, since it has many parts
+    drop(role);
+    answer
 }
 
 /// What the call's own rules answer.

@@ -5,8 +5,5 @@
 
 pub mod ask;
 pub mod book;
-pub mod config;
 mod decide;
 mod need;
-pub mod open_error;
-mod opening;

@@ -6,7 +6,7 @@ use crate::clock::Clock;
 use hub_kit::moment::Moment;
 
 /// Gives one moment for ever.
-#[derive(Clone, Copy, Debug, PartialEq, Eq)]
+#[derive(Clone, Copy)]
 pub struct FixedClock(pub Moment);
 
 impl Clock for FixedClock {

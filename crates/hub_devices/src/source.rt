@@ -4,7 +4,7 @@ ghost use Rattle.hub_devices.specs.Streams.{Takes, IsEnd};
 ghost use Rattle.hub_devices.specs.Faults.{Rises};
 
 /// The device failed. Its count of faults rose.
-#[derive(Clone, Copy, Debug, PartialEq, Eq)]
+#[derive(Clone, Copy)]
 pub struct Failed;
 
 /// Where bytes come from.

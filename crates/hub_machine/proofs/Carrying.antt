@@ -33,6 +33,12 @@ leads log log' s t before h more =
 pub leads_still : (log log' : List RowChange) (t t' before : State) → log' ≡ log → t' ≡ t → LeadsBack log t before → LeadsBack log' t' before
 leads_still log log' t t' before e f h = subst (λ (u : State). LeadsBack log' u before) (sym f) (subst (λ (l : List RowChange). LeadsBack l t before) (sym e) h)
 
+-- the last step may be done
+pub last_free : (log rest : List RowChange) (back : RowChange) (t : State) → log ≡ rest ++ back ∷ [] → AreFree (reverse log) t → IsFree back t
+last_free log rest back t last h =
+    let free : IsFree back t × AreFree (reverse rest) (row_done back t) = subst (λ (l : List RowChange). AreFree l t) (backwards rest log back last) h in
+    free.0
+
 -- the steps that are left, after the last is done
 module _ (log rest : List RowChange) (back : RowChange) (t u : State) (last : log ≡ rest ++ back ∷ []) (done : u ≡ row_done back t) where
   pub free_then : AreFree (reverse log) t → AreFree (reverse rest) u

@@ -6,11 +6,11 @@ use Rattle.hub_machine.specs.State.{Hub}
 use Rattle.hub_core.specs.Visits.{Entry, Standing, entries_of}
 use Rattle.keeper.specs.Rows.{Rows, AreSame, rows_of}
 use Rattle.keeper.specs.declared.keeper.Row.{Row}
-use Rattle.hub_core.specs.Opening.{IsRefused}
-use Rattle.hub_core.specs.declared.config.HubConfig.{HubConfig}
-use Rattle.hub_core.specs.declared.open_error.OpenError.{OpenError}
+use Rattle.hub_opening.specs.Opening.{IsRefused}
+use Rattle.hub_opening.specs.declared.config.HubConfig.{HubConfig}
+use Rattle.hub_opening.specs.declared.open_error.OpenError.{OpenError}
 use Rattle.hub_main.specs.Sessions.{Served, SessionEnds, RunEnds, IsUnopened, config_of, start_of}
-use Rattle.hub_main.specs.declared.words.SessionWords.{SessionWords}
+use Rattle.hub_words.specs.declared.session.SessionWords.{SessionWords}
 
 -- the book is opened with the words, and the pass is its first
 pub session_ends : (words : SessionWords) (made : Standing) (pass : PassState Entry Hub) (table : TableId)

@@ -8,15 +8,15 @@ use Rattle.scope_filters.specs.declared.holder.Owner.TheVariants as Own
 use Rattle.scope_filters.specs.declared.scope.RawScope.TheVariants.{Inherit}
 use Rattle.keeper.specs.Rows.{Rows, AreSame, no_rows}
 use Rattle.hub_machine.specs.State.{Hub}
-use Rattle.hub_core.specs.Opening.{opened, greatest_limits, IsRefused}
-use Rattle.hub_core.specs.declared.config.HubConfig.{HubConfig}
-use Rattle.hub_core.specs.declared.open_error.OpenError.{OpenError}
-use Rattle.hub_core.specs.declared.open_error.OpenError.TheVariants.{KeeperFault, BadRow, Full, Memory}
+use Rattle.hub_opening.specs.Opening.{opened, greatest_limits, IsRefused}
+use Rattle.hub_opening.specs.declared.config.HubConfig.{HubConfig}
+use Rattle.hub_opening.specs.declared.open_error.OpenError.{OpenError}
+use Rattle.hub_opening.specs.declared.open_error.OpenError.TheVariants.{KeeperFault, BadRow, Full, Memory}
 use Rattle.hub_run.specs.Connections.{ConnectionEnds}
 use Rattle.hub_run.specs.Turns.{View}
 use Rattle.hub_run.specs.declared.served.Served as served
 use Rattle.hub_run.specs.declared.served.Served.TheVariants.{Ended, Cut, Closed}
-use Rattle.hub_main.specs.declared.words.SessionWords.{SessionWords}
+use Rattle.hub_words.specs.declared.session.SessionWords.{SessionWords}
 
 abbrev pub status_of : Result served.Served SessionFault → ℕ
 status_of (Ok (Ended n)) = 0

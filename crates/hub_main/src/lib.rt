@@ -6,4 +6,3 @@
 mod opening;
 pub mod run;
 pub mod standard;
-pub mod words;

@@ -3,12 +3,12 @@ ghost use Rattle.std.specs.Prelude.{◌≡◌, [], IfOk, IfErr};
 ghost use Rattle.hub_core.specs.Visits.{entries_of};
 ghost use Rattle.hub_main.specs.Sessions as spec;
 
-use crate::words::SessionWords;
 use hub_core::book::Book;
-use hub_core::config::{ConfigToken, ConfigUser, HubConfig, greatest_limits};
-use hub_core::open_error::OpenError;
 use hub_kit::list::List;
 use hub_machine::change::Change;
+use hub_opening::config::{ConfigToken, ConfigUser, HubConfig, greatest_limits};
+use hub_opening::open_error::OpenError;
+use hub_words::session::SessionWords;
 use keeper::mem_keeper::MemKeeper;
 use keeper::trail::ListTrail;
 use scope_filters::holder::Owner;
@@ -22,26 +22,29 @@ pub(crate) type SessionBook = Book<MemKeeper, ListTrail<Change>>;
 fn config_of(alloc: Global, words: SessionWords) -> Result<HubConfig, AllocError>
     ensures { IfOk result (λ config. config ≡ spec.config_of words) }
 {
+    let scopes = vec![in alloc; RawScope::Inherit]?;
+    let token = ConfigToken {
+        text: words.token,
+        owner: Owner::User(words.user),
+        scopes: List::from_vec(scopes),
+        expires_at: None,
+    };
+    let tokens = vec![in alloc; token]?;
     let owner = ConfigUser {
         name: words.user,
         admin: words.admin,
     };
-    let token = ConfigToken {
-        text: words.token,
-        owner: Owner::User(words.user),
-        scopes: List::from_vec(vec![in alloc; RawScope::Inherit]?),
-        expires_at: None,
-    };
+    let users = vec![in alloc; owner]?;
     Ok(HubConfig {
         pool: List::new(alloc),
         hub_url: None,
         limits: greatest_limits(),
         no_trail: false,
-        users: List::from_vec(vec![in alloc; owner]?),
+        users: List::from_vec(users),
         groups: List::new(alloc),
         services: List::new(alloc),
         roles: List::new(alloc),
-        tokens: List::from_vec(vec![in alloc; token]?),
+        tokens: List::from_vec(tokens),
     })
 }
 
@@ -51,15 +54,22 @@ pub(crate) fn open_book(alloc: Global, words: SessionWords) -> Result<SessionBoo
     ensures err { IfErr result (spec.IsUnopened words) }
 {
     let now = words.now;
-    let Ok(keeper) = MemKeeper::new(alloc, Vec::new(alloc), Vec::new(alloc)) else {
-        return Err(OpenError::Memory);
-    };
     let Ok(config) = config_of(alloc, words) else {
         return Err(OpenError::Memory);
     };
-    match Book::open(alloc, keeper, ListTrail::new(alloc), &config, now) {
+    // What isn't given is dropped in one call each, since it has many parts.
+    let Ok(keeper) = MemKeeper::new(alloc, Vec::new(alloc), Vec::new(alloc)) else {
+        drop(config);
+        return Err(OpenError::Memory);
+    };
+    let opened = Book::open(alloc, keeper, ListTrail::new(alloc), &config, now);
+    drop(config);
+    match opened {
         Ok(book) => Ok(book),
-        Err((_, error)) => Err(error),
+        Err((keeper, error)) => {
+            drop(keeper);
+            Err(error)
+        }
     }
 }
 

@@ -4,10 +4,9 @@ ghost use Rattle.hub_machine.specs.State.{Hub};
 ghost use Rattle.hub_devices.specs.Faults.{Rises};
 ghost use Rattle.hub_main.specs.Sessions.{RunEnds, SessionEnds, Served as IsServed};
 ghost use Rattle.hub_main.specs.Sessions as spec;
-ghost use Rattle.hub_main.specs.Words.{session_read};
+ghost use Rattle.hub_words.specs.Words.{session_read};
 
 use crate::opening::{SessionBook, open_book, refusal_status};
-use crate::words::{SessionWords, WordError, read_session};
 use desk::{Desk, Pass};
 use http_wire::error::SessionFault;
 use hub_devices::mem_clock::FixedClock;
@@ -16,6 +15,7 @@ use hub_devices::source::Source;
 use hub_kit::moment::Moment;
 use hub_kit::text::Text;
 use hub_run::{Served, serve_connection};
+use hub_words::session::{SessionWords, WordError, read_session};
 use std::alloc::Global;
 use std::sync::Wait;
 
@@ -60,7 +60,11 @@ fn run_session<I: Source + Drop, O: Sink + Drop, W: Wait>(
     };
     match Desk::open(alloc, book) {
         Ok((desk, pass)) => serve_alone(rt, alloc, desk, pass, now, outside),
-        Err(_) => 7,
+        Err((book, _)) => {
+            // in one call, since it has many parts
+            drop(book);
+            7
+        }
     }
 }
 
@@ -92,6 +96,8 @@ fn serve_alone<I: Source + Drop, O: Sink + Drop, W: Wait>(
         &mut outside.output,
         &mut clock,
     );
+    drop(pass);
+    drop(desk);
     status_of(&served)
 }
 

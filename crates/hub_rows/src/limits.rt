@@ -2,7 +2,7 @@
 
 /// The greatest numbers of rows, and of bytes of the trail. `servers` limits the named servers of one user, which are not
 /// rows of a table's own; `codes` limits the share codes and the codes of OAuth, each by itself.
-#[derive(Clone, Copy, Debug, PartialEq, Eq)]
+#[derive(Clone, Copy)]
 pub struct Limits {
     pub users: u32,
     pub groups: u32,

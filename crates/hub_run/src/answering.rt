@@ -44,7 +44,10 @@ pub(crate) fn answer<K: Keeper, T: Trail<Entry = Change>, C: Clock, W: Wait>(
     match read_call(alloc, router, request) {
         Ok(asked) => {
             let outcome = ask(rt, alloc, desk, pass, clock, asked);
-            text_of_outcome(alloc, &outcome, close)
+            let text = text_of_outcome(alloc, &outcome, close);
+            // in one call, since it has many parts
+            drop(outcome);
+            text
         }
         Err(ApiRefusal::Memory) => (Written::NoMemory, true),
         Err(refusal) => text_of_refusal(alloc, refusal, close),

@@ -1,5 +1,5 @@
 //! One connection from its first request to its end.
-ghost use Rattle.std.specs.Prelude.{◌≡◌, ◌≤◌, ℕ, Some, Err};
+ghost use Rattle.std.specs.Prelude.{◌≡◌, ◌≤◌, ℕ, [], Some, Ok, Err};
 ghost use Rattle.hub_api.specs.Paths.{hub_rows};
 ghost use Rattle.hub_machine.specs.State.{Hub};
 ghost use Rattle.hub_devices.specs.Faults.{Rises};
@@ -50,7 +50,15 @@ pub fn serve_connection<K: Keeper, T: Trail<Entry = Change>, I: Source, O: Sink,
     ensures write_fault { (n : ℕ) → result ≡ Err (SessionFault.WriteFault n) → Rises (O.faults output.old) (O.faults output.new) }
 {
     match new_router(alloc) {
-        Ok(router) => serve_turns(rt, alloc, &router, desk, pass, input, output, clock),
+        Ok(router) => {
+            let mut kept = WireBuffer::new(alloc);
+            let served = serve_turns(
+                rt, alloc, &router, desk, pass, input, output, &mut kept, clock,
+            );
+            drop(kept);
+            drop(router);
+            served
+        }
         Err(_) => match write_all(output, no_memory()) {
             Ok(()) => Ok(Served::Closed(1)),
             Err(_) => Err(SessionFault::WriteFault(0)),
@@ -58,7 +66,7 @@ pub fn serve_connection<K: Keeper, T: Trail<Entry = Change>, I: Source, O: Sink,
     }
 }
 
-/// The turns of a connection, by a router of its own.
+/// The turns of a connection, by a router and a buffer of its own.
 fn serve_turns<K: Keeper, T: Trail<Entry = Change>, I: Source, O: Sink, C: Clock, W: Wait>(
     rt: &W,
     alloc: Global,
@@ -67,10 +75,12 @@ fn serve_turns<K: Keeper, T: Trail<Entry = Change>, I: Source, O: Sink, C: Clock
     pass: &mut Pass<Book<K, T>>,
     input: &mut I,
     output: &mut O,
+    kept: &mut WireBuffer,
     clock: &mut C,
 ) -> Result<Served, SessionFault>
     requires of { pass.old.of ≡ desk.now }
     requires rows { router.now ≡ hub_rows }
+    requires kept { kept.old ≡ [] }
     ensures of { pass.new.of ≡ pass.old.of }
     ensures base { pass.new.base ≡ pass.old.base }
     ensures ends { (start : Hub) → pass.old.base ≡ Some start
@@ -82,7 +92,6 @@ fn serve_turns<K: Keeper, T: Trail<Entry = Change>, I: Source, O: Sink, C: Clock
     ensures read_fault { (n : ℕ) → result ≡ Err (SessionFault.ReadFault n) → Rises (I.faults input.old) (I.faults input.new) }
     ensures write_fault { (n : ℕ) → result ≡ Err (SessionFault.WriteFault n) → Rises (O.faults output.old) (O.faults output.new) }
 {
-    let mut kept = WireBuffer::new(alloc);
     let mut count = 0;
     'turns: loop {
         match turn(
@@ -93,7 +102,7 @@ fn serve_turns<K: Keeper, T: Trail<Entry = Change>, I: Source, O: Sink, C: Clock
             pass,
             input,
             output,
-            &mut kept,
+            kept,
             clock,
             count + 1 == REPLY_LIMIT,
         ) {
@@ -103,10 +112,24 @@ fn serve_turns<K: Keeper, T: Trail<Entry = Change>, I: Source, O: Sink, C: Clock
                     return Ok(Served::Closed(count));
                 }
             }
-            Err(TurnEnd::Ended) => return Ok(Served::Ended(count)),
-            Err(TurnEnd::Cut) => return Ok(Served::Cut(count)),
-            Err(TurnEnd::ReadFault) => return Err(SessionFault::ReadFault(count)),
-            Err(TurnEnd::WriteFault) => return Err(SessionFault::WriteFault(count)),
+            Err(end) => return ended(end, count),
         }
+    }
+}
+
+/// How a connection ended after so many replies, by the turn that ended without a whole one.
+fn ended(end: TurnEnd, count: u64) -> Result<Served, SessionFault>
+    ensures ended { end ≡ TurnEnd.Ended → result ≡ Ok (Served.Ended count) }
+    ensures cut { end ≡ TurnEnd.Cut → result ≡ Ok (Served.Cut count) }
+    ensures read_fault { end ≡ TurnEnd.ReadFault → result ≡ Err (SessionFault.ReadFault count) }
+    ensures write_fault { end ≡ TurnEnd.WriteFault → result ≡ Err (SessionFault.WriteFault count) }
+    ensures of_read { (n : ℕ) → result ≡ Err (SessionFault.ReadFault n) → end ≡ TurnEnd.ReadFault }
+    ensures of_write { (n : ℕ) → result ≡ Err (SessionFault.WriteFault n) → end ≡ TurnEnd.WriteFault }
+{
+    match end {
+        TurnEnd::Ended => Ok(Served::Ended(count)),
+        TurnEnd::Cut => Ok(Served::Cut(count)),
+        TurnEnd::ReadFault => Err(SessionFault::ReadFault(count)),
+        TurnEnd::WriteFault => Err(SessionFault::WriteFault(count)),
     }
 }

@@ -12,7 +12,7 @@ pub enum Served {
 }
 
 /// How a turn ended without a whole reply.
-#[derive(Clone, Copy, Debug, PartialEq, Eq)]
+#[derive(Clone, Copy)]
 pub(crate) enum TurnEnd {
     Ended,
     Cut,

@@ -98,8 +98,14 @@ pub(crate) fn turn<K: Keeper, T: Trail<Entry = Change>, I: Source, O: Sink, C: C
 {
     match next_reply(rt, alloc, router, desk, pass, input, kept, clock, last) {
         Ok((written, close)) => match write_all(output, written.as_slice()) {
-            Ok(()) => Ok(close),
-            Err(_) => Err(TurnEnd::WriteFault),
+            Ok(()) => {
+                drop(written);
+                Ok(close)
+            }
+            Err(_) => {
+                drop(written);
+                Err(TurnEnd::WriteFault)
+            }
         },
         Err(end) => Err(end),
     }

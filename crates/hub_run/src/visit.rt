@@ -34,5 +34,8 @@ pub(crate) fn ask<K: Keeper, T: Trail<Entry = Change>, C: Clock, W: Wait>(
 {
     let now = clock.now();
     let mut ask = Ask::new(alloc, now, None, asked);
-    desk.visit(rt, pass, &mut ask)
+    let outcome = desk.visit(rt, pass, &mut ask);
+    // in one call, since it has many parts
+    drop(ask);
+    outcome
 }

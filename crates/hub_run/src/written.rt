@@ -61,7 +61,12 @@ pub(crate) fn text_of_refusal(alloc: Global, refusal: ApiRefusal, close: bool) -
     ensures last { close ≡ true → result.1 ≡ true }
 {
     match refusal_reply(alloc, refusal) {
-        Ok(reply) => text_of(alloc, &reply, close),
+        Ok(reply) => {
+            let text = text_of(alloc, &reply, close);
+            // in one call, since it has many parts
+            drop(reply);
+            text
+        }
         Err(_) => (Written::NoMemory, true),
     }
 }
@@ -71,7 +76,11 @@ pub(crate) fn text_of_wire(alloc: Global, error: WireError) -> Written
     ensures { Refuses error (written_bytes result) }
 {
     match wire_refusal_reply(alloc, error) {
-        Ok(Some(reply)) => text_of(alloc, &reply, true).0,
+        Ok(Some(reply)) => {
+            let (text, _) = text_of(alloc, &reply, true);
+            drop(reply);
+            text
+        }
         _ => Written::NoMemory,
     }
 }

@@ -4,3 +4,4 @@ pub mod Indexed
 pub mod Kept
 mod MemberRows
 pub mod Owners
+pub mod Sets

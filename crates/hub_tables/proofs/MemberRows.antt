@@ -1,5 +1,5 @@
 -- The indexes of members stay in step with a change of one row, and tell what a scan does.
-use Rattle.std.proofs.Common.{◌≡◌, true, false, cond, List, Option, Some, None, map, refl, sym, ap, ◌∙◌, subst}
+use Rattle.std.proofs.Common.{◌≡◌, Bool, true, false, cond, List, [], ◌∷◌, ◌++◌, append_assoc, Option, Some, None, map, refl, sym, ap, ◌∙◌, subst}
 use Rattle.std.specs.declared.cmp.Ordering.{Ordering}
 use Rattle.std.specs.Ordering.{eq_by_cmp}
 use Rattle.std.specs.Cmp.{IsTotalOrder}
@@ -11,8 +11,7 @@ use Rattle.keyed_rows.specs.Sorted.{is_among}
 use Rattle.keyed_rows.proofs.Finite.{tied}
 use Rattle.row_indexes.specs.declared.owned.OwnedKey.{OwnedKey}
 use Rattle.row_indexes.specs.Owned.{owned_cmp, keys_under}
-use Rattle.row_indexes.specs.Members.{TellsMembers, IsFollowed}
-use Rattle.row_indexes.specs.Members.{members_in}
+use Rattle.row_indexes.specs.Members.{TellsMembers, IsFollowed, members_in}
 use Rattle.row_indexes.proofs.MemberKeys.{followed, followed_out, members_tell}
 use Rattle.hub_tables.specs.MemberIndexes.{AreSameBut, IsRowFollowed}
 
@@ -49,3 +48,11 @@ pub told_keys : {M K X : Type 0} (Q : M → M → Ordering) (R : K → K → Ord
     → keys_under Q member (keys (map_of (owned_cmp Q R) entries)) ≡ map key (filter (λ row. is_among Q member (members_of row)) (values rows))
 told_keys Q R members exact_members total exact key members_of rows index x own entries is member =
     members_tell Q R members exact_members total exact key members_of rows entries (subst (TellsMembers Q R members_of rows) is x) own member
+
+-- a scan that keeps the keys of some rows: one row more is passed over or picked
+module _ {K X : Type 0} (key : X → K) (p : X → Bool) (kept : List K) (row : X) (before rest : List X) (all : List K) (next : before ≡ row ∷ rest) (so_far : kept ++ map key (filter p before) ≡ all) where
+  pub passed_over : p row ≡ false → kept ++ map key (filter p rest) ≡ all
+  passed_over t = sym (ap (λ xs. kept ++ map key (filter p xs)) next ∙ ap (λ b. kept ++ map key (cond b (row ∷ filter p rest) (filter p rest))) t) ∙ so_far
+
+  pub picked : p row ≡ true → (kept ++ key row ∷ []) ++ map key (filter p rest) ≡ all
+  picked t = append_assoc kept (key row ∷ []) (map key (filter p rest)) ∙ sym (ap (λ xs. kept ++ map key (filter p xs)) next ∙ ap (λ b. kept ++ map key (cond b (row ∷ filter p rest) (filter p rest))) t) ∙ so_far

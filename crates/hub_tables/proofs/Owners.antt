@@ -11,11 +11,12 @@ use Rattle.hub_kit.specs.KeyOrder.{name_cmp, key_cmp, key_exact}
 use Rattle.hub_kit.specs.contracts.names.ServerKeyOrd.TheImpl.Laws as server_key
 use Rattle.keyed_rows.specs.Rows.{OwnKeys}
 use Rattle.keyed_rows.proofs.Finite.{put_and_removed}
+use Rattle.keyed_rows.proofs.InOrder.{own_keys}
 use Rattle.hub_rows.specs.declared.keys.ShareKey.{ShareKey}
 use Rattle.hub_tables.specs.Hashes.{FitsToken}
 use Rattle.hub_tables.specs.declared.parties.Party.{Party}
 use Rattle.row_indexes.specs.Owned.{owned_cmp, under, keys_under, IsIndex, IsNoted, IsForgotten}
-use Rattle.row_indexes.proofs.Indexed.{tells, own_keys, put_new, put_in_place, taken, none_taken, forgot_none, noted_twice, forgotten_twice, noted_forgotten}
+use Rattle.row_indexes.proofs.Indexed.{tells, put_new, put_in_place, taken, none_taken, forgot_none, noted_twice, forgotten_twice, noted_forgotten}
 use Rattle.scope_filters.specs.Contexts.{same}
 use Rattle.scope_filters.specs.declared.holder.Owner.{Owner}
 use Rattle.scope_filters.specs.declared.holder.Owner.TheVariants as Of

@@ -69,27 +69,6 @@ pub(crate) fn put_hashed<R: Hashed>(
     Err(PutError::Memory)
 }
 
-/// Sets a row and its id, whatever the number of rows.
-pub(crate) fn set_hashed<R: Hashed>(
-    alloc: Global,
-    rows: &mut BTreeMap<u64, R>,
-    ids: &mut BTreeMap<Text, u64>,
-    value: R,
-) -> Result<(), AllocError>
-    requires indexed { IsIndexed R.hash_of (map_of nat_cmp rows.old) (map_of name_cmp ids.old) }
-    requires fits { FitsHash R.key_of R.hash_of (map_of nat_cmp rows.old) value }
-    ensures ok { OnOk result (map_of nat_cmp rows.new ≡ map.insert (map_of nat_cmp rows.old) (R.key_of value) value) }
-    ensures err { OnErr result (map_of nat_cmp rows.new ≡ map_of nat_cmp rows.old) }
-    ensures memory { OnErr result (map.contains_key (map_of nat_cmp rows.old) (R.key_of value) ≡ false) }
-    ensures ordered { IsOrdered nat_cmp rows.new }
-    ensures indexed { IsIndexed R.hash_of (map_of nat_cmp rows.new) (map_of name_cmp ids.new) }
-{
-    match put_hashed(alloc, rows, ids, value, None) {
-        Ok(()) => Ok(()),
-        Err(_) => Err(AllocError),
-    }
-}
-
 /// Puts an id under a hash, unless there was no memory for the hash or is none for the entry.
 fn add_hash(ids: &mut BTreeMap<Text, u64>, hash: Result<Text, AllocError>, id: u64) -> bool
     ensures ok { IsTrue result → IsOkAnd hash (λ h. map_of name_cmp ids.new ≡ map.insert (map_of name_cmp ids.old) h id) }

@@ -108,26 +108,6 @@ pub(crate) fn put_group(
     Ok(())
 }
 
-/// Sets a group, whatever the number of rows.
-pub(crate) fn set_group(
-    alloc: Global,
-    rows: &mut BTreeMap<GroupName, Group>,
-    users: &mut MemberIndex<UserName, GroupName>,
-    value: Group,
-) -> Result<(), AllocError>
-    requires told { TellsGroups (map_of name_cmp rows.old) users.old }
-    ensures ok { OnOk result (map_of name_cmp rows.new ≡ map.insert (map_of name_cmp rows.old) value.name value) }
-    ensures err { OnErr result (map_of name_cmp rows.new ≡ map_of name_cmp rows.old) }
-    ensures memory { OnErr result (map.contains_key (map_of name_cmp rows.old) value.name ≡ false) }
-    ensures ordered { IsOrdered name_cmp rows.new }
-    ensures told { TellsGroups (map_of name_cmp rows.new) users.new }
-{
-    match put_group(alloc, rows, users, value, None) {
-        Ok(()) => Ok(()),
-        Err(_) => Err(AllocError),
-    }
-}
-
 /// Takes a group out, and its name from under its members. Takes no memory.
 pub(crate) fn remove_group(
     alloc: Global,
@@ -165,25 +145,6 @@ pub(crate) fn put_role(
     let old = put_row(alloc, rows, value, room)?;
     follow_role(alloc, rows, &name, &old, indexes);
     Ok(())
-}
-
-/// Sets a role, whatever the number of rows.
-pub(crate) fn set_role(
-    alloc: Global,
-    rows: &mut BTreeMap<RoleName, Role>,
-    indexes: &mut RoleIndexes,
-    value: Role,
-) -> Result<(), AllocError>
-    requires told { TellsRoles (map_of name_cmp rows.old) indexes.old }
-    ensures ok { OnOk result (map_of name_cmp rows.new ≡ map.insert (map_of name_cmp rows.old) value.name value) }
-    ensures err { OnErr result (map_of name_cmp rows.new ≡ map_of name_cmp rows.old) }
-    ensures memory { OnErr result (map.contains_key (map_of name_cmp rows.old) value.name ≡ false) }
-    ensures told { TellsRoles (map_of name_cmp rows.new) indexes.new }
-{
-    match put_role(alloc, rows, indexes, value, None) {
-        Ok(()) => Ok(()),
-        Err(_) => Err(AllocError),
-    }
 }
 
 /// Takes a role out, and its name from under those that it names. Takes no memory.

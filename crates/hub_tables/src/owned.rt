@@ -56,30 +56,6 @@ pub(crate) fn put_token(
     Err(PutError::Memory)
 }
 
-/// Sets a token, whatever the number of rows.
-pub(crate) fn set_token(
-    alloc: Global,
-    rows: &mut BTreeMap<u64, Token>,
-    ids: &mut BTreeMap<Text, u64>,
-    owners: &mut Parties<u64>,
-    value: Token,
-) -> Result<(), AllocError>
-    requires indexed { IsIndexed (λ token. token.hash) (map_of nat_cmp rows.old) (map_of name_cmp ids.old) }
-    requires owned { IsIndex party_cmp nat_cmp is_token_of (map_of nat_cmp rows.old) (map_of (owned_cmp party_cmp nat_cmp) owners.old) }
-    requires fits { FitsToken (map_of nat_cmp rows.old) value }
-    ensures ok { OnOk result (map_of nat_cmp rows.new ≡ map.insert (map_of nat_cmp rows.old) value.id value) }
-    ensures err { OnErr result (map_of nat_cmp rows.new ≡ map_of nat_cmp rows.old) }
-    ensures memory { OnErr result (map.contains_key (map_of nat_cmp rows.old) value.id ≡ false) }
-    ensures ordered { IsOrdered nat_cmp rows.new }
-    ensures indexed { IsIndexed (λ token. token.hash) (map_of nat_cmp rows.new) (map_of name_cmp ids.new) }
-    ensures owned { IsIndex party_cmp nat_cmp is_token_of (map_of nat_cmp rows.new) (map_of (owned_cmp party_cmp nat_cmp) owners.new) }
-{
-    match put_token(alloc, rows, ids, owners, value, None) {
-        Ok(()) => Ok(()),
-        Err(_) => Err(AllocError),
-    }
-}
-
 /// Takes a token out, and its id from under its hash and its owner. Takes no memory.
 pub(crate) fn remove_token(
     rows: &mut BTreeMap<u64, Token>,
@@ -130,26 +106,6 @@ pub(crate) fn put_share(
     forget(parties, &giver, &key);
     keyed_rows::remove_row(rows, &key);
     Err(PutError::Memory)
-}
-
-/// Sets a share, whatever the number of rows.
-pub(crate) fn set_share(
-    alloc: Global,
-    rows: &mut BTreeMap<ShareKey, Share>,
-    parties: &mut Parties<ShareKey>,
-    value: Share,
-) -> Result<(), AllocError>
-    requires own { OwnKeys (λ share. share.key) (map_of share_cmp rows.old) }
-    requires owned { IsIndex party_cmp share_cmp is_share_of (map_of share_cmp rows.old) (map_of (owned_cmp party_cmp share_cmp) parties.old) }
-    ensures ok { OnOk result (map_of share_cmp rows.new ≡ map.insert (map_of share_cmp rows.old) value.key value) }
-    ensures err { OnErr result (map_of share_cmp rows.new ≡ map_of share_cmp rows.old) }
-    ensures memory { OnErr result (map.contains_key (map_of share_cmp rows.old) value.key ≡ false) }
-    ensures owned { IsIndex party_cmp share_cmp is_share_of (map_of share_cmp rows.new) (map_of (owned_cmp party_cmp share_cmp) parties.new) }
-{
-    match put_share(alloc, rows, parties, value, None) {
-        Ok(()) => Ok(()),
-        Err(_) => Err(AllocError),
-    }
 }
 
 /// Puts the key of a share under the user whose server it is, and under the recipient. Without memory it may stand under the user alone.

@@ -1,5 +1,5 @@
 //! The tables: all rows of the hub, its limits and its custom scopes.
-ghost use Rattle.std.specs.Prelude.{◌≡◌};
+ghost use Rattle.std.specs.Prelude.{◌≡◌, OnOk, OnErr, IsOk, IsErr};
 ghost use Rattle.std.specs.FinMap as map;
 ghost use Rattle.hub_tables.specs.Own.{AreOwn};
 
@@ -11,8 +11,9 @@ mod tokens;
 
 use crate::trees::Trees;
 use hub_rows::limits::Limits;
+use keyed_rows::PutError;
 use scope_names::table::ScopeTable;
-use std::alloc::Global;
+use std::alloc::{AllocError, Global};
 use std::marker::Model;
 
 /// The rows of each kind, which contracts see as the record of their finite maps.
@@ -70,5 +71,16 @@ impl Tables {
         ensures { result.now ≡ self.now.scopes }
     {
         &self.scopes
+    }
+}
+
+/// What a put tells where there is no limit of rows: memory alone may be wanting.
+fn memory_alone(put: Result<(), PutError>) -> Result<(), AllocError>
+    ensures ok { OnOk result (IsOk put) }
+    ensures err { OnErr result (IsErr put) }
+{
+    match put {
+        Ok(()) => Ok(()),
+        Err(_) => Err(AllocError),
     }
 }

@@ -1,10 +1,12 @@
 -- Lists that are made one item after the other.
-use Rattle.std.proofs.Common.{◌≡◌, ℕ, ◌+◌, ◌<◌, ◌≤◌, List, [], ◌∷◌, ◌++◌, map, length, get_or, drop, add-one, drop-cons, sym, ap, ◌∙◌}
+use Rattle.std.proofs.Common.{◌≡◌, ℕ, ◌+◌, ◌<◌, ◌≤◌, List, [], ◌∷◌, ◌++◌, map, length, get_or, drop, add-one, drop-cons, sym, ap, ◌∙◌, Vec, Global}
 use Rattle.std.proofs.lemmas.List.{append_assoc, append-nil, map-append, drop_all}
-use Rattle.json.specs.Token.{key}
-use Rattle.hub_view.specs.Json.{Json, line, lines, items}
-use Rattle.hub_view.specs.Body.{body_tokens, bodies, items_tokens, pairs_tokens}
+use Rattle.json.specs.Token.{key, begin_array, end_array, begin_object, end_object}
+use Rattle.hub_view.specs.Json.{Json, line, lines, items, pairs}
+use Rattle.hub_view.specs.Body.{body_tokens, bodies, members, items_tokens, pairs_tokens}
 use Rattle.hub_view.specs.declared.body.Body.{Body}
+use Rattle.hub_view.specs.declared.body.Body.TheVariants.{Items, Pairs}
+use Rattle.hub_view.proofs.Tokens.{tokens_of_items, tokens_of_pairs}
 
 -- what is left begins with the item at hand
 pub left_at : {A : Type 0} (xs : List A) (i : ℕ) (x : A) → i < length xs → x ≡ get_or xs i x → drop i xs ≡ x ∷ drop (i + 1) xs
@@ -51,3 +53,31 @@ pair_written list i p before at_value after whole below here wrote_key wrote so_
     ∙ append_assoc before (key p.0 ∷ []) (body_tokens p.1 ++ rest)
     ∙ ap (λ (left : List (List ℕ × Body)). before ++ pairs_tokens left) (sym (left_at list i p below here))
     ∙ so_far
+
+-- all was written, and its end
+
+pub items_ended : (list : List Body) (i : ℕ) (before whole : Json) → length list ≤ i → before ++ items_tokens (drop i list) ≡ whole
+    → before ++ end_array ∷ [] ≡ whole
+items_ended list i before whole past so_far = ap (λ (left : List Body). before ++ items_tokens left) (sym (drop_all i list past)) ∙ so_far
+
+pub pairs_ended : (list : List (List ℕ × Body)) (i : ℕ) (before whole : Json) → length list ≤ i → before ++ pairs_tokens (drop i list) ≡ whole
+    → before ++ end_object ∷ [] ≡ whole
+pairs_ended list i before whole past so_far = ap (λ (left : List (List ℕ × Body)). before ++ pairs_tokens left) (sym (drop_all i list past)) ∙ so_far
+
+pub array_written : (b : Body) (v : Vec Body Global) (list : List Body) (before opened after : Json) → b ≡ Items v → list ≡ v.items
+    → opened ≡ before ++ begin_array ∷ [] → after ≡ opened ++ items_tokens list → after ≡ before ++ body_tokens b
+array_written b v list before opened after is same begun wrote =
+    wrote ∙ ap (λ (tokens : Json). tokens ++ items_tokens list) begun
+    ∙ append_assoc before (begin_array ∷ []) (items_tokens list)
+    ∙ ap (λ (xs : List Body). before ++ items (bodies xs)) same
+    ∙ ap (λ (tokens : Json). before ++ tokens) (sym (tokens_of_items v))
+    ∙ ap (λ (x : Body). before ++ body_tokens x) (sym is)
+
+pub object_written : (b : Body) (v : Vec (List ℕ × Body) Global) (list : List (List ℕ × Body)) (before opened after : Json) → b ≡ Pairs v → list ≡ v.items
+    → opened ≡ before ++ begin_object ∷ [] → after ≡ opened ++ pairs_tokens list → after ≡ before ++ body_tokens b
+object_written b v list before opened after is same begun wrote =
+    wrote ∙ ap (λ (tokens : Json). tokens ++ pairs_tokens list) begun
+    ∙ append_assoc before (begin_object ∷ []) (pairs_tokens list)
+    ∙ ap (λ (xs : List (List ℕ × Body)). before ++ pairs (members xs)) same
+    ∙ ap (λ (tokens : Json). before ++ tokens) (sym (tokens_of_pairs v))
+    ∙ ap (λ (x : Body). before ++ body_tokens x) (sym is)

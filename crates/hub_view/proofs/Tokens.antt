@@ -1,10 +1,10 @@
 -- The tokens of a text, of a list and of an object.
-use Rattle.std.proofs.Common.{◌≡◌, ℕ, List, Vec, Global, sym, ap, ◌∙◌}
-use Rattle.hub_view.specs.Json.{Json, line, items, pairs}
+use Rattle.std.proofs.Common.{◌≡◌, ℕ, Bool, List, Vec, Global, sym, ap, ◌∙◌}
+use Rattle.hub_view.specs.Json.{Json, nothing, line, whole, truth, items, pairs}
 use Rattle.hub_view.specs.Body.{body_step, body_tokens, bodies, members}
 use Rattle.hub_view.specs.declared.body.Body.{Body}
 use Rattle.hub_view.specs.declared.body.Body.TheOpen.{Body-F}
-use Rattle.hub_view.specs.declared.body.Body.TheVariants.{Line, Items, Pairs, rolls-Line, rolls-Items, rolls-Pairs}
+use Rattle.hub_view.specs.declared.body.Body.TheVariants.{Null, Truth, Number, Line, Items, Pairs, rolls-Null, rolls-Truth, rolls-Number, rolls-Line, rolls-Items, rolls-Pairs}
 use Rattle.hub_view.specs.declared.body.Body.TheFolds.{fold-roll-Body}
 
 pub tokens_of_line : (text : List ℕ) → body_tokens (Line text) ≡ line text
@@ -15,3 +15,12 @@ tokens_of_items list = ap body_tokens (sym (rolls-Items list)) ∙ fold-roll-Bod
 
 pub tokens_of_pairs : (fields : Vec (List ℕ × Body) Global) → body_tokens (Pairs fields) ≡ pairs (members fields.items)
 tokens_of_pairs fields = ap body_tokens (sym (rolls-Pairs fields)) ∙ fold-roll-Body Json body_step (Body-F.Pairs fields)
+
+pub tokens_of_number : (n : ℕ) → body_tokens (Number n) ≡ whole n
+tokens_of_number n = ap body_tokens (sym (rolls-Number n)) ∙ fold-roll-Body Json body_step (Body-F.Number n)
+
+pub tokens_of_truth : (b : Bool) → body_tokens (Truth b) ≡ truth b
+tokens_of_truth b = ap body_tokens (sym (rolls-Truth b)) ∙ fold-roll-Body Json body_step (Body-F.Truth b)
+
+pub tokens_of_null : body_tokens Null ≡ nothing
+tokens_of_null = ap body_tokens (sym rolls-Null) ∙ fold-roll-Body Json body_step Body-F.Null

@@ -1,80 +1,62 @@
-//! Members of an object by the kinds of their values, each added where it is shown.
-ghost use Rattle.std.specs.Prelude.{◌≡◌, ◌++◌, map, OnOk};
-ghost use Rattle.hub_view.specs.Json.{line, lines, maybe, member};
-ghost use Rattle.hub_view.specs.Body.{members};
-ghost use Rattle.hub_view.specs.Fields.{scope_lines};
-ghost use Rattle.hub_view.specs.Servers as servers;
+//! The members of an object, added one after the other.
+ghost use Rattle.std.specs.Prelude.{◌≡◌, ◌++◌, List, [], IfOk};
+ghost use Rattle.hub_view.specs.Json.{Json, Member, member, pairs};
+ghost use Rattle.hub_view.specs.Body.{body_tokens};
+ghost use Rattle.hub_view.specs.Made.{holds};
 
 use crate::body::Body;
 use crate::members::add_member;
-use crate::parts::Name;
-use crate::{members, parts};
-use hub_kit::moment::Moment;
 use hub_kit::text::Text;
-use scope_filters::scope::RawScope;
 use std::alloc::{AllocError, Global};
 
-/// Adds a text.
-pub fn add_line(
-    alloc: Global,
-    fields: &mut Vec<(Text, Body)>,
-    shown: bool,
-    key: &str,
-    text: &str,
-) -> Result<(), AllocError>
-    ensures { OnOk result (members fields.new.items ≡ members fields.old.items ++ member shown key.now (line text.now)) }
-{
-    add_member(alloc, fields, shown, key, members::line(alloc, text)?)
+/// An object as far as its members were added. That memory ran out on the way is remembered, and `into_body` tells it, so that
+/// what adds members goes straight on.
+pub struct Fields {
+    list: Vec<(Text, Body)>,
+    failed: bool,
 }
 
-/// Adds a list of names.
-pub fn add_names<N: Name>(
-    alloc: Global,
-    fields: &mut Vec<(Text, Body)>,
-    shown: bool,
-    key: &str,
-    names: &[N],
-) -> Result<(), AllocError>
-    ensures { OnOk result (members fields.new.items ≡ members fields.old.items ++ member shown key.now (lines (map N.text names.now))) }
-{
-    add_member(alloc, fields, shown, key, parts::names(alloc, names)?)
-}
+impl Fields {
+    /// No members so far. Takes no memory.
+    pub fn new(alloc: Global) -> Fields
+        ensures { holds result [] }
+    {
+        Fields {
+            list: Vec::new(alloc),
+            failed: false,
+        }
+    }
 
-/// Adds a list of scopes.
-pub fn add_scopes(
-    alloc: Global,
-    fields: &mut Vec<(Text, Body)>,
-    shown: bool,
-    key: &str,
-    scopes: &[RawScope],
-) -> Result<(), AllocError>
-    ensures { OnOk result (members fields.new.items ≡ members fields.old.items ++ member shown key.now (scope_lines scopes.now)) }
-{
-    add_member(alloc, fields, shown, key, parts::scopes(alloc, scopes)?)
-}
+    /// Adds a member where it is shown. Keys have to come in the order of their bytes.
+    pub fn add(&mut self, alloc: Global, shown: bool, key: &str, value: Result<Body, AllocError>)
+        ensures { (before : List Member) (json : Json) → holds self.old before → IfOk value (λ body. body_tokens body ≡ json) → holds self.new (before ++ member shown key.now json) }
+    {
+        let added = match value {
+            Ok(value) => add_member(alloc, &mut self.list, shown, key, value),
+            Err(error) => Err(error),
+        };
+        if added.is_err() {
+            self.fail();
+        }
+    }
 
-/// Adds a moment.
-pub fn add_moment(
-    alloc: Global,
-    fields: &mut Vec<(Text, Body)>,
-    shown: bool,
-    key: &str,
-    at: Moment,
-) -> Result<(), AllocError>
-    ensures { OnOk result (members fields.new.items ≡ members fields.old.items ++ member shown key.now (servers.at at)) }
-{
-    add_member(alloc, fields, shown, key, parts::moment(alloc, at)?)
-}
+    /// Remembers that memory ran out.
+    pub fn fail(&mut self)
+        ensures { (any : List Member) → holds self.new any }
+    {
+        self.failed = true;
+    }
 
-/// Adds a moment, or null.
-pub fn add_moment_or_null(
-    alloc: Global,
-    fields: &mut Vec<(Text, Body)>,
-    shown: bool,
-    key: &str,
-    at: Option<Moment>,
-) -> Result<(), AllocError>
-    ensures { OnOk result (members fields.new.items ≡ members fields.old.items ++ member shown key.now (maybe servers.at at)) }
-{
-    add_member(alloc, fields, shown, key, parts::moment_or_null(alloc, at)?)
+    /// The object, unless memory ran out.
+    pub fn into_body(self) -> Result<Body, AllocError>
+        ensures { (members : List Member) → holds self members → IfOk result (λ body. body_tokens body ≡ pairs members) }
+    {
+        let Fields { list, failed } = self;
+        let body = Body::Pairs(list);
+        if failed {
+            drop(body);
+            return Err(AllocError);
+        }
+        Ok(body)
+    }
 }

@@ -1,13 +1,16 @@
 //! What is shown of groups and services.
-ghost use Rattle.std.specs.Prelude.{◌≡◌, ◌++◌, OnOk, IfOk};
+ghost use Rattle.std.specs.Prelude.{◌≡◌, ◌++◌, List, IfOk};
 ghost use Rattle.scope_filters.specs.Grants.{grant_admits};
-ghost use Rattle.hub_view.specs.Body.{body_tokens, members};
+ghost use Rattle.hub_view.specs.Json.{Member};
+ghost use Rattle.hub_view.specs.Body.{body_tokens};
+ghost use Rattle.hub_view.specs.Made.{holds};
 ghost use Rattle.hub_view.specs.Fields as spec;
 
 use crate::body::Body;
-use crate::fields::{add_line, add_names};
+use crate::fields::Fields;
+use crate::members::line;
+use crate::parts::names;
 use hub_kit::names::{RoleName, ServiceName};
-use hub_kit::text::Text;
 use hub_rows::records::Group;
 use scope_filters::grant::Grant;
 use scope_filters::members::Members;
@@ -31,12 +34,12 @@ pub fn group_body<M: Members>(
     let named = admits(rights, Action::ReadGroupsName, &object, m);
     let with_roles = admits(rights, Action::ReadRolesGroups, &object, m);
     let whole = admits(rights, Action::ReadGroups, &object, m);
-    let mut fields = Vec::new(alloc);
-    add_line(alloc, &mut fields, named, "kind", "group")?;
-    add_line(alloc, &mut fields, named, "name", group.name.as_str())?;
-    add_names(alloc, &mut fields, with_roles, "roles", roles)?;
-    add_names(alloc, &mut fields, whole, "users", group.users.as_slice())?;
-    Ok(Body::Pairs(fields))
+    let mut fields = Fields::new(alloc);
+    fields.add(alloc, named, "kind", line(alloc, "group"));
+    fields.add(alloc, named, "name", line(alloc, group.name.as_str()));
+    fields.add(alloc, with_roles, "roles", names(alloc, roles));
+    fields.add(alloc, whole, "users", names(alloc, group.users.as_slice()));
+    fields.into_body()
 }
 
 /// The service as the rights show it: `kind` and `name` under `read:services:name`, `roles` under `read:roles:services`. The roles
@@ -50,9 +53,9 @@ pub fn service_body<M: Members>(
 ) -> Result<Body, AllocError>
     ensures { IfOk result (λ body. body_tokens body ≡ spec.service_body (grant_admits (M.context m.now) rights.now) service.now roles.now) }
 {
-    let mut fields = Vec::new(alloc);
-    add_service(alloc, m, rights, &mut fields, false, service, roles)?;
-    Ok(Body::Pairs(fields))
+    let mut fields = Fields::new(alloc);
+    add_service(alloc, m, rights, &mut fields, false, service, roles);
+    fields.into_body()
 }
 
 /// Adds the service's fields. Where the service is `named`, kind and name need no right.
@@ -60,17 +63,17 @@ pub fn add_service<M: Members>(
     alloc: Global,
     m: &M,
     rights: &Grant,
-    fields: &mut Vec<(Text, Body)>,
+    fields: &mut Fields,
     named: bool,
     service: &ServiceName,
     roles: &[RoleName],
-) -> Result<(), AllocError>
-    ensures { OnOk result (members fields.new.items ≡ members fields.old.items ++ spec.service_members (grant_admits (M.context m.now) rights.now) named service.now roles.now) }
+)
+    ensures { (before : List Member) → holds fields.old before → holds fields.new (before ++ spec.service_members (grant_admits (M.context m.now) rights.now) named service.now roles.now) }
 {
     let object = Object::Service(*service);
     let named = named || admits(rights, Action::ReadServicesName, &object, m);
     let with_roles = admits(rights, Action::ReadRolesServices, &object, m);
-    add_line(alloc, fields, named, "kind", "service")?;
-    add_line(alloc, fields, named, "name", service.as_str())?;
-    add_names(alloc, fields, with_roles, "roles", roles)
+    fields.add(alloc, named, "kind", line(alloc, "service"));
+    fields.add(alloc, named, "name", line(alloc, service.as_str()));
+    fields.add(alloc, with_roles, "roles", names(alloc, roles));
 }

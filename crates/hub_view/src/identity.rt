@@ -1,17 +1,18 @@
 //! Who the caller is: the caller's user or service, with kind and name in any case.
-ghost use Rattle.std.specs.Prelude.{◌≡◌, IfOk};
+ghost use Rattle.std.specs.Prelude.{◌≡◌, ◌++◌, List, IfOk};
 ghost use Rattle.scope_filters.specs.Grants.{grant_admits};
-ghost use Rattle.hub_view.specs.Body.{body_tokens, members};
+ghost use Rattle.hub_view.specs.Json.{Member};
+ghost use Rattle.hub_view.specs.Body.{body_tokens};
+ghost use Rattle.hub_view.specs.Made.{holds};
 ghost use Rattle.hub_view.specs.Fields as spec;
 
 use crate::body::Body;
 use crate::facts::UserFacts;
-use crate::fields::add_scopes;
+use crate::fields::Fields;
 use crate::groups::add_service;
-use crate::members::add_member;
+use crate::parts::scopes;
 use crate::users::{add_servers, add_user};
 use hub_kit::names::{RoleName, ServerKey, ServiceName};
-use hub_kit::text::Text;
 use scope_filters::grant::Grant;
 use scope_filters::members::Members;
 use scope_filters::object::Object;
@@ -32,11 +33,11 @@ pub fn user_identity<M: Members>(
 ) -> Result<Body, AllocError>
     ensures { IfOk result (λ body. body_tokens body ≡ spec.user_identity (grant_admits (M.context m.now) rights.now) facts.now token_scopes.now server.now) }
 {
-    let mut fields = access(alloc, m, rights, server)?;
-    add_user(alloc, m, rights, &mut fields, true, facts)?;
-    add_scopes(alloc, &mut fields, true, "scopes", token_scopes)?;
-    add_servers(alloc, m, rights, &mut fields, facts)?;
-    Ok(Body::Pairs(fields))
+    let mut fields = access(alloc, m, rights, server);
+    add_user(alloc, m, rights, &mut fields, true, facts);
+    fields.add(alloc, true, "scopes", scopes(alloc, token_scopes));
+    add_servers(alloc, m, rights, &mut fields, facts);
+    fields.into_body()
 }
 
 /// The identity of a service: `kind` and `name`, `roles` as `service_body` shows them, and `scopes` and `access` as for a user.
@@ -51,25 +52,20 @@ pub fn service_identity<M: Members>(
 ) -> Result<Body, AllocError>
     ensures { IfOk result (λ body. body_tokens body ≡ spec.service_identity (grant_admits (M.context m.now) rights.now) service.now roles.now token_scopes.now server.now) }
 {
-    let mut fields = access(alloc, m, rights, server)?;
-    add_service(alloc, m, rights, &mut fields, true, service, roles)?;
-    add_scopes(alloc, &mut fields, true, "scopes", token_scopes)?;
-    Ok(Body::Pairs(fields))
+    let mut fields = access(alloc, m, rights, server);
+    add_service(alloc, m, rights, &mut fields, true, service, roles);
+    fields.add(alloc, true, "scopes", scopes(alloc, token_scopes));
+    fields.into_body()
 }
 
 /// The member `access`, where a server is asked for.
-fn access<M: Members>(
-    alloc: Global,
-    m: &M,
-    rights: &Grant,
-    server: &Option<ServerKey>,
-) -> Result<Vec<(Text, Body)>, AllocError>
-    ensures { IfOk result (λ fields. members fields.items ≡ spec.access_member (grant_admits (M.context m.now) rights.now) server.now) }
+fn access<M: Members>(alloc: Global, m: &M, rights: &Grant, server: &Option<ServerKey>) -> Fields
+    ensures { holds result (spec.access_member (grant_admits (M.context m.now) rights.now) server.now) }
 {
-    let mut fields = Vec::new(alloc);
+    let mut fields = Fields::new(alloc);
     if let Some(key) = server {
         let enters = admits(rights, Action::AccessServers, &Object::Server(*key), m);
-        add_member(alloc, &mut fields, true, "access", Body::Truth(enters))?;
+        fields.add(alloc, true, "access", Ok(Body::Truth(enters)));
     }
-    Ok(fields)
+    fields
 }

@@ -5,6 +5,7 @@ ghost use Rattle.hub_view.specs.Json as json;
 ghost use Rattle.hub_view.specs.Body.{body_tokens, members};
 
 use crate::body::Body;
+use crate::fields::Fields;
 use hub_kit::text::Text;
 use std::alloc::{AllocError, Global};
 
@@ -37,14 +38,8 @@ pub fn add_member(
 pub fn message_body(alloc: Global, status: u16, message: &str) -> Result<Body, AllocError>
     ensures { IfOk result (λ body. body_tokens body ≡ json.message_body status message.now) }
 {
-    let mut fields = Vec::new(alloc);
-    add_member(alloc, &mut fields, true, "message", line(alloc, message)?)?;
-    add_member(
-        alloc,
-        &mut fields,
-        true,
-        "status",
-        Body::Number(status as u64),
-    )?;
-    Ok(Body::Pairs(fields))
+    let mut fields = Fields::new(alloc);
+    fields.add(alloc, true, "message", line(alloc, message));
+    fields.add(alloc, true, "status", Ok(Body::Number(status as u64)));
+    fields.into_body()
 }

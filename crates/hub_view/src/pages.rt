@@ -4,7 +4,7 @@ ghost use Rattle.hub_view.specs.Body.{body_tokens, bodies};
 ghost use Rattle.hub_view.specs.Pages as spec;
 
 use crate::body::Body;
-use crate::members::{add_member, line};
+use crate::fields::Fields;
 use hub_kit::text::Text;
 use std::alloc::{AllocError, Global};
 
@@ -35,43 +35,26 @@ pub fn page_body(
     if !page.paged {
         return Ok(Body::Items(part));
     }
-    let mut fields = Vec::new(alloc);
-    add_member(
-        alloc,
-        &mut fields,
-        true,
-        "_pagination",
-        pagination(alloc, path, page, total)?,
-    )?;
-    add_member(alloc, &mut fields, true, "items", Body::Items(part))?;
-    Ok(Body::Pairs(fields))
+    let mut fields = Fields::new(alloc);
+    let place = pagination(alloc, path, page, total);
+    fields.add(alloc, true, "_pagination", place);
+    fields.add(alloc, true, "items", Ok(Body::Items(part)));
+    fields.into_body()
 }
 
 fn pagination(alloc: Global, path: &str, page: Page, total: u64) -> Result<Body, AllocError>
     ensures { IfOk result (λ body. body_tokens body ≡ spec.pagination path.now page total) }
 {
     let next = match next_offset(page, total) {
-        Some(offset) => next_page(alloc, path, page, offset)?,
-        None => Body::Null,
+        Some(offset) => next_page(alloc, path, page, offset),
+        None => Ok(Body::Null),
     };
-    let mut fields = Vec::new(alloc);
-    add_member(
-        alloc,
-        &mut fields,
-        true,
-        "limit",
-        Body::Number(limit_of(page)),
-    )?;
-    add_member(alloc, &mut fields, true, "next", next)?;
-    add_member(
-        alloc,
-        &mut fields,
-        true,
-        "offset",
-        Body::Number(page.offset),
-    )?;
-    add_member(alloc, &mut fields, true, "total", Body::Number(total))?;
-    Ok(Body::Pairs(fields))
+    let mut fields = Fields::new(alloc);
+    fields.add(alloc, true, "limit", Ok(Body::Number(limit_of(page))));
+    fields.add(alloc, true, "next", next);
+    fields.add(alloc, true, "offset", Ok(Body::Number(page.offset)));
+    fields.add(alloc, true, "total", Ok(Body::Number(total)));
+    fields.into_body()
 }
 
 /// How many objects stand in the page at most.
@@ -98,11 +81,11 @@ fn next_page(alloc: Global, path: &str, page: Page, offset: u64) -> Result<Body,
 {
     let limit = limit_of(page);
     let url = page_url(alloc, path, limit, offset)?;
-    let mut fields = Vec::new(alloc);
-    add_member(alloc, &mut fields, true, "limit", Body::Number(limit))?;
-    add_member(alloc, &mut fields, true, "offset", Body::Number(offset))?;
-    add_member(alloc, &mut fields, true, "url", Body::Line(url))?;
-    Ok(Body::Pairs(fields))
+    let mut fields = Fields::new(alloc);
+    fields.add(alloc, true, "limit", Ok(Body::Number(limit)));
+    fields.add(alloc, true, "offset", Ok(Body::Number(offset)));
+    fields.add(alloc, true, "url", Ok(Body::Line(url)));
+    fields.into_body()
 }
 
 fn page_url(alloc: Global, path: &str, limit: u64, offset: u64) -> Result<Text, AllocError>

@@ -1,13 +1,14 @@
 //! Tokens, roles, shares and share codes, which are shown with all their fields.
-ghost use Rattle.std.specs.Prelude.{◌≡◌, ◌++◌, OnOk, IfOk};
-ghost use Rattle.hub_view.specs.Body.{body_tokens, members};
+ghost use Rattle.std.specs.Prelude.{◌≡◌, ◌++◌, List, IfOk};
+ghost use Rattle.hub_view.specs.Json.{Member};
+ghost use Rattle.hub_view.specs.Body.{body_tokens};
+ghost use Rattle.hub_view.specs.Made.{holds};
 ghost use Rattle.hub_view.specs.Records as spec;
 
 use crate::body::Body;
-use crate::fields::{add_line, add_moment, add_moment_or_null, add_names, add_scopes};
-use crate::members::{add_member, line};
-use crate::parts::{digits, key_line, line_or_null};
-use hub_kit::text::Text;
+use crate::fields::Fields;
+use crate::members::line;
+use crate::parts::{digits, key_line, line_or_null, moment, moment_or_null, names, scopes};
 use hub_rows::keys::Recipient;
 use hub_rows::records::{Role, Share, ShareCode, Token};
 use scope_filters::holder::Owner;
@@ -17,52 +18,49 @@ use std::alloc::{AllocError, Global};
 pub fn token_body(alloc: Global, token: &Token) -> Result<Body, AllocError>
     ensures { IfOk result (λ body. body_tokens body ≡ spec.token_body token.now) }
 {
-    let mut fields = Vec::new(alloc);
-    add_token(alloc, &mut fields, token)?;
-    add_member(
-        alloc,
-        &mut fields,
-        true,
-        "user",
-        user_of(alloc, &token.owner)?,
-    )?;
-    Ok(Body::Pairs(fields))
+    let mut fields = Fields::new(alloc);
+    add_token(alloc, &mut fields, token);
+    fields.add(alloc, true, "user", user_of(alloc, &token.owner));
+    fields.into_body()
 }
 
 /// The token that was just made, with its text.
 pub fn new_token_body(alloc: Global, token: &Token, text: &str) -> Result<Body, AllocError>
     ensures { IfOk result (λ body. body_tokens body ≡ spec.new_token_body token.now text.now) }
 {
-    let mut fields = Vec::new(alloc);
-    add_token(alloc, &mut fields, token)?;
-    add_line(alloc, &mut fields, true, "token", text)?;
-    add_member(
-        alloc,
-        &mut fields,
-        true,
-        "user",
-        user_of(alloc, &token.owner)?,
-    )?;
-    Ok(Body::Pairs(fields))
+    let mut fields = Fields::new(alloc);
+    add_token(alloc, &mut fields, token);
+    fields.add(alloc, true, "token", line(alloc, text));
+    fields.add(alloc, true, "user", user_of(alloc, &token.owner));
+    fields.into_body()
 }
 
 /// Adds the fields of a token up to the scopes.
-fn add_token(alloc: Global, fields: &mut Vec<(Text, Body)>, token: &Token) -> Result<(), AllocError>
-    ensures { OnOk result (members fields.new.items ≡ members fields.old.items ++ spec.token_members token.now) }
+fn add_token(alloc: Global, fields: &mut Fields, token: &Token)
+    ensures { (before : List Member) → holds fields.old before → holds fields.new (before ++ spec.token_members token.now) }
 {
-    add_moment(alloc, fields, true, "created", token.created)?;
-    add_moment_or_null(alloc, fields, true, "expires_at", token.expires_at)?;
-    add_member(alloc, fields, true, "id", digits(alloc, token.id)?)?;
-    add_line(alloc, fields, true, "kind", "api_token")?;
-    add_line(alloc, fields, true, "note", token.note.as_str())?;
-    add_member(
+    fields.add(alloc, true, "created", moment(alloc, token.created));
+    fields.add(
         alloc,
-        fields,
+        true,
+        "expires_at",
+        moment_or_null(alloc, token.expires_at),
+    );
+    fields.add(alloc, true, "id", digits(alloc, token.id));
+    fields.add(alloc, true, "kind", line(alloc, "api_token"));
+    fields.add(alloc, true, "note", line(alloc, token.note.as_str()));
+    fields.add(
+        alloc,
         true,
         "oauth_client",
-        line_or_null(alloc, &token.client)?,
-    )?;
-    add_scopes(alloc, fields, true, "scopes", token.scopes.as_slice())
+        line_or_null(alloc, &token.client),
+    );
+    fields.add(
+        alloc,
+        true,
+        "scopes",
+        scopes(alloc, token.scopes.as_slice()),
+    );
 }
 
 fn user_of(alloc: Global, owner: &Owner) -> Result<Body, AllocError>
@@ -78,50 +76,36 @@ fn user_of(alloc: Global, owner: &Owner) -> Result<Body, AllocError>
 pub fn role_body(alloc: Global, role: &Role) -> Result<Body, AllocError>
     ensures { IfOk result (λ body. body_tokens body ≡ spec.role_body role.now) }
 {
-    let mut fields = Vec::new(alloc);
-    add_names(alloc, &mut fields, true, "groups", role.groups.as_slice())?;
-    add_line(alloc, &mut fields, true, "name", role.name.as_str())?;
-    add_scopes(alloc, &mut fields, true, "scopes", role.scopes.as_slice())?;
-    add_names(
+    let mut fields = Fields::new(alloc);
+    fields.add(alloc, true, "groups", names(alloc, role.groups.as_slice()));
+    fields.add(alloc, true, "name", line(alloc, role.name.as_str()));
+    fields.add(alloc, true, "scopes", scopes(alloc, role.scopes.as_slice()));
+    fields.add(
         alloc,
-        &mut fields,
         true,
         "services",
-        role.services.as_slice(),
-    )?;
-    add_names(alloc, &mut fields, true, "users", role.users.as_slice())?;
-    Ok(Body::Pairs(fields))
+        names(alloc, role.services.as_slice()),
+    );
+    fields.add(alloc, true, "users", names(alloc, role.users.as_slice()));
+    fields.into_body()
 }
 
 /// All of a share. Of `group` and `user` the one that isn't the recipient is null.
 pub fn share_body(alloc: Global, share: &Share) -> Result<Body, AllocError>
     ensures { IfOk result (λ body. body_tokens body ≡ spec.share_body share.now) }
 {
-    let mut fields = Vec::new(alloc);
-    add_moment(alloc, &mut fields, true, "created", share.created)?;
-    add_member(
+    let mut fields = Fields::new(alloc);
+    fields.add(alloc, true, "created", moment(alloc, share.created));
+    fields.add(alloc, true, "group", group_to(alloc, &share.key.to));
+    fields.add(
         alloc,
-        &mut fields,
         true,
-        "group",
-        group_to(alloc, &share.key.to)?,
-    )?;
-    add_scopes(alloc, &mut fields, true, "scopes", share.scopes.as_slice())?;
-    add_member(
-        alloc,
-        &mut fields,
-        true,
-        "server",
-        key_line(alloc, &share.key.server)?,
-    )?;
-    add_member(
-        alloc,
-        &mut fields,
-        true,
-        "user",
-        user_to(alloc, &share.key.to)?,
-    )?;
-    Ok(Body::Pairs(fields))
+        "scopes",
+        scopes(alloc, share.scopes.as_slice()),
+    );
+    fields.add(alloc, true, "server", key_line(alloc, &share.key.server));
+    fields.add(alloc, true, "user", user_to(alloc, &share.key.to));
+    fields.into_body()
 }
 
 fn group_to(alloc: Global, to: &Recipient) -> Result<Body, AllocError>
@@ -146,38 +130,28 @@ fn user_to(alloc: Global, to: &Recipient) -> Result<Body, AllocError>
 pub fn code_body(alloc: Global, code: &ShareCode) -> Result<Body, AllocError>
     ensures { IfOk result (λ body. body_tokens body ≡ spec.code_body code.now) }
 {
-    let mut fields = Vec::new(alloc);
-    add_code(alloc, &mut fields, code)?;
-    Ok(Body::Pairs(fields))
+    let mut fields = Fields::new(alloc);
+    add_code(alloc, &mut fields, code);
+    fields.into_body()
 }
 
 /// The code that was just made, with its text.
 pub fn new_code_body(alloc: Global, code: &ShareCode, text: &str) -> Result<Body, AllocError>
     ensures { IfOk result (λ body. body_tokens body ≡ spec.new_code_body code.now text.now) }
 {
-    let mut fields = Vec::new(alloc);
-    add_line(alloc, &mut fields, true, "code", text)?;
-    add_code(alloc, &mut fields, code)?;
-    Ok(Body::Pairs(fields))
+    let mut fields = Fields::new(alloc);
+    fields.add(alloc, true, "code", line(alloc, text));
+    add_code(alloc, &mut fields, code);
+    fields.into_body()
 }
 
 /// Adds the fields of a share code.
-fn add_code(
-    alloc: Global,
-    fields: &mut Vec<(Text, Body)>,
-    code: &ShareCode,
-) -> Result<(), AllocError>
-    ensures { OnOk result (members fields.new.items ≡ members fields.old.items ++ spec.code_members code.now) }
+fn add_code(alloc: Global, fields: &mut Fields, code: &ShareCode)
+    ensures { (before : List Member) → holds fields.old before → holds fields.new (before ++ spec.code_members code.now) }
 {
-    add_moment(alloc, fields, true, "created", code.created)?;
-    add_moment(alloc, fields, true, "expires_at", code.expires_at)?;
-    add_member(alloc, fields, true, "id", digits(alloc, code.id)?)?;
-    add_scopes(alloc, fields, true, "scopes", code.scopes.as_slice())?;
-    add_member(
-        alloc,
-        fields,
-        true,
-        "server",
-        key_line(alloc, &code.server)?,
-    )
+    fields.add(alloc, true, "created", moment(alloc, code.created));
+    fields.add(alloc, true, "expires_at", moment(alloc, code.expires_at));
+    fields.add(alloc, true, "id", digits(alloc, code.id));
+    fields.add(alloc, true, "scopes", scopes(alloc, code.scopes.as_slice()));
+    fields.add(alloc, true, "server", key_line(alloc, &code.server));
 }

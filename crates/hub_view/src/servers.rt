@@ -6,9 +6,9 @@ ghost use Rattle.hub_view.specs.Servers as spec;
 
 use crate::body::Body;
 use crate::facts::ServerFacts;
-use crate::fields::{add_line, add_moment_or_null};
-use crate::members::{add_member, line};
-use crate::parts::truth;
+use crate::fields::Fields;
+use crate::members::line;
+use crate::parts::{moment_or_null, truth};
 use hub_kit::names::ServerKey;
 use hub_kit::text::Text;
 use server_life::Phase;
@@ -72,12 +72,13 @@ pub fn server_body(alloc: Global, server: &ServerFacts) -> Result<Body, AllocErr
 {
     let row = &server.row;
     let phase = server.life.phase;
-    let mut fields = Vec::new(alloc);
-    add_moment_or_null(alloc, &mut fields, true, "last_activity", row.last_activity)?;
-    add_line(alloc, &mut fields, true, "name", row.key.server.as_str())?;
-    add_member(alloc, &mut fields, true, "pending", pending(alloc, phase)?)?;
-    add_member(alloc, &mut fields, true, "ready", truth(is_ready(phase)))?;
-    add_moment_or_null(alloc, &mut fields, true, "started", row.started)?;
-    add_member(alloc, &mut fields, true, "url", url_line(alloc, &row.key)?)?;
-    Ok(Body::Pairs(fields))
+    let mut fields = Fields::new(alloc);
+    let last_activity = moment_or_null(alloc, row.last_activity);
+    fields.add(alloc, true, "last_activity", last_activity);
+    fields.add(alloc, true, "name", line(alloc, row.key.server.as_str()));
+    fields.add(alloc, true, "pending", pending(alloc, phase));
+    fields.add(alloc, true, "ready", Ok(truth(is_ready(phase))));
+    fields.add(alloc, true, "started", moment_or_null(alloc, row.started));
+    fields.add(alloc, true, "url", url_line(alloc, &row.key));
+    fields.into_body()
 }

@@ -1,14 +1,16 @@
 //! What is shown of a user.
-ghost use Rattle.std.specs.Prelude.{◌≡◌, ◌++◌, ◌||◌, OnOk, IfOk};
+ghost use Rattle.std.specs.Prelude.{◌≡◌, ◌++◌, ◌||◌, List, IfOk};
 ghost use Rattle.scope_filters.specs.Grants.{grant_admits};
+ghost use Rattle.hub_view.specs.Json.{Member};
 ghost use Rattle.hub_view.specs.Body.{body_tokens, members};
+ghost use Rattle.hub_view.specs.Made.{holds};
 ghost use Rattle.hub_view.specs.Fields as spec;
 
 use crate::body::Body;
 use crate::facts::{ServerFacts, UserFacts};
-use crate::fields::{add_line, add_moment, add_moment_or_null, add_names};
-use crate::members::add_member;
-use crate::parts::truth;
+use crate::fields::Fields;
+use crate::members::{add_member, line};
+use crate::parts::{moment, moment_or_null, names, truth};
 use crate::servers::{is_live, server_body};
 use hub_kit::names::UserName;
 use hub_kit::text::Text;
@@ -30,10 +32,10 @@ pub fn user_body<M: Members>(
 ) -> Result<Body, AllocError>
     ensures { IfOk result (λ body. body_tokens body ≡ spec.user_body (grant_admits (M.context m.now) rights.now) facts.now) }
 {
-    let mut fields = Vec::new(alloc);
-    add_user(alloc, m, rights, &mut fields, false, facts)?;
-    add_servers(alloc, m, rights, &mut fields, facts)?;
-    Ok(Body::Pairs(fields))
+    let mut fields = Fields::new(alloc);
+    add_user(alloc, m, rights, &mut fields, false, facts);
+    add_servers(alloc, m, rights, &mut fields, facts);
+    fields.into_body()
 }
 
 /// Adds the user's own fields. Where the user is `named`, kind and name need no right.
@@ -41,33 +43,24 @@ pub fn add_user<M: Members>(
     alloc: Global,
     m: &M,
     rights: &Grant,
-    fields: &mut Vec<(Text, Body)>,
+    fields: &mut Fields,
     named: bool,
     facts: &UserFacts,
-) -> Result<(), AllocError>
-    ensures { OnOk result (members fields.new.items ≡ members fields.old.items ++ spec.user_members (grant_admits (M.context m.now) rights.now) named facts.now) }
+)
+    ensures { (before : List Member) → holds fields.old before → holds fields.new (before ++ spec.user_members (grant_admits (M.context m.now) rights.now) named facts.now) }
 {
     let user = &facts.user;
     let shown = shown_fields(m, rights, named, &user.name);
-    add_member(alloc, fields, shown.account, "admin", truth(user.admin))?;
-    add_moment(alloc, fields, shown.account, "created", user.created)?;
-    add_names(
-        alloc,
-        fields,
-        shown.groups,
-        "groups",
-        facts.groups.as_slice(),
-    )?;
-    add_line(alloc, fields, shown.name, "kind", "user")?;
-    add_moment_or_null(
-        alloc,
-        fields,
-        shown.activity,
-        "last_activity",
-        user.last_activity,
-    )?;
-    add_line(alloc, fields, shown.name, "name", user.name.as_str())?;
-    add_names(alloc, fields, shown.roles, "roles", facts.roles.as_slice())
+    fields.add(alloc, shown.account, "admin", Ok(truth(user.admin)));
+    fields.add(alloc, shown.account, "created", moment(alloc, user.created));
+    let groups = names(alloc, facts.groups.as_slice());
+    fields.add(alloc, shown.groups, "groups", groups);
+    fields.add(alloc, shown.name, "kind", line(alloc, "user"));
+    let last_activity = moment_or_null(alloc, user.last_activity);
+    fields.add(alloc, shown.activity, "last_activity", last_activity);
+    fields.add(alloc, shown.name, "name", line(alloc, user.name.as_str()));
+    let roles = names(alloc, facts.roles.as_slice());
+    fields.add(alloc, shown.roles, "roles", roles);
 }
 
 /// Which fields of a user are shown: `kind` and `name`, `admin` and `created`, and the others one by one.
@@ -102,15 +95,19 @@ pub fn add_servers<M: Members>(
     alloc: Global,
     m: &M,
     rights: &Grant,
-    fields: &mut Vec<(Text, Body)>,
+    fields: &mut Fields,
     facts: &UserFacts,
-) -> Result<(), AllocError>
-    ensures { OnOk result (members fields.new.items ≡ members fields.old.items ++ spec.servers_member (grant_admits (M.context m.now) rights.now) facts.now) }
+)
+    ensures { (before : List Member) → holds fields.old before → holds fields.new (before ++ spec.servers_member (grant_admits (M.context m.now) rights.now) facts.now) }
 {
-    let servers = shown_servers(alloc, m, rights, facts.servers.as_slice())?;
     let object = Object::User(facts.user.name);
-    let shown = has_any(&servers) || admits(rights, Action::ReadServers, &object, m);
-    add_member(alloc, fields, shown, "servers", Body::Pairs(servers))
+    match shown_servers(alloc, m, rights, facts.servers.as_slice()) {
+        Ok(servers) => {
+            let shown = has_any(&servers) || admits(rights, Action::ReadServers, &object, m);
+            fields.add(alloc, shown, "servers", Ok(Body::Pairs(servers)));
+        }
+        Err(_) => fields.fail(),
+    }
 }
 
 /// The live servers that may be read, under their names.

@@ -1,5 +1,5 @@
 -- Rows under keys: a tree's entries as a finite map, and what a put answers.
-use Rattle.std.specs.Prelude.{◌≡◌, ℕ, ◌-◌, ◌<◌, ◌≤◌, Bool, false, ◌||◌, ◌&&◌, not, nat_lt, nat_le, Result, Ok, Err, Some}
+use Rattle.std.specs.Prelude.{◌≡◌, ℕ, ◌-◌, ◌<◌, ◌≤◌, Bool, false, ◌||◌, ◌&&◌, not, nat_lt, nat_le, Result, Ok, Err, Option, Some, None}
 use Rattle.std.specs.Bool.{IsTrue}
 use Rattle.std.specs.declared.cmp.Ordering.{Ordering}
 use Rattle.std.specs.BTreeMap.{BTreeMap}
@@ -24,3 +24,8 @@ IsPutAnswer kind limit rows leaving kept (Err Memory) = (kept ≡ false) × (row
 -- each row stands under its own key
 abbrev pub OwnKeys : {K X : Type 0} {R : K → K → Ordering} → (X → K) → FinMap R X → Type 0
 OwnKeys {K} {X} key m = (q : K) (row : X) → get m q ≡ Some row → key row ≡ q
+
+-- whether a row is kept and passes a test
+abbrev pub is_kept_and : {X : Type 0} → (X → Bool) → Option X → Bool
+is_kept_and test None = false
+is_kept_and test (Some row) = test row

@@ -24,7 +24,7 @@ pub enum PutError {
 }
 
 /// The room for a kind of rows.
-#[derive(Clone, Copy, Debug, PartialEq, Eq)]
+#[derive(Clone, Copy)]
 pub struct Room {
     /// The number of the kind, which a refusal names.
     pub kind: u8,

@@ -17,8 +17,8 @@ use keyed_rows::sorted::Sorted;
 use serde_json::Value;
 use std::alloc::{AllocError, Global};
 
-/// What two readers found. A record's fields are read by twos: each early return drops what was read before it, and the proof
-/// follows each drop.
+/// What two readers found. A record's fields are read by twos and the twos put together, so that one early return is left: each
+/// drops what was read before it, and the proof follows each drop.
 pub(crate) fn both<A: Drop, B: Drop>(
     first: Result<A, Unread>,
     second: Result<B, Unread>,

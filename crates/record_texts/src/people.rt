@@ -40,11 +40,17 @@ impl Record for User {
     }
 
     fn find(alloc: Global, key: &str, value: &Value) -> Result<User, Unread> {
+        let named = both(UserName::of_text(alloc, key), bool_at(value, "admin"));
+        let seen = both(
+            number_at(value, "created"),
+            maybe_number_at(value, "last_activity"),
+        );
+        let ((name, admin), (created, last_activity)) = both(named, seen)?;
         Ok(User {
-            name: UserName::of_text(alloc, key)?,
-            admin: bool_at(value, "admin")?,
-            created: number_at(value, "created")?,
-            last_activity: maybe_number_at(value, "last_activity")?,
+            name,
+            admin,
+            created,
+            last_activity,
         })
     }
 }
@@ -137,15 +143,16 @@ impl Record for Role {
     }
 
     fn find(alloc: Global, key: &str, value: &Value) -> Result<Role, Unread> {
-        let name = RoleName::of_text(alloc, key)?;
-        let (groups, scopes) = both(
+        let name = RoleName::of_text(alloc, key);
+        let first = both(
             sorted_at(alloc, value, "groups"),
             texts_at(alloc, value, "scopes"),
-        )?;
-        let (services, users) = both(
+        );
+        let last = both(
             sorted_at(alloc, value, "services"),
             sorted_at(alloc, value, "users"),
-        )?;
+        );
+        let (name, ((groups, scopes), (services, users))) = both(name, both(first, last))?;
         Ok(Role {
             name,
             groups,

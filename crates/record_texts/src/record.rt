@@ -55,7 +55,9 @@ pub fn row_of<R: Record>(alloc: Global, kept: &R) -> Result<Row, AllocError>
     ensures valid { OnOk result (R.valid kept.now) }
 {
     let shape = kept.value(alloc)?;
-    let text = Text::from_string(shape.to_string(alloc)?);
+    let written = shape.to_string(alloc);
+    drop(shape);
+    let text = Text::from_string(written?);
     let key = kept.key(alloc)?;
     Ok(Row {
         kind: R::KIND,
@@ -80,7 +82,7 @@ fn is_same_row(a: &Row, b: &Row) -> bool
     ensures same { IsTrue result → a.now ≡ b.now }
     ensures all { a.now ≡ b.now → IsTrue result }
 {
-    a.kind == b.kind && a.key.as_str() == b.key.as_str() && a.text.as_str() == b.text.as_str()
+    a.kind == b.kind && a.key == b.key && a.text == b.text
 }
 
 /// The record that a row stands for.
@@ -91,13 +93,23 @@ pub fn of_row<R: Record>(alloc: Global, row: &Row) -> Result<R, RowError>
 {
     let value = match Value::from_str(alloc, row.text.as_str()) {
         Ok(value) => value,
-        Err(error) if error.is_memory() => return Err(RowError::Memory),
-        Err(_) => return Err(bad_row(alloc, row)),
+        Err(error) => {
+            let is_memory = error.is_memory();
+            drop(error);
+            if is_memory {
+                return Err(RowError::Memory);
+            }
+            return Err(bad_row(alloc, row));
+        }
     };
-    match R::find(alloc, row.key.as_str(), &value) {
+    let found = R::find(alloc, row.key.as_str(), &value);
+    drop(value);
+    match found {
         Ok(found) => checked(alloc, row, found),
-        Err(Unread::Bad) => Err(bad_row(alloc, row)),
-        Err(Unread::Memory) => Err(RowError::Memory),
+        Err(error) => match error {
+            Unread::Bad => Err(bad_row(alloc, row)),
+            Unread::Memory => Err(RowError::Memory),
+        },
     }
 }
 
@@ -108,11 +120,15 @@ fn checked<R: Record>(alloc: Global, row: &Row, found: R) -> Result<R, RowError>
     ensures names { IfErr result (Names row.now) }
 {
     let Ok(again) = row_of(alloc, &found) else {
+        drop(found);
         return Err(RowError::Memory);
     };
-    if is_same_row(&again, row) {
+    let is_same = is_same_row(&again, row);
+    drop(again);
+    if is_same {
         Ok(found)
     } else {
+        drop(found);
         Err(bad_row(alloc, row))
     }
 }

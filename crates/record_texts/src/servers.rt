@@ -2,7 +2,7 @@
 ghost use Rattle.record_texts.specs.KeyTexts.{server_text, share_text};
 ghost use Rattle.record_texts.specs.Servers.{server_object, lease_object, share_object, next_object, IsServerRow, IsLease, IsShare, IsNext, server_plain, lease_plain, share_plain, next_plain};
 
-use crate::field::{lacking_number_at, maybe_number_at, number_at, text_at, texts_at};
+use crate::field::{both, lacking_number_at, maybe_number_at, number_at, text_at, texts_at};
 use crate::fields::Fields;
 use crate::record::Record;
 use crate::textual::Textual;
@@ -81,10 +81,12 @@ impl Record for Lease {
     }
 
     fn find(alloc: Global, key: &str, value: &Value) -> Result<Lease, Unread> {
+        let held = both(Target::of_text(alloc, key), text_at(alloc, value, "server"));
+        let ((target, server), generation) = both(held, lacking_number_at(value, "generation"))?;
         Ok(Lease {
-            target: Target::of_text(alloc, key)?,
-            server: text_at(alloc, value, "server")?,
-            generation: lacking_number_at(value, "generation")?,
+            target,
+            server,
+            generation,
         })
     }
 }

@@ -240,9 +240,10 @@ impl Textual for Owner {
             return Err(Unread::Bad);
         };
         if cut.front == "user" {
-            return Ok(Owner::User(UserName::of_text(alloc, name)?));
+            UserName::of_text(alloc, name).map(Owner::User)
+        } else {
+            ServiceName::of_text(alloc, name).map(Owner::Service)
         }
-        Ok(Owner::Service(ServiceName::of_text(alloc, name)?))
     }
 }
 
@@ -264,9 +265,10 @@ impl Textual for Recipient {
             return Err(Unread::Bad);
         };
         if cut.front == "user" {
-            return Ok(Recipient::User(UserName::of_text(alloc, name)?));
+            UserName::of_text(alloc, name).map(Recipient::User)
+        } else {
+            GroupName::of_text(alloc, name).map(Recipient::Group)
         }
-        Ok(Recipient::Group(GroupName::of_text(alloc, name)?))
     }
 }
 

@@ -44,20 +44,22 @@ impl Record for Token {
     }
 
     fn find(alloc: Global, key: &str, value: &Value) -> Result<Token, Unread> {
-        let id = u64::of_text(alloc, key)?;
-        let (client, issued_for) = both(
+        let id = u64::of_text(alloc, key);
+        let made_for = both(
             maybe_text_at(alloc, value, "client"),
             maybe_text_at(alloc, value, "issued_for"),
-        )?;
-        let (created, expires_at) = both(
+        );
+        let times = both(
             number_at(value, "created"),
             maybe_number_at(value, "expires_at"),
-        )?;
-        let (hash, note) = both(text_at(alloc, value, "hash"), text_at(alloc, value, "note"))?;
-        let (owner, scopes) = both(
+        );
+        let texts = both(text_at(alloc, value, "hash"), text_at(alloc, value, "note"));
+        let rights = both(
             text_at(alloc, value, "owner"),
             texts_at(alloc, value, "scopes"),
-        )?;
+        );
+        let ((id, (client, issued_for)), ((created, expires_at), ((hash, note), (owner, scopes)))) =
+            both(both(id, made_for), both(times, both(texts, rights)))?;
         Ok(Token {
             id,
             client,
@@ -101,14 +103,16 @@ impl Record for ShareCode {
     }
 
     fn find(alloc: Global, key: &str, value: &Value) -> Result<ShareCode, Unread> {
-        let id = u64::of_text(alloc, key)?;
-        let (created, expires_at) = both(
-            number_at(value, "created"),
-            number_at(value, "expires_at"),
-        )?;
-        let (hash, scopes) = both(
-            text_at(alloc, value, "hash"),
+        let id = u64::of_text(alloc, key);
+        let times = both(number_at(value, "created"), number_at(value, "expires_at"));
+        let hash = text_at(alloc, value, "hash");
+        let rights = both(
             texts_at(alloc, value, "scopes"),
+            text_at(alloc, value, "server"),
+        );
+        let ((id, (created, expires_at)), (hash, (scopes, server))) = both(
+            both(id, times),
+            both(hash, rights),
         )?;
         Ok(ShareCode {
             id,
@@ -116,7 +120,7 @@ impl Record for ShareCode {
             expires_at,
             hash,
             scopes,
-            server: text_at(alloc, value, "server")?,
+            server,
         })
     }
 }
@@ -146,10 +150,13 @@ impl Record for OAuthClient {
     }
 
     fn find(alloc: Global, key: &str, value: &Value) -> Result<OAuthClient, Unread> {
+        let named = both(Text::of_text(alloc, key), text_at(alloc, value, "hash"));
+        let redirect_uri = text_at(alloc, value, "redirect_uri");
+        let ((id, hash), redirect_uri) = both(named, redirect_uri)?;
         Ok(OAuthClient {
-            id: Text::of_text(alloc, key)?,
-            hash: text_at(alloc, value, "hash")?,
-            redirect_uri: text_at(alloc, value, "redirect_uri")?,
+            id,
+            hash,
+            redirect_uri,
         })
     }
 }
@@ -182,14 +189,18 @@ impl Record for OAuthCode {
     }
 
     fn find(alloc: Global, key: &str, value: &Value) -> Result<OAuthCode, Unread> {
-        let (hash, client) = both(Text::of_text(alloc, key), text_at(alloc, value, "client"))?;
-        let (expires_at, token) = both(
+        let names = both(Text::of_text(alloc, key), text_at(alloc, value, "client"));
+        let numbers = both(
             number_at(value, "expires_at"),
             maybe_number_at(value, "token"),
-        )?;
-        let (owner, redirect_uri) = both(
+        );
+        let texts = both(
             text_at(alloc, value, "owner"),
             text_at(alloc, value, "redirect_uri"),
+        );
+        let ((hash, client), ((expires_at, token), (owner, redirect_uri))) = both(
+            names,
+            both(numbers, texts),
         )?;
         Ok(OAuthCode {
             hash,

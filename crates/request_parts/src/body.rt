@@ -1,5 +1,5 @@
 //! What a body says: it is one JSON object (RFC 8259), of whose equal keys the last counts.
-ghost use Rattle.std.specs.Prelude.{◌≡◌, option_map, IfOk};
+ghost use Rattle.std.specs.Prelude.{◌≡◌, [], option_map, Some, None, if◌then◌else◌, IfOk};
 ghost use Rattle.serde_json.specs.View.{view, items_view};
 ghost use Rattle.request_parts.specs.Bodies as spec;
 
@@ -83,18 +83,40 @@ pub fn list_at<N: FromText>(
 }
 
 /// What the items are, or nothing where one of them is no text of the form that is read.
-#[tactic(auto, using(crate::proofs::Fronts::one_more, crate::proofs::Fronts::whole))]
 fn each_read<N: FromText>(alloc: Global, items: &[Value]) -> Result<Option<List<N>>, AllocError>
     ensures { IfOk result (λ list. list ≡ spec.each_read N.reads (items_view items.now)) }
 {
     let mut list = List::new(alloc);
+    match read_into(alloc, &mut list, items) {
+        Ok(true) => Ok(Some(list)),
+        Ok(false) => {
+            drop(list);
+            Ok(None)
+        }
+        Err(error) => {
+            drop(list);
+            Err(error)
+        }
+    }
+}
+
+/// Reads the items into an empty list, and tells whether all of them are texts of the form that is read.
+#[tactic(auto, using(crate::proofs::Fronts::one_more, crate::proofs::Fronts::whole))]
+fn read_into<N: FromText>(
+    alloc: Global,
+    list: &mut List<N>,
+    items: &[Value],
+) -> Result<bool, AllocError>
+    requires { list.old ≡ [] }
+    ensures { IfOk result (λ all. (if all then Some list.new else None) ≡ spec.each_read N.reads (items_view items.now)) }
+{
     for item in items {
         match item_read(alloc, item)? {
             Some(value) => list.push(value)?,
-            None => return Ok(None),
+            None => return Ok(false),
         }
     }
-    Ok(Some(list))
+    Ok(true)
 }
 
 /// What one item is.

@@ -1,5 +1,5 @@
 //! The values of a query (URL Standard, 5.1). Of equal keys the first counts.
-ghost use Rattle.std.specs.Prelude.{◌≡◌, IfOk};
+ghost use Rattle.std.specs.Prelude.{◌≡◌, bytes_eq, Some, None, if◌then◌else◌, IfOk};
 ghost use Rattle.request_parts.specs.Queries as spec;
 
 use http_wire::decimal::{Decimal, number_in};
@@ -13,11 +13,30 @@ pub fn query_value(alloc: Global, query: &str, key: &str) -> Result<Option<Text>
 {
     for pair in form_urlencoded::parse(alloc, query.as_bytes()) {
         let (name, value) = pair?;
-        if name.as_str() == key {
-            return Ok(Some(Text::from_str(alloc, value.as_str())?));
+        let found = value_under(alloc, key, name.as_str(), value.as_str());
+        drop(name);
+        drop(value);
+        if let Some(text) = found? {
+            return Ok(Some(text));
         }
     }
     Ok(None)
+}
+
+/// The value of a pair, if it has the key.
+fn value_under(
+    alloc: Global,
+    key: &str,
+    name: &str,
+    value: &str,
+) -> Result<Option<Text>, AllocError>
+    ensures { IfOk result (λ found. found ≡ (if bytes_eq name.now key.now then Some value.now else None)) }
+{
+    if name == key {
+        Ok(Some(Text::from_str(alloc, value)?))
+    } else {
+        Ok(None)
+    }
 }
 
 /// The number that is the first value of a key in a query, or a default where the key is absent; nothing where that value

@@ -4,7 +4,7 @@ use Rattle.std.specs.Cmp.Lexicographic.{nat_list_cmp_total, texts_ties}
 use Rattle.std.specs.FinMap.{get}
 use Rattle.std.specs.List.{list_any}
 use Rattle.hub_kit.specs.KeyOrder.{name_cmp}
-use Rattle.keyed_rows.specs.Rows.{OwnKeys}
+use Rattle.keyed_rows.specs.Rows.{OwnKeys, is_kept_and}
 use Rattle.keyed_rows.specs.Sorted.{is_among}
 use Rattle.scope_filters.specs.Contexts.{same, is_member}
 use Rattle.hub_rows.specs.ShareOrder.{names_exact}
@@ -13,9 +13,9 @@ use Rattle.hub_tables.specs.Lookups.{groups_of}
 use Rattle.hub_tables.specs.Memberships.{users_of}
 use Rattle.hub_tables.specs.State.{State}
 use Rattle.roles.specs.Rights.{context}
-use Rattle.roles.proofs.FoundRows.{kept_and, found_among}
+use Rattle.keyed_rows.proofs.InOrder.{found_among}
 
-in_row : (user : List ℕ) (o : Option Group) → kept_and (λ (row : Group). is_among name_cmp user row.users) o ≡ list_any (same user) (users_of o)
+in_row : (user : List ℕ) (o : Option Group) → is_kept_and (λ (row : Group). is_among name_cmp user row.users) o ≡ list_any (same user) (users_of o)
 in_row user None = refl
 in_row user (Some row) = ap (λ p. list_any p row.users) (λ i name. sym (texts_ties user name) i)
 

@@ -1,7 +1,8 @@
+mod AmongKeys
 mod Appended
 pub mod EachEntry
-mod FoundRows
 mod GroupsOf
 pub mod Looked
 mod RolesOf
 mod SharesOf
+pub mod Walks

@@ -5,7 +5,7 @@ use Rattle.std.specs.Cmp.Lexicographic.{nat_list_cmp_total, nat_list_eq_equiv, t
 use Rattle.std.specs.FinMap.{get}
 use Rattle.std.specs.List.{flat_map, list_any}
 use Rattle.hub_kit.specs.KeyOrder.{name_cmp}
-use Rattle.keyed_rows.specs.Rows.{OwnKeys}
+use Rattle.keyed_rows.specs.Rows.{OwnKeys, is_kept_and}
 use Rattle.keyed_rows.specs.Sorted.{is_among, in_order}
 use Rattle.scope_filters.specs.declared.holder.Owner.{Owner}
 use Rattle.scope_filters.specs.declared.holder.Owner.TheVariants as Own
@@ -16,7 +16,8 @@ use Rattle.hub_tables.specs.Lookups.{roles_naming_user, roles_naming_group, grou
 use Rattle.hub_tables.specs.State.{State}
 use Rattle.roles.specs.Naming.{roles_naming, scopes_at}
 use Rattle.roles.specs.Rights.{holds_role, roles_held}
-use Rattle.roles.proofs.FoundRows.{kept_and, found_among, found_give, found_in_order, among_both, none_of}
+use Rattle.keyed_rows.proofs.InOrder.{found_among, found_give, found_in_order}
+use Rattle.roles.proofs.AmongKeys.{among_both, none_of}
 use Rattle.roles.proofs.GroupsOf.{member}
 
 -- ---- one of a list is tied to one of another: in either order
@@ -47,22 +48,22 @@ met xs ys = ties (eq_by_cmp name_cmp) xs ys ∙ ap (λ (tied : List ℕ → List
 module _ (t : State) (own : OwnKeys (λ (row : Role). row.name) t.roles) where
   module _ (user : List ℕ) (own_groups : OwnKeys (λ (row : Group). row.name) t.groups) where
     of_row : (o : Option Role)
-        → (kept_and (λ (r : Role). is_among name_cmp user r.users) o || list_any (λ g. kept_and (λ (r : Role). is_among name_cmp g r.groups) o) (groups_of t user)) ≡ kept_and (holds_role t (Own.User user)) o
+        → (is_kept_and (λ (r : Role). is_among name_cmp user r.users) o || list_any (λ g. is_kept_and (λ (r : Role). is_among name_cmp g r.groups) o) (groups_of t user)) ≡ is_kept_and (holds_role t (Own.User user)) o
     of_row None = none_of (groups_of t user)
     of_row (Some role) =
         ap (λ b. is_among name_cmp user role.users || b)
         (met (groups_of t user) role.groups ∙ ap (λ p. list_any p role.groups) (λ i g. member t user own_groups g i))
 
-    among_naming : (q : List ℕ) → is_among name_cmp q (roles_naming t (Own.User user)) ≡ kept_and (holds_role t (Own.User user)) (get t.roles q)
+    among_naming : (q : List ℕ) → is_among name_cmp q (roles_naming t (Own.User user)) ≡ is_kept_and (holds_role t (Own.User user)) (get t.roles q)
     among_naming q =
         among_both name_cmp (roles_naming_user t user) (roles_naming_group t) q (groups_of t user)
         ∙ ap (λ b. b || list_any (λ g. is_among name_cmp q (roles_naming_group t g)) (groups_of t user))
         (found_among nat_list_cmp_total names_exact (λ (row : Role). row.name) (λ (r : Role). is_among name_cmp user r.users) t.roles own q)
-        ∙ ap (λ p. kept_and (λ (r : Role). is_among name_cmp user r.users) (get t.roles q) || list_any p (groups_of t user))
+        ∙ ap (λ p. is_kept_and (λ (r : Role). is_among name_cmp user r.users) (get t.roles q) || list_any p (groups_of t user))
         (λ i g. found_among nat_list_cmp_total names_exact (λ (row : Role). row.name) (λ (r : Role). is_among name_cmp g r.groups) t.roles own q i)
         ∙ of_row (get t.roles q)
 
-  among_held : OwnKeys (λ (row : Group). row.name) t.groups → (w : Owner) (q : List ℕ) → is_among name_cmp q (roles_naming t w) ≡ kept_and (holds_role t w) (get t.roles q)
+  among_held : OwnKeys (λ (row : Group). row.name) t.groups → (w : Owner) (q : List ℕ) → is_among name_cmp q (roles_naming t w) ≡ is_kept_and (holds_role t w) (get t.roles q)
   among_held own_groups (Own.User user) q = among_naming user own_groups q
   among_held own_groups (Own.Service service) q =
       found_among nat_list_cmp_total names_exact (λ (row : Role). row.name) (λ (r : Role). is_among name_cmp service r.services) t.roles own q

@@ -4,7 +4,7 @@ use Rattle.std.specs.Cmp.Lexicographic.{nat_list_eq_equiv, texts_ties}
 use Rattle.std.specs.FinMap.{values, get}
 use Rattle.std.specs.List.{filter, flat_map, list_any}
 use Rattle.hub_kit.specs.KeyOrder.{name_cmp}
-use Rattle.keyed_rows.specs.Rows.{OwnKeys}
+use Rattle.keyed_rows.specs.Rows.{OwnKeys, is_kept_and}
 use Rattle.keyed_rows.specs.Sorted.{is_among, in_order}
 use Rattle.scope_filters.specs.Contexts.{same}
 use Rattle.scope_filters.specs.declared.holder.Owner.{Owner}
@@ -21,7 +21,8 @@ use Rattle.hub_tables.specs.Lookups.{same_recipient, is_given_by, is_share_with,
 use Rattle.hub_tables.specs.State.{State}
 use Rattle.roles.specs.Received.{scopes_at}
 use Rattle.roles.specs.Rights.{received, shares_received}
-use Rattle.roles.proofs.FoundRows.{kept_and, found_among, found_give, found_in_order, among_filter, among_both, none_of}
+use Rattle.keyed_rows.proofs.InOrder.{found_among, found_give, found_in_order}
+use Rattle.roles.proofs.AmongKeys.{among_filter, among_both, none_of}
 use Rattle.roles.proofs.GroupsOf.{member}
 
 -- ---- the shares that a user received
@@ -49,7 +50,7 @@ module _ (t : State) (user : List ℕ) (own : OwnKeys (λ (row : Share). row.key
   to_user (To.Group group) given = to_some group (groups_of t user) ∙ member t user own_groups group
 
   of_row : (q : ShareKey) (o : Option Share) → get t.shares q ≡ o
-      → ((same_recipient q.to (To.User user) && kept_and (is_share_with (To.User user)) o) || list_any (λ g. kept_and (is_share_with (To.Group g)) o) (groups_of t user)) ≡ kept_and (λ (share : Share). received t (Own.User user) share.key.to) o
+      → ((same_recipient q.to (To.User user) && is_kept_and (is_share_with (To.User user)) o) || list_any (λ g. is_kept_and (is_share_with (To.Group g)) o) (groups_of t user)) ≡ is_kept_and (λ (share : Share). received t (Own.User user) share.key.to) o
   of_row q None at = ap (λ b. b || list_any (λ g. false) (groups_of t user)) (and_none (same_recipient q.to (To.User user))) ∙ none_of (groups_of t user)
   of_row q (Some share) at =
       ap (λ k. (same_recipient k.to (To.User user) && is_share_with (To.User user) share) || list_any (λ g. is_share_with (To.Group g) share) (groups_of t user)) (sym (own q share at))
@@ -58,13 +59,13 @@ module _ (t : State) (user : List ℕ) (own : OwnKeys (λ (row : Share). row.key
   abbrev all_keys : List ShareKey
   all_keys = filter (λ key. same_recipient key.to (To.User user)) (shares_with t (To.User user)) ++ flat_map (λ g. shares_with t (To.Group g)) (groups_of t user)
 
-  among_all : (q : ShareKey) → is_among share_cmp q all_keys ≡ kept_and (λ (share : Share). received t (Own.User user) share.key.to) (get t.shares q)
+  among_all : (q : ShareKey) → is_among share_cmp q all_keys ≡ is_kept_and (λ (share : Share). received t (Own.User user) share.key.to) (get t.shares q)
   among_all q =
       among_both share_cmp (filter (λ key. same_recipient key.to (To.User user)) (shares_with t (To.User user))) (λ g. shares_with t (To.Group g)) q (groups_of t user)
       ∙ ap (λ b. b || list_any (λ g. is_among share_cmp q (shares_with t (To.Group g))) (groups_of t user))
       (among_filter share_exact (λ key. same_recipient key.to (To.User user)) q (shares_with t (To.User user))
       ∙ ap (λ b. same_recipient q.to (To.User user) && b) (found_among share_key.total-law share_exact (λ (row : Share). row.key) (is_share_with (To.User user)) t.shares own q))
-      ∙ ap (λ p. (same_recipient q.to (To.User user) && kept_and (is_share_with (To.User user)) (get t.shares q)) || list_any p (groups_of t user))
+      ∙ ap (λ p. (same_recipient q.to (To.User user) && is_kept_and (is_share_with (To.User user)) (get t.shares q)) || list_any p (groups_of t user))
       (λ i g. found_among share_key.total-law share_exact (λ (row : Share). row.key) (is_share_with (To.Group g)) t.shares own q i)
       ∙ of_row q (get t.shares q) refl
 

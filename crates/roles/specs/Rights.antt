@@ -1,9 +1,9 @@
 -- What an owner may do, and what a token may.
-use Rattle.std.specs.Prelude.{ℕ, Bool, true, false, ◌||◌, IsTrue, List, [], ◌∷◌, ◌++◌, map, codes, None, ◌⊎◌, ◌↔◌, if◌then◌else◌}
+use Rattle.std.specs.Prelude.{Bool, true, false, ◌||◌, IsTrue, List, [], ◌∷◌, ◌++◌, map, None, ◌⊎◌, ◌↔◌, if◌then◌else◌}
 use Rattle.std.specs.List.{filter, flat_map, list_any}
 use Rattle.std.specs.FinMap.{values}
 use Rattle.hub_kit.specs.KeyOrder.{name_cmp}
-use Rattle.keyed_rows.specs.Sorted.{is_among, in_order}
+use Rattle.keyed_rows.specs.Sorted.{is_among}
 use Rattle.scope_names.specs.declared.action.Action.{Action}
 use Rattle.scope_names.specs.Actions.{listed}
 use Rattle.scope_filters.specs.declared.holder.Holder.{Holder}
@@ -62,14 +62,6 @@ fixed_scopes t (Own.Service v) = []
 -- received
 abbrev pub scopes_held : State → Owner → List RawScope
 scopes_held t w = (fixed_scopes t w ++ flat_map (λ role. role.scopes) (roles_held t w)) ++ flat_map (λ share. share.scopes) (shares_received t w)
-
--- the names of the roles that an owner holds, in order
-abbrev pub fixed_roles : State → Owner → List (List ℕ)
-fixed_roles t (Own.User u) = codes "user" ∷ (if is_admin t u then codes "admin" ∷ [] else [])
-fixed_roles t (Own.Service v) = []
-
-abbrev pub role_names : State → Owner → List (List ℕ)
-role_names t w = in_order name_cmp (fixed_roles t w ++ map (λ role. role.name) (roles_held t w))
 
 -- ---- owners
 

@@ -67,7 +67,7 @@ fn push_admin(scopes: &mut Vec<RawScope>, t: &Tables, user: &UserName) -> Result
     Ok(())
 }
 
-pub(crate) fn is_admin(t: &Tables, user: &UserName) -> bool
+fn is_admin(t: &Tables, user: &UserName) -> bool
     ensures { result ≡ is_admin t.now user.now }
 {
     match t.user(user) {

@@ -6,6 +6,5 @@
 pub mod cache;
 pub mod grants;
 pub mod held;
-pub mod names;
 pub mod naming;
 mod received;

@@ -1,11 +1,11 @@
 //! The roles that name an owner, found by look-ups.
-ghost use Rattle.std.specs.Prelude.{◌≡◌, ◌++◌, map, IfOk};
+ghost use Rattle.std.specs.Prelude.{◌≡◌, ◌++◌, map, OnOk, IfOk};
 ghost use Rattle.std.specs.List.{flat_map};
 ghost use Rattle.hub_tables.specs.Lookups.{roles_naming_user, roles_naming_group, groups_of};
 ghost use Rattle.roles.specs.Naming.{roles_naming};
 ghost use Rattle.roles.specs.Rights.{roles_held};
 
-use hub_kit::names::{RoleName, UserName};
+use hub_kit::names::{GroupName, RoleName, UserName};
 use hub_tables::tables::Tables;
 use keyed_rows::sorted::Sorted;
 use scope_filters::holder::Owner;
@@ -35,9 +35,22 @@ fn names_of_user(alloc: Global, t: &Tables, user: &UserName) -> Result<Vec<RoleN
 {
     let mut names = t.roles_naming_user(alloc, user)?;
     let groups = t.groups_of(alloc, user)?;
-    for group in groups.as_slice() {
+    push_of_groups(alloc, &mut names, t, groups.as_slice())?;
+    Ok(names)
+}
+
+/// Appends the names of the roles that name each of the groups.
+fn push_of_groups(
+    alloc: Global,
+    names: &mut Vec<RoleName>,
+    t: &Tables,
+    groups: &[GroupName],
+) -> Result<(), AllocError>
+    ensures { OnOk result (names.new.items ≡ names.old.items ++ flat_map (roles_naming_group t.now) groups.now) }
+{
+    for group in groups {
         let more = t.roles_naming_group(alloc, group)?;
         names.extend_from_slice(&more)?;
     }
-    Ok(names)
+    Ok(())
 }

@@ -7,7 +7,7 @@ ghost use Rattle.scope_filters.specs.declared.holder.Owner.TheVariants as Own;
 ghost use Rattle.roles.specs.Rights.{shares_received};
 ghost use Rattle.roles.specs.Received.{scopes_at};
 
-use hub_kit::names::UserName;
+use hub_kit::names::{GroupName, UserName};
 use hub_rows::keys::{Recipient, ShareKey};
 use hub_tables::tables::Tables;
 use keyed_rows::sorted::Sorted;
@@ -33,14 +33,34 @@ fn keys_received(alloc: Global, t: &Tables, user: &UserName) -> Result<Vec<Share
     ensures { IfOk result (λ keys. keys.items ≡ filter (λ key. same_recipient key.to (Recipient.User user.now)) (shares_with t.now (Recipient.User user.now))
         ++ flat_map (λ group. shares_with t.now (Recipient.Group group)) (groups_of t.now user.now)) }
 {
-    let shared = t.shares_with(alloc, &Recipient::User(*user))?;
-    let mut keys = keys_to(alloc, &shared, user)?;
+    let mut keys = keys_to_user(alloc, t, user)?;
     let groups = t.groups_of(alloc, user)?;
-    for group in groups.as_slice() {
+    push_to_groups(alloc, &mut keys, t, groups.as_slice())?;
+    Ok(keys)
+}
+
+/// Appends the keys of the shares to each of the groups.
+fn push_to_groups(
+    alloc: Global,
+    keys: &mut Vec<ShareKey>,
+    t: &Tables,
+    groups: &[GroupName],
+) -> Result<(), AllocError>
+    ensures { OnOk result (keys.new.items ≡ keys.old.items ++ flat_map (λ group. shares_with t.now (Recipient.Group group)) groups.now) }
+{
+    for group in groups {
         let more = t.shares_with(alloc, &Recipient::Group(*group))?;
         keys.extend_from_slice(&more)?;
     }
-    Ok(keys)
+    Ok(())
+}
+
+/// The keys of the shares to the user.
+fn keys_to_user(alloc: Global, t: &Tables, user: &UserName) -> Result<Vec<ShareKey>, AllocError>
+    ensures { IfOk result (λ keys. keys.items ≡ filter (λ key. same_recipient key.to (Recipient.User user.now)) (shares_with t.now (Recipient.User user.now))) }
+{
+    let shared = t.shares_with(alloc, &Recipient::User(*user))?;
+    keys_to(alloc, &shared, user)
 }
 
 /// Those of the shares that were given to the user.

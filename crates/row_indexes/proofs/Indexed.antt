@@ -1,21 +1,21 @@
 -- An index of owners stays in step with the rows, and tells what a scan over them does.
-use Rattle.std.proofs.Common.{◌≡◌, Result, Ok, Err, OnOk, OnErr, Bool, true, false, not, ◌&&◌, ◌||◌, T, cond, List, [], ◌∷◌, ◌++◌, Option, Some, None, is_some, map, refl, sym, ap, ◌∙◌, subst}
+use Rattle.std.proofs.Common.{◌≡◌, Result, Ok, Err, OnOk, OnErr, Bool, true, false, not, ◌&&◌, ◌||◌, cond, List, [], ◌∷◌, ◌++◌, Option, Some, None, is_some, map, refl, sym, ap, ◌∙◌, subst}
 use Rattle.std.specs.declared.cmp.Ordering.{Ordering}
 use Rattle.std.specs.declared.cmp.Ordering.TheVariants.{Less, Equal, Greater}
-use Rattle.std.specs.Ordering.{ordering_then, is_eq, is_lt, eq_by_cmp}
+use Rattle.std.specs.Ordering.{ordering_then, is_eq, eq_by_cmp}
 use Rattle.std.specs.Option.{option_cmp}
 use Rattle.std.specs.Cmp.{IsTotalOrder, tied_itself, eq_by_cmp_equiv, on_total, then_total}
 use Rattle.std.specs.Cmp.Lexicographic.{options_total}
-use Rattle.std.specs.FinMap.{FinMap, IsAntisymmetric, entries, entries_sorted, keys, values, get, insert, remove, contains_key, empty, find, is_sorted, get-entries, get-insert, get-remove, get-empty, get_tied, contains_key-keys}
-use Rattle.std.specs.FinMap.Entries.{below_all}
+use Rattle.std.specs.FinMap.{FinMap, IsAntisymmetric, entries, entries_sorted, keys, values, get, insert, remove, contains_key, empty, get-insert, get-remove, get-empty, get_tied, contains_key-keys}
 use Rattle.std.specs.List.{AllByRecursion, filter, flat_map, list_any}
 use Rattle.std.specs.List.Sorted.{IsStrictlySortedBy}
-use Rattle.keyed_rows.specs.Rows.{OwnKeys}
+use Rattle.keyed_rows.specs.Rows.{OwnKeys, is_kept_and}
 use Rattle.keyed_rows.specs.Sorted.{is_among}
 use Rattle.keyed_rows.proofs.Finite.{tied}
+use Rattle.keyed_rows.proofs.InOrder.{rise, found_rise, found_among}
 use Rattle.keyed_rows.proofs.KeyLists.{same_keys}
 use Rattle.row_indexes.specs.declared.owned.OwnedKey.{OwnedKey}
-use Rattle.row_indexes.specs.Owned.{owned_cmp, under, key_list, keys_under, is_kept_and, IsIndex, IsNoted, IsForgotten}
+use Rattle.row_indexes.specs.Owned.{owned_cmp, under, key_list, keys_under, IsIndex, IsNoted, IsForgotten}
 
 -- ---- an entry that is put or taken out
 
@@ -141,108 +141,6 @@ pub empty_index : {O K X : Type 0} (Q : O → O → Ordering) (R : K → K → O
 empty_index Q R is_of rows index e i o q =
     ap (λ m. contains_key m (under o q)) i ∙ ap is_some (get-empty (owned_cmp Q R) (under o q)) ∙ sym (ap (λ m. is_kept_and (is_of o) (get m q)) e ∙ ap (is_kept_and (is_of o)) (get-empty R q))
 
--- ---- entries in order
-
-both_true : (a b : Bool) → T (a && b) → T a × T b
-both_true true b h = (tt, h)
-both_true false b h = absurd h
-
-is_less : (r : Ordering) → T (is_lt r) → r ≡ Less
-is_less Less h = refl
-is_less Equal h = absurd h
-is_less Greater h = absurd h
-
-abbrev keys_in : {K X : Type 0} → List (K × X) → List K
-keys_in es = map (λ e. e.0) es
-
-module _ {K X : Type 0} (R : K → K → Ordering) where
-  below : (k : K) (es : List (K × X)) → T (below_all R k es) → AllByRecursion (λ y. R k y ≡ Less) (keys_in es)
-  below k [] h = tt
-  below k (e ∷ es) h = let b = both_true (is_lt (R k e.0)) (below_all R k es) h in (is_less (R k e.0) b.0, below k es b.1)
-
-  keys_sorted : (es : List (K × X)) → T (is_sorted R es) → IsStrictlySortedBy R (keys_in es)
-  unfolding IsStrictlySortedBy
-  keys_sorted [] h = tt
-  keys_sorted (e ∷ es) h = let b = both_true (below_all R e.0 es) (is_sorted R es) h in (below e.0 es b.0, keys_sorted es b.1)
-
--- ---- rows in order, each under its own key
-
-module _ {K X : Type 0} {R : K → K → Ordering} (total : IsTotalOrder R) (exact : IsAntisymmetric R) (key : X → K) where
-  none_below : (k : K) (es : List (K × X)) → AllByRecursion (λ y. R k y ≡ Less) (keys_in es) → find R k es ≡ None
-  none_below k [] h = refl
-  none_below k (e ∷ es) h = ap (λ r. cond (is_eq r) (Some e.1) (find R k es)) h.0 ∙ none_below k es h.1
-
-  some_none : {A : Type 0} {v : A} → None ≡ Some v → ⊥
-  some_none h = cc
-
-  not_here : (q : K) (row : X) (e : K × X) (es : List (K × X)) → AllByRecursion (λ y. R e.0 y ≡ Less) (keys_in es) → find R q es ≡ Some row → eq_by_cmp R q e.0 ≡ false
-  not_here q row e es h at = elim (R q e.0) as (λ r. R q e.0 ≡ r → is_eq r ≡ false) [
-    | Less ↦ λ t. refl
-    | Equal ↦ λ t. absurd (some_none (sym (none_below e.0 es h) ∙ ap (λ z. find R z es) (sym (exact q e.0 t)) ∙ at))
-    | Greater ↦ λ t. refl
-  ] refl
-
-  own_each : (es : List (K × X)) → IsStrictlySortedBy R (keys_in es) → ((q : K) (row : X) → find R q es ≡ Some row → key row ≡ q) → AllByRecursion (λ e. key e.1 ≡ e.0) es
-  unfolding IsStrictlySortedBy
-  own_each [] s own = tt
-  own_each (e ∷ es) s own = (
-    own e.0 e.1 (ap (λ r. cond (is_eq r) (Some e.1) (find R e.0 es)) (tied_itself total e.0)),
-    own_each es s.1 (λ q row at. own q row (ap (λ b. cond b (Some e.1) (find R q es)) (not_here q row e es s.0 at) ∙ at)),
-  )
-
-  own_keys_are : (p : K → Bool) (es : List (K × X)) → AllByRecursion (λ e. key e.1 ≡ e.0) es → filter p (keys_in es) ≡ map key (filter (λ x. p (key x)) (map (λ e. e.1) es))
-  own_keys_are p [] own = refl
-  own_keys_are p (e ∷ es) own =
-      ap (λ k. cond (p k) (k ∷ filter p (keys_in es)) (filter p (keys_in es))) (sym own.0)
-      ∙ (elim (p (key e.1)) as (λ b. cond b (key e.1 ∷ filter p (keys_in es)) (filter p (keys_in es)) ≡ map key (cond b (e.1 ∷ filter (λ x. p (key x)) (map (λ e. e.1) es)) (filter (λ x. p (key x)) (map (λ e. e.1) es)))) [
-        | true ↦ ap (λ ks. key e.1 ∷ ks) (own_keys_are p es own.1)
-        | false ↦ own_keys_are p es own.1
-      ])
-
-  -- the keys that pass a test are those of the rows whose own keys pass it
-  pub own_keys : (p : K → Bool) (rows : FinMap R X) → OwnKeys key rows → filter p (keys rows) ≡ map key (filter (λ x. p (key x)) (values rows))
-  own_keys p rows own = own_keys_are p (entries rows) (own_each (entries rows) (keys_sorted R (entries rows) (entries_sorted rows)) (λ q row at. own q row (get-entries rows q ∙ at)))
-
-  module _ (p : X → Bool) where
-    abbrev kept_keys : List (K × X) → List K
-    kept_keys es = map key (filter p (map (λ e. e.1) es))
-
-    all_above : (k : K) (es : List (K × X)) → AllByRecursion (λ y. R k y ≡ Less) (keys_in es) → AllByRecursion (λ e. key e.1 ≡ e.0) es → AllByRecursion (λ y. R k y ≡ Less) (kept_keys es)
-    all_above k [] h own = tt
-    all_above k (e ∷ es) h own = elim (p e.1) as (λ b. AllByRecursion (λ y. R k y ≡ Less) (map key (cond b (e.1 ∷ filter p (map (λ e. e.1) es)) (filter p (map (λ e. e.1) es))))) [
-      | true ↦ (ap (R k) own.0 ∙ h.0, all_above k es h.1 own.1)
-      | false ↦ all_above k es h.1 own.1
-    ]
-
-    rows_rise : (es : List (K × X)) → IsStrictlySortedBy R (keys_in es) → AllByRecursion (λ e. key e.1 ≡ e.0) es → IsStrictlySortedBy R (kept_keys es)
-    unfolding IsStrictlySortedBy
-    rows_rise [] s own = tt
-    rows_rise (e ∷ es) s own = elim (p e.1) as (λ b. IsStrictlySortedBy R (map key (cond b (e.1 ∷ filter p (map (λ e. e.1) es)) (filter p (map (λ e. e.1) es))))) [
-      | true ↦ (subst (λ k. AllByRecursion (λ y. R k y ≡ Less) (kept_keys es)) (sym own.0) (all_above e.0 es s.0 own.1), rows_rise es s.1 own.1)
-      | false ↦ rows_rise es s.1 own.1
-    ]
-
-    not_among : (k : K) (ks : List K) → AllByRecursion (λ y. R k y ≡ Less) ks → is_among R k ks ≡ false
-    not_among k [] h = refl
-    not_among k (y ∷ ys) h = ap (λ r. is_eq r || is_among R k ys) h.0 ∙ not_among k ys h.1
-
-    among_rows : (q : K) (es : List (K × X)) → IsStrictlySortedBy R (keys_in es) → AllByRecursion (λ e. key e.1 ≡ e.0) es → is_among R q (kept_keys es) ≡ is_kept_and p (find R q es)
-    unfolding IsStrictlySortedBy
-    among_rows q [] s own = refl
-    among_rows q (e ∷ es) s own =
-        elim (p e.1) as (λ b. p e.1 ≡ b → is_among R q (map key (cond b (e.1 ∷ filter p (map (λ e. e.1) es)) (filter p (map (λ e. e.1) es)))) ≡ is_kept_and p (cond (eq_by_cmp R q e.0) (Some e.1) (find R q es))) [
-          | true ↦ λ h. ap (λ k. eq_by_cmp R q k || is_among R q (kept_keys es)) own.0 ∙ ap (λ b. eq_by_cmp R q e.0 || b) (among_rows q es s.1 own.1) ∙ either (eq_by_cmp R q e.0) h
-          | false ↦ λ h. among_rows q es s.1 own.1 ∙ neither (eq_by_cmp R q e.0) refl h
-        ] refl
-      where
-        either : (b : Bool) → p e.1 ≡ true → (b || is_kept_and p (find R q es)) ≡ is_kept_and p (cond b (Some e.1) (find R q es))
-        either true h = sym h
-        either false h = refl
-
-        neither : (b : Bool) → eq_by_cmp R q e.0 ≡ b → p e.1 ≡ false → is_kept_and p (find R q es) ≡ is_kept_and p (cond b (Some e.1) (find R q es))
-        neither true t h = ap (λ k. is_kept_and p (find R k es)) (exact q e.0 (tied (R q e.0) t)) ∙ ap (is_kept_and p) (none_below e.0 es s.0) ∙ sym h
-        neither false t h = refl
-
 -- ---- what an index tells
 
 module _ {O K : Type 0} {Q : O → O → Ordering} (R : K → K → Ordering) (owners : IsTotalOrder Q) (exact_owners : IsAntisymmetric Q) (w : O) where
@@ -298,13 +196,11 @@ pub tells : {O K X : Type 0} (Q : O → O → Ordering) (R : K → K → Orderin
     (key : X → K) (is_of : O → X → Bool) (rows : FinMap R X) (index : FinMap (owned_cmp Q R) (Unit {0})) → IsIndex Q R is_of rows index → OwnKeys key rows
     → (w : O) → keys_under Q w (keys index) ≡ map key (filter (is_of w) (values rows))
 tells Q R owners exact_owners total exact key is_of rows index x own w =
-    let sorted = keys_sorted R (entries rows) (entries_sorted rows) in
-    let each = own_each total exact key (entries rows) sorted (λ q row at. own q row (get-entries rows q ∙ at)) in
     same_keys total exact _ _
-    (under_rises R owners exact_owners w (keys index) (keys_sorted (owned_cmp Q R) (entries index) (entries_sorted index)))
-    (rows_rise total exact key (is_of w) (entries rows) sorted each)
+    (under_rises R owners exact_owners w (keys index) (rise (owned_cmp Q R) (entries index) (entries_sorted index)))
+    (found_rise total exact key (is_of w) rows own)
     (λ q. among_under R owners exact_owners w q (keys index) ∙ sym (contains_key-keys index (under w q)) ∙ x w q
-    ∙ ap (is_kept_and (is_of w)) (get-entries rows q) ∙ sym (among_rows total exact key (is_of w) q (entries rows) sorted each))
+    ∙ sym (found_among total exact key (is_of w) rows own q))
 
 pub on_ok : {A E : Type 0} (r : Result A E) {P P' : Type 0} → (P → P') → OnOk r P → OnOk r P'
 on_ok (Ok v) f h = f h

@@ -7,11 +7,11 @@ use Rattle.std.specs.FinMap.{FinMap, IsAntisymmetric, keys, values, get, insert,
 use Rattle.std.specs.BTreeMap.{BTreeMap}
 use Rattle.std.specs.List.{filter}
 use Rattle.std.proofs.lemmas.List.Folds.{list_any_more}
-use Rattle.keyed_rows.specs.Rows.{OwnKeys, map_of}
+use Rattle.keyed_rows.specs.Rows.{OwnKeys, map_of, is_kept_and}
 use Rattle.keyed_rows.specs.Sorted.{is_among}
 use Rattle.keyed_rows.proofs.Finite.{tied, clash}
 use Rattle.row_indexes.specs.declared.owned.OwnedKey.{OwnedKey}
-use Rattle.row_indexes.specs.Owned.{owned_cmp, under, keys_under, is_kept_and, IsIndex, IsNoted}
+use Rattle.row_indexes.specs.Owned.{owned_cmp, under, keys_under, IsIndex, IsNoted}
 use Rattle.row_indexes.specs.Members.{members_in, TellsMembers, IsFollowed, IsFollowedIn}
 use Rattle.row_indexes.proofs.Indexed.{empty_index, tells}
 

@@ -8,6 +8,7 @@ use Rattle.std.specs.Option.{option_cmp}
 use Rattle.std.specs.List.{filter, flat_map}
 use Rattle.std.specs.FinMap.{FinMap, get, contains_key, IsAntisymmetric}
 use Rattle.std.proofs.lemmas.Map.Lookups.{exact_pairs}
+use Rattle.keyed_rows.specs.Rows.{is_kept_and}
 use Rattle.row_indexes.specs.declared.owned.OwnedKey.{OwnedKey}
 
 -- by the owner, and then by the key; without a key before all others
@@ -41,11 +42,6 @@ key_list (Some key) = key ∷ []
 -- the keys of the owner's entries
 abbrev pub keys_under : {O K : Type 0} → (O → O → Ordering) → O → List (OwnedKey O K) → List K
 keys_under Q owner entries = flat_map (λ entry. key_list entry.key) (filter (λ entry. eq_by_cmp Q entry.owner owner) entries)
-
--- a row is kept, and passes a test
-abbrev pub is_kept_and : {X : Type 0} → (X → Bool) → Option X → Bool
-is_kept_and test None = false
-is_kept_and test (Some row) = test row
 
 module _ {O K : Type 0} (Q : O → O → Ordering) (R : K → K → Ordering) where
   -- the index has a key under an owner exactly where the row of the key is the owner's

@@ -1,4 +1,5 @@
 //! What no clause says: that puts succeed with ample memory.
+use crate::check::check;
 use hub_kit::moment::Moment;
 use hub_kit::names::read_user;
 use hub_rows::limits::Limits;
@@ -6,6 +7,8 @@ use hub_rows::records::User;
 use hub_tables::PutError;
 use hub_tables::tables::Tables;
 use scope_names::table::ScopeTable;
+use std::alloc::Global;
+use std::process::Abort;
 
 const LIMITS: Limits = Limits {
     users: 2,
@@ -27,17 +30,30 @@ const PUTS: [(&str, Option<PutError>); 4] = [
     ("ann", None),
 ];
 
+fn user(rt: &impl Abort, name: &str) -> User {
+    User {
+        name: read_user(name.as_bytes()).expect(rt, "it is a name"),
+        admin: false,
+        created: Moment::zero(),
+        last_activity: None,
+    }
+}
+
+pub(crate) fn no_rows(rt: &impl Abort, alloc: Global, limits: &Limits) -> Tables {
+    let scopes = ScopeTable::new(alloc, &[]).expect(rt, "there is memory");
+    Tables::new(alloc, *limits, scopes)
+}
+
+fn check_puts(rt: &impl Abort, tables: &mut Tables) {
+    for (name, refusal) in &PUTS {
+        let put = tables.put_user(user(rt, name), 0);
+        check(rt, put.err() == *refusal, name);
+    }
+}
+
 #[test]
 fn a_third_user_is_too_many(rt: HostRuntime) {
-    let scopes = ScopeTable::new(rt.alloc(), &[]).expect(&rt, "there is memory");
-    let mut tables = Tables::new(rt.alloc(), LIMITS, scopes);
-    for (name, refusal) in PUTS {
-        let user = User {
-            name: read_user(name.as_bytes()).expect(&rt, "it is a name"),
-            admin: false,
-            created: Moment::zero(),
-            last_activity: None,
-        };
-        assert!(rt; tables.put_user(user, 0).err() == refusal);
-    }
+    let mut tables = no_rows(&rt, rt.alloc(), &LIMITS);
+    check_puts(&rt, &mut tables);
+    drop(tables);
 }

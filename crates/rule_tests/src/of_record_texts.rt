@@ -2,6 +2,7 @@
 //! also the text that is written. The rows have a kind, a key, a text, and whether that is a record: with every field in use, and with
 //! none. Refused are another kind, a key out of the grammar, a blank, another order, a float, a moment past the greatest, null for a
 //! number, a member too few and one too many, names out of order, twice and out of the grammar, and numbers with a leading zero.
+use crate::check::check;
 use hub_kit::text::Text;
 use hub_rows::records::{
     Group, Lease, Next, OAuthClient, OAuthCode, Role, ServerRow, Service, Share, ShareCode, Token,
@@ -10,6 +11,7 @@ use hub_rows::records::{
 use keeper::keeper::Row;
 use record_texts::record::{Record, of_row};
 use std::alloc::Global;
+use std::process::Abort;
 
 const USERS: [(u8, &str, &str, bool); 11] = [
     (
@@ -185,40 +187,39 @@ const NEXTS: [(u8, &str, &str, bool); 3] = [
     (12, "token", r#"{"next":01}"#, false),
 ];
 
-/// Whether exactly those rows are read that stand with `true`.
-fn are_so<R: Record>(alloc: Global, rows: &[(u8, &str, &str, bool)]) -> bool {
-    for (kind, key, text, is_read) in rows {
-        let (Ok(key), Ok(text)) = (Text::from_str(alloc, key), Text::from_str(alloc, text)) else {
-            return false;
-        };
-        let row = Row {
-            kind: *kind,
-            key,
-            text,
-        };
-        if of_row::<R>(alloc, &row).is_ok() != *is_read {
-            return false;
-        }
-    }
-    true
+fn is_read<R: Record>(rt: &impl Abort, alloc: Global, kind: u8, key: &str, text: &str) -> bool {
+    let row = Row {
+        kind,
+        key: Text::from_str(alloc, key).expect(rt, "there is memory"),
+        text: Text::from_str(alloc, text).expect(rt, "there is memory"),
+    };
+    of_row::<R>(alloc, &row).is_ok()
 }
 
-fn each_kind_has_its_texts(alloc: Global) -> bool {
-    are_so::<User>(alloc, &USERS)
-        & are_so::<Group>(alloc, &GROUPS)
-        & are_so::<Service>(alloc, &SERVICES)
-        & are_so::<Role>(alloc, &ROLES)
-        & are_so::<Token>(alloc, &TOKENS)
-        & are_so::<ServerRow>(alloc, &SERVERS)
-        & are_so::<Lease>(alloc, &LEASES)
-        & are_so::<Share>(alloc, &SHARES)
-        & are_so::<ShareCode>(alloc, &SHARE_CODES)
-        & are_so::<OAuthClient>(alloc, &CLIENTS)
-        & are_so::<OAuthCode>(alloc, &CODES)
-        & are_so::<Next>(alloc, &NEXTS)
+/// Exactly those rows are read that stand with `true`.
+fn check_rows<R: Record>(rt: &impl Abort, alloc: Global, rows: &[(u8, &str, &str, bool)]) {
+    for (kind, key, text, is_record) in rows {
+        check(
+            rt,
+            is_read::<R>(rt, alloc, *kind, key, text) == *is_record,
+            text,
+        );
+    }
 }
 
 #[test]
 fn texts_of_records(rt: HostRuntime) {
-    assert!(rt; each_kind_has_its_texts(rt.alloc()));
+    let alloc = rt.alloc();
+    check_rows::<User>(&rt, alloc, &USERS);
+    check_rows::<Group>(&rt, alloc, &GROUPS);
+    check_rows::<Service>(&rt, alloc, &SERVICES);
+    check_rows::<Role>(&rt, alloc, &ROLES);
+    check_rows::<Token>(&rt, alloc, &TOKENS);
+    check_rows::<ServerRow>(&rt, alloc, &SERVERS);
+    check_rows::<Lease>(&rt, alloc, &LEASES);
+    check_rows::<Share>(&rt, alloc, &SHARES);
+    check_rows::<ShareCode>(&rt, alloc, &SHARE_CODES);
+    check_rows::<OAuthClient>(&rt, alloc, &CLIENTS);
+    check_rows::<OAuthCode>(&rt, alloc, &CODES);
+    check_rows::<Next>(&rt, alloc, &NEXTS);
 }

@@ -1,6 +1,8 @@
 //! What roles and tokens come to: no clause says that a role gives anything, or that a look is a hit.
 ghost use Rattle.roles.specs.Looks.{IsRight};
 
+use crate::check::check;
+use crate::of_hub_tables::no_rows;
 use hub_kit::list::List;
 use hub_kit::moment::Moment;
 use hub_kit::names::{UserName, read_group, read_role, read_service, read_user};
@@ -17,9 +19,8 @@ use scope_filters::holder::Owner;
 use scope_filters::object::Object;
 use scope_filters::scope::read_scope;
 use scope_meet::asks::{admits, holds_any};
-use scope_names::action::Action;
-use scope_names::table::ScopeTable;
-use std::alloc::{AllocError, Global};
+use scope_names::action::{Action, read_action};
+use std::alloc::Global;
 use std::process::Abort;
 
 /// A role of cat's and the service bot's, and a token. Then what the token may do: the number of its actions, and one of them, whether
@@ -30,7 +31,7 @@ struct Rights {
     user: &'static str,
     token: &'static str,
     actions: usize,
-    action: Action,
+    action: &'static str,
     is_held: bool,
     on_ann: bool,
     on_bob: bool,
@@ -48,7 +49,7 @@ const RIGHTS: [Rights; 7] = [
         user: "cat",
         token: "list:users!group=a",
         actions: 2,
-        action: Action::ListUsers,
+        action: "list:users",
         is_held: true,
         on_ann: true,
         on_bob: false,
@@ -59,7 +60,7 @@ const RIGHTS: [Rights; 7] = [
         user: "cat",
         token: "read:users!group=e",
         actions: 4,
-        action: Action::ReadUsers,
+        action: "read:users",
         is_held: true,
         on_ann: false,
         on_bob: false,
@@ -70,7 +71,7 @@ const RIGHTS: [Rights; 7] = [
         user: "cat",
         token: "read:users!group=b",
         actions: 0,
-        action: Action::ReadUsersName,
+        action: "read:users:name",
         is_held: false,
         on_ann: false,
         on_bob: false,
@@ -81,7 +82,7 @@ const RIGHTS: [Rights; 7] = [
         user: "cat",
         token: "read:servers!server=ann/lab",
         actions: 1,
-        action: Action::ReadUsersName,
+        action: "read:users:name",
         is_held: true,
         on_ann: true,
         on_bob: false,
@@ -92,7 +93,7 @@ const RIGHTS: [Rights; 7] = [
         user: "ann",
         token: "inherit",
         actions: 14,
-        action: Action::ReadUsers,
+        action: "read:users",
         is_held: true,
         on_ann: true,
         on_bob: false,
@@ -103,7 +104,7 @@ const RIGHTS: [Rights; 7] = [
         user: "",
         token: "inherit",
         actions: 0,
-        action: Action::ListUsers,
+        action: "list:users",
         is_held: false,
         on_ann: false,
         on_bob: false,
@@ -114,7 +115,7 @@ const RIGHTS: [Rights; 7] = [
         user: "",
         token: "inherit",
         actions: 2,
-        action: Action::ListUsers,
+        action: "list:users",
         is_held: true,
         on_ann: true,
         on_bob: false,
@@ -136,8 +137,7 @@ const LIMITS: Limits = Limits {
 
 /// ann and bob are in group a, ann alone is in b, and nobody in e. cat and the service bot hold a role with the scope.
 pub(crate) fn tables(rt: &impl Abort, alloc: Global, scope: &str) -> Tables {
-    let scopes = ScopeTable::new(alloc, &[]).expect(rt, "it is made");
-    let mut tables = Tables::new(alloc, LIMITS, scopes);
+    let mut tables = no_rows(rt, alloc, &LIMITS);
     put_group(rt, alloc, &mut tables, b"a", &[b"ann", b"bob"]);
     put_group(rt, alloc, &mut tables, b"b", &[b"ann"]);
     put_group(rt, alloc, &mut tables, b"e", &[]);
@@ -221,20 +221,33 @@ fn is_shown(
     body_text(alloc, &body).expect(rt, "it is made").as_slice() == text.as_bytes()
 }
 
-fn is_so(rt: &impl Abort, alloc: Global, rights: &Rights) -> bool {
-    let tables = tables(rt, alloc, rights.role);
+/// What the token of the row gives.
+fn grant(rt: &impl Abort, alloc: Global, tables: &Tables, rights: &Rights) -> Grant {
     let token = token(rt, alloc, rights.user, rights.token);
-    let grant = caller_grant(alloc, &tables, &token).expect(rt, "it is made");
+    caller_grant(alloc, tables, &token).expect(rt, "it is made")
+}
+
+fn is_admitted(grant: &Grant, action: &Action, user: UserName, tables: &Tables) -> bool {
+    admits(grant, *action, &Object::User(user), tables)
+}
+
+/// Whether the grant is what the row says.
+fn is_so(rt: &impl Abort, alloc: Global, tables: &Tables, grant: &Grant, rights: &Rights) -> bool {
     let ann = read_user(b"ann").expect(rt, "it is made");
     let bob = read_user(b"bob").expect(rt, "it is made");
-    let is_shown = is_shown(rt, alloc, &tables, &grant, ann, rights.ann);
-    let on_ann = admits(&grant, rights.action, &Object::User(ann), &tables);
-    let on_bob = admits(&grant, rights.action, &Object::User(bob), &tables);
-    is_shown
-        & (on_ann == rights.on_ann)
-        & (on_bob == rights.on_bob)
-        & (holds_any(&grant, rights.action) == rights.is_held)
+    let action = read_action(rights.action).expect(rt, "it is made");
+    (is_admitted(grant, &action, ann, tables) == rights.on_ann)
+        & (is_admitted(grant, &action, bob, tables) == rights.on_bob)
+        & (holds_any(grant, action) == rights.is_held)
         & (grant.iter().count() == rights.actions)
+        & is_shown(rt, alloc, tables, grant, ann, rights.ann)
+}
+
+fn check_rights(rt: &impl Abort, alloc: Global, rights: &Rights) {
+    let tables = tables(rt, alloc, rights.role);
+    let grant = grant(rt, alloc, &tables, rights);
+    check(rt, is_so(rt, alloc, &tables, &grant, rights), rights.token);
+    drop(tables);
 }
 
 /// A token is allowed what its owner's roles and its own scopes both say. A scope of an empty group is held, and allowed on nobody.
@@ -242,37 +255,39 @@ fn is_so(rt: &impl Abort, alloc: Global, rights: &Rights) -> bool {
 #[test]
 fn a_token_stays_within_the_roles(rt: HostRuntime) {
     for rights in &RIGHTS {
-        assert!(rt;
-            is_so(&rt, rt.alloc(), rights),
-            "{} within {}",
-            rights.token,
-            rights.role
-        );
+        check_rights(&rt, rt.alloc(), rights);
     }
 }
 
 /// Looks for the grant of a token so many times.
 fn look_often(
+    rt: &impl Abort,
     alloc: Global,
     cache: &mut RightsCache,
     tables: &Tables,
     token: &Token,
     times: u32,
-) -> Result<(), AllocError>
+)
     requires { IsRight cache.old tables.now token.now 0 }
     ensures { IsRight cache.new tables.now token.now 0 }
 {
     for _ in 0..times {
-        cache.look(alloc, tables, token, 0)?;
+        let look = cache.look(alloc, tables, token, 0);
+        look.expect(rt, "there is memory");
     }
-    Ok(())
+}
+
+/// How many of ten looks were hits.
+fn hits(rt: &impl Abort, alloc: Global, tables: &Tables, token: &Token) -> u64 {
+    let mut cache = RightsCache::new(alloc, 2).expect(rt, "it is made");
+    look_often(rt, alloc, &mut cache, tables, token, 10);
+    cache.hits()
 }
 
 #[test]
 fn ten_looks_have_nine_hits(rt: HostRuntime) {
     let tables = tables(&rt, rt.alloc(), "self");
     let token = token(&rt, rt.alloc(), "ann", "inherit");
-    let mut cache = RightsCache::new(rt.alloc(), 2).expect(&rt, "it is made");
-    look_often(rt.alloc(), &mut cache, &tables, &token, 10).expect(&rt, "there is memory");
-    assert!(rt; cache.hits() == 9);
+    assert!(rt; hits(&rt, rt.alloc(), &tables, &token) == 9);
+    drop(tables);
 }

@@ -1,8 +1,13 @@
 //! Texts of scopes, what a scope covers, and what is held whole.
+ghost use Rattle.scope_expand.specs.Passes.{HasNoOwnerOf};
+
+use crate::check::check;
 use crate::of_roles::tables;
 use hub_kit::names::{read_group, read_user};
+use hub_tables::tables::Tables;
 use scope_expand::expand;
 use scope_filters::filter::Filter;
+use scope_filters::grant::Grant;
 use scope_filters::holder::{Holder, Owner};
 use scope_filters::scope::{ScopeError, read_scope};
 use scope_meet::inside::{Inside, contained};
@@ -23,8 +28,8 @@ const REFUSED: [(&str, ScopeError); 5] = [
 fn texts_of_scopes(rt: HostRuntime) {
     assert!(rt; read_scope("servers!server=ann/").is_ok());
     assert!(rt; read_scope("servers!server").is_ok());
-    for (text, error) in REFUSED {
-        assert!(rt; read_scope(text) == Err(error), "{text}");
+    for (text, error) in &REFUSED {
+        check(&rt, read_scope(text) == Err(*error), text);
     }
 }
 
@@ -40,31 +45,52 @@ fn what_servers_cover(rt: HostRuntime) {
     assert!(rt; table.covered(Action::Servers) == covered.as_slice());
 }
 
-/// What of the first scope isn't within the second, for cat and with the groups of `tables`.
-fn outside(rt: &impl Abort, alloc: Global, first: &str, second: &str) -> Inside {
-    let tables = tables(rt, alloc, second);
-    let holder = Holder {
+/// What the scope is for cat.
+fn expanded(rt: &impl Abort, alloc: Global, tables: &Tables, scope: &str) -> Grant
+    ensures { HasNoOwnerOf result }
+{
+    let cat = Holder {
         owner: Owner::User(read_user(b"cat").expect(rt, "it is a name")),
         issued_for: None,
     };
-    let first = read_scope(first).expect(rt, "it is a scope");
-    let second = read_scope(second).expect(rt, "it is a scope");
-    let table = tables.scope_table();
-    let first = expand(alloc, table, &[first], &holder).expect(rt, "there is memory");
-    let second = expand(alloc, table, &[second], &holder).expect(rt, "there is memory");
-    contained(&first, &second, &tables)
+    let scope = read_scope(scope).expect(rt, "it is a scope");
+    expand(alloc, tables.scope_table(), &[scope], &cat).expect(rt, "there is memory")
+}
+
+/// What of the first scope isn't within the second, for cat and with these groups.
+fn outside(rt: &impl Abort, alloc: Global, tables: &Tables, first: &str, second: &str) -> Inside {
+    let first = expanded(rt, alloc, tables, first);
+    let second = expanded(rt, alloc, tables, second);
+    contained(&first, &second, tables)
 }
 
 /// ann is the one user of b.
+fn is_more_than_its_users(rt: &impl Abort, alloc: Global, tables: &Tables) -> bool {
+    let within = outside(
+        rt,
+        alloc,
+        tables,
+        "list:users!user=ann",
+        "list:users!group=b",
+    );
+    let b = Filter::Group(read_group(b"b").expect(rt, "it is a name"));
+    match outside(
+        rt,
+        alloc,
+        tables,
+        "list:users!group=b",
+        "list:users!user=ann",
+    ) {
+        Inside::NotHeld { action, filter } => {
+            matches!(within, Inside::Yes) && action == Action::ListUsers && filter == b
+        }
+        Inside::Yes => false,
+    }
+}
+
 #[test]
 fn a_group_is_more_than_its_users(rt: HostRuntime) {
-    let within = outside(&rt, rt.alloc(), "list:users!user=ann", "list:users!group=b");
-    assert!(rt; matches!(within, Inside::Yes));
-    match outside(&rt, rt.alloc(), "list:users!group=b", "list:users!user=ann") {
-        Inside::NotHeld { action, filter } => {
-            let b = read_group(b"b").expect(&rt, "it is a name");
-            assert!(rt; action == Action::ListUsers && filter == Filter::Group(b));
-        }
-        Inside::Yes => panic!(rt; "all is held"),
-    }
+    let tables = tables(&rt, rt.alloc(), "list:users!group=b");
+    assert!(rt; is_more_than_its_users(&rt, rt.alloc(), &tables));
+    drop(tables);
 }

@@ -8,6 +8,7 @@ use server_life::LifeEvent::{
 use server_life::Todo::{AddRoute, DeleteRoute, Nothing, Start, StopProgram};
 use server_life::*;
 use std::alloc::Global;
+use std::process::Abort;
 
 /// Three starts: one that runs until its stop, which fails once at each step, one that is stopped while it starts, and one whose
 /// route fails. Beside each event stands what is then owed. The last start fails.
@@ -42,9 +43,9 @@ fn is_a_life() -> bool {
         phase: Phase::Stopped,
         stop_asked: false,
     };
-    for (event, owed) in STEPS {
-        match life_step(life, 5, event) {
-            Ok((next, todo)) if todo == owed => life = next,
+    for (event, owed) in &STEPS {
+        match life_step(life, 5, *event) {
+            Ok((next, todo)) if todo == *owed => life = next,
             _ => return false,
         }
     }
@@ -57,42 +58,42 @@ fn three_starts(rt: HostRuntime) {
 }
 
 /// Takes what is next, unless nothing is free, the server has a lease, or no generation is left.
-fn start(leases: &mut Leases, key: ServerKey) -> Result<(u64, usize), Option<NoTarget>> {
+fn start(leases: &mut Leases, key: &ServerKey) -> Result<(u64, usize), Option<NoTarget>> {
     let (generation, at) = match leases.next_free() {
         Ok(next) => next,
         Err(none) => return Err(Some(none)),
     };
-    match leases.generation(&key) {
+    match leases.generation(key) {
         Some(_) => return Err(None),
         None => {}
     }
     if generation == u64::MAX {
         return Err(None);
     }
-    leases.take(key);
+    leases.take(*key);
     Ok((generation, at))
 }
 
-fn leases_of_one(alloc: Global) -> Option<Leases> {
-    let target = read_target(alloc, b"http://127.0.0.1:8000").ok()?;
+fn leases_of_one(rt: &impl Abort, alloc: Global) -> Leases {
+    let target = read_target(alloc, b"http://127.0.0.1:8000").expect(rt, "it is a target");
     let mut pool = Vec::new(alloc);
-    pool.push(target).ok()?;
-    Leases::new(alloc, pool, 1).ok()
+    pool.push(target).expect(rt, "there is memory");
+    Leases::new(alloc, pool, 1).expect(rt, "there is memory")
 }
 
-/// The second server waits until the first is stopped, and then has the next generation and the same target.
+/// Whether the second server waits until the first is stopped, and then has the next generation and the same target.
+fn is_shared(leases: &mut Leases, first: &ServerKey, second: &ServerKey) -> bool {
+    let none = NoTarget { live: 1, pool: 1 };
+    (start(leases, first) == Ok((1, 0)))
+        & (start(leases, second) == Err(Some(none)))
+        & leases.free(1)
+        & !leases.free(1)
+        & (start(leases, second) == Ok((2, 0)))
+}
+
 #[test]
 fn pool_of_one(rt: HostRuntime) {
-    let (Some(mut leases), Ok(ann), Ok(bob)) = (
-        leases_of_one(rt.alloc()),
-        read_key(b"ann/"),
-        read_key(b"bob/"),
-    ) else {
-        panic!(rt; "no memory")
-    };
-    let none = NoTarget { live: 1, pool: 1 };
-    assert!(rt; start(&mut leases, ann) == Ok((1, 0)));
-    assert!(rt; start(&mut leases, bob) == Err(Some(none)));
-    assert!(rt; leases.free(1) && !leases.free(1));
-    assert!(rt; start(&mut leases, bob) == Ok((2, 0)));
+    let ann = read_key(b"ann/").expect(&rt, "it is a key");
+    let bob = read_key(b"bob/").expect(&rt, "it is a key");
+    assert!(rt; is_shared(&mut leases_of_one(&rt, rt.alloc()), &ann, &bob));
 }

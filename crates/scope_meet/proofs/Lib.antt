@@ -5,5 +5,6 @@ pub mod GrantMeets
 pub mod Least
 pub mod NamesMet
 pub mod Rows
+pub mod Steps
 pub mod TextCompare
 pub mod Witnesses

@@ -1,6 +1,8 @@
 pub mod Among
 pub mod Cover
 pub mod CustomNames
+pub mod Firsts
+pub mod Growth
 pub mod Reach
 pub mod TextOrder
 pub mod Texts

@@ -1,5 +1,5 @@
 //! What is reached from an action by steps of the table and of the declared custom scopes.
-ghost use Rattle.std.specs.Prelude.{◌≡◌, List, [], ◌++◌, map, IfOk, OnOk, Some, IsTrue, ◌↔◌};
+ghost use Rattle.std.specs.Prelude.{◌≡◌, List, [], ◌∷◌, ◌++◌, map, IfOk, OnOk, Some, IsTrue, ◌↔◌};
 ghost use Rattle.std.specs.List.{flat_map};
 ghost use Rattle.std.specs.List.Sorted.{IsStrictlySortedBy};
 ghost use Rattle.std.specs.Option.{unwrap_or};
@@ -26,12 +26,18 @@ pub(crate) fn cover_all(
     let mut covered = BTreeMap::new(alloc);
     let actions = known(alloc, rows)?;
     for action in &actions {
-        let mut from = Vec::new(alloc);
-        from.push(*action)?;
-        let reached = reach(alloc, rows, from)?;
-        covered.insert(*action, List::from_vec(reached))?;
+        covered.insert(*action, reach_one(alloc, rows, action)?)?;
     }
     Ok(covered)
+}
+
+/// All that is reached from the action, in order.
+fn reach_one(alloc: Global, rows: &[CustomRow], action: &Action) -> Result<List<Action>, AllocError>
+    ensures { IfOk result (λ actions. IsReach rows.now (action.now ∷ []) actions) }
+{
+    let from = vec![in alloc; *action]?;
+    let reached = reach(alloc, rows, from)?;
+    Ok(List::from_vec(reached))
 }
 
 /// Whether the action is reached from itself by one or more steps.
@@ -142,17 +148,20 @@ fn push_listed(action: &Action, pending: &mut Vec<Action>) -> Result<(), AllocEr
         ]),
         Action::Groups => pending.extend_from_slice(&[Action::ListGroups, Action::ReadGroups]),
         Action::GroupsShares => pending.extend_from_slice(&[Action::ReadGroupsShares]),
-        Action::ListGroups => pending.extend_from_slice(&[Action::ReadGroupsName]),
-        Action::ListServices => pending.extend_from_slice(&[Action::ReadServicesName]),
-        Action::ListUsers => pending.extend_from_slice(&[Action::ReadUsersName]),
-        Action::ReadGroups => pending.extend_from_slice(&[Action::ReadGroupsName]),
+        Action::ListGroups | Action::ReadGroups => {
+            pending.extend_from_slice(&[Action::ReadGroupsName])
+        }
+        Action::ListServices | Action::ReadServices => {
+            pending.extend_from_slice(&[Action::ReadServicesName])
+        }
+        Action::ListUsers | Action::ReadServers => {
+            pending.extend_from_slice(&[Action::ReadUsersName])
+        }
         Action::ReadRoles => pending.extend_from_slice(&[
             Action::ReadRolesGroups,
             Action::ReadRolesServices,
             Action::ReadRolesUsers,
         ]),
-        Action::ReadServers => pending.extend_from_slice(&[Action::ReadUsersName]),
-        Action::ReadServices => pending.extend_from_slice(&[Action::ReadServicesName]),
         Action::ReadUsers => pending.extend_from_slice(&[
             Action::ReadUsersActivity,
             Action::ReadUsersGroups,

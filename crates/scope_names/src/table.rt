@@ -18,7 +18,7 @@ use std::collections::BTreeMap;
 use std::marker::Model;
 
 /// Why rows make no table.
-#[derive(Clone, Copy, Debug, PartialEq, Eq)]
+#[derive(Clone, Copy, Debug)]
 pub enum TableError {
     /// More than 256 rows, or more than 64 subscopes in a row.
     Full,

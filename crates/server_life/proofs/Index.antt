@@ -267,6 +267,16 @@ place_below R f leased es q i old e = let k = at_some R f leased es q i old e in
 pub not_leased : (leased : List (Option Held)) (es : List (ServerKey × ℕ)) (key : ServerKey) → IsIndex key_cmp server_in leased es → None ≡ find key_cmp key es → IsUnleased leased key
 not_leased leased es key old e = λ i g h. at_none key_cmp server_in leased es key old e i (lease g key) h refl
 
+pub not_live : (leased : List (Option Held)) (es : List (ℕ × ℕ)) (g : ℕ) → IsIndex nat_cmp generation_in leased es → None ≡ find nat_cmp g es → IsNotLive leased g
+not_live leased es g old e = λ i key h. at_none nat_cmp generation_in leased es g old e i (lease g key) h refl
+
+pub not_free : (leased : List (Option Held)) (es : List (ℕ × Unit {0})) (i : ℕ) (h : Held) → IsFreeIndex leased es → slice_get leased i ≡ Some (Some h) → find nat_cmp i es ≡ None
+not_free leased es i h places is = by (find nat_cmp i es) (places i)
+  where
+    by : (o : Option (Unit {0})) → MatchOption o (IsFree leased i → ⊥) (λ _. IsFree leased i) → o ≡ None
+    by None m = refl
+    by (Some u) m = absurd (none_some h (some_is None (Some h) (sym m ∙ is)))
+
 pub known_server : (leased : List (Option Held)) (es : List (ServerKey × ℕ)) (i : ℕ) (h : Held) → IsIndex key_cmp server_in leased es → slice_get leased i ≡ Some (Some h) → IsSome (find key_cmp h.server es)
 known_server leased es i h old is = found_some key_cmp server_in leased es i h old is (find key_cmp h.server es) refl
 
@@ -291,6 +301,9 @@ pub counted_more : (n i : ℕ) (r : Option (Unit {0})) → r ≡ cond (nat_lt i 
 counted_more n i r e =
     subst (λ (x : Option (Unit {0})). cond (eq_by_cmp nat_cmp i n) here x ≡ cond (nat_lt i (n + 1)) here None) (sym e)
     (subst (λ b. cond b here (cond (nat_lt i n) here None) ≡ cond (nat_lt i (n + 1)) here None) (sym (unsigned_tied i n)) (tests i n))
+
+pub none_yet : (i : ℕ) → None ≡ cond (nat_lt i 0) here None
+none_yet i = grind (arith, nat_tests)
 
 pub not_yet : (n : ℕ) → cond (nat_lt n n) here None ≡ None
 not_yet n = let t : nat_lt n n ≡ false = grind (arith, nat_tests) in ap (λ b. cond b here None) t

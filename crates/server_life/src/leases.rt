@@ -32,7 +32,7 @@ pub struct Leases {
 }
 
 /// All targets are leased.
-#[derive(Clone, Copy, Debug, PartialEq, Eq)]
+#[derive(Clone, Copy, PartialEq, Eq)]
 pub struct NoTarget {
     pub live: u32,
     pub pool: u32,

@@ -11,14 +11,14 @@ use Phase::{Adopting, Parked, Ready, Routing, Spawning, Stopped, Stopping, Unrou
 use Todo::{AddRoute, DeleteRoute, Nothing, Start, StopProgram};
 
 /// What has to be done before a parked server is gone: the deletion of its route first, or the stop of its program.
-#[derive(Clone, Copy, Debug, PartialEq, Eq)]
+#[derive(Clone, Copy, PartialEq, Eq)]
 pub enum ParkedAt {
     Unroute,
     Stop,
 }
 
 /// Where a server stands. Each phase but `Stopped` has the generation of the start that it came from.
-#[derive(Clone, Copy, Debug, PartialEq, Eq)]
+#[derive(Clone, Copy, PartialEq, Eq)]
 pub enum Phase {
     Stopped,
     /// An earlier hub started it; a poll tells whether it still runs.
@@ -38,14 +38,14 @@ pub enum Phase {
 }
 
 /// A phase, and whether a stop has been asked since the start.
-#[derive(Clone, Copy, Debug, PartialEq, Eq)]
+#[derive(Clone, Copy)]
 pub struct Life {
     pub phase: Phase,
     pub stop_asked: bool,
 }
 
 /// A wish (`Begin`, `AskStop`), or what came of the call that was owed.
-#[derive(Clone, Copy, Debug, PartialEq, Eq)]
+#[derive(Clone, Copy)]
 pub enum LifeEvent {
     Begin,
     AskStop,
@@ -65,7 +65,7 @@ pub enum LifeEvent {
 }
 
 /// The call that is owed. `Poll` is what an adopted life owes from the beginning, so no step answers it.
-#[derive(Clone, Copy, Debug, PartialEq, Eq)]
+#[derive(Clone, Copy, PartialEq, Eq)]
 pub enum Todo {
     Nothing,
     Start,
@@ -76,7 +76,7 @@ pub enum Todo {
 }
 
 /// Why a step isn't taken.
-#[derive(Clone, Copy, Debug, PartialEq, Eq)]
+#[derive(Clone, Copy)]
 pub enum LifeRefusal {
     /// It is `Ready`.
     Running,

@@ -3,6 +3,8 @@
 #![tactic(auto)]
 
 #[cfg(test)]
+mod check;
+#[cfg(test)]
 mod of_hub_run;
 #[cfg(test)]
 mod of_sessions;

@@ -1,16 +1,19 @@
 //! Whole connections over memory: what is written, how they end, and how often the rights of a token were at hand.
+ghost use Rattle.std.specs.Prelude.{◌≡◌};
+
+use crate::check::check;
 use crate::repeated::repeated;
-use desk::Desk;
+use desk::{Desk, Pass};
 use http_wire::error::SessionFault;
 use hub_core::book::Book;
-use hub_core::config::{ConfigService, ConfigToken, ConfigUser, HubConfig, greatest_limits};
 use hub_devices::mem_bytes::{MemSink, MemSource};
 use hub_devices::mem_clock::FixedClock;
 use hub_kit::list::List;
 use hub_kit::moment::Moment;
-use hub_kit::names::{ServiceName, read_role, read_service, read_user};
+use hub_kit::names::{ServiceName, UserName, read_role, read_service, read_user};
 use hub_kit::text::Text;
 use hub_machine::change::Change;
+use hub_opening::config::{ConfigService, ConfigToken, ConfigUser, HubConfig, greatest_limits};
 use hub_rows::records::Role;
 use hub_run::{Served, serve_connection};
 use keeper::mem_keeper::MemKeeper;
@@ -27,7 +30,7 @@ struct Connection {
     name: &'static str,
     /// Whether ann is an admin.
     admin: bool,
-    trail_bytes: u64,
+    trail_bytes: u32,
     /// The number of the keeper's call that fails. The opening makes the first two.
     failing_call: u64,
     input: &'static [u8],
@@ -42,7 +45,10 @@ struct Connection {
 /// The number of a call that doesn't come.
 const NEVER: u64 = u64::MAX;
 
-const GREATEST_TRAIL: u64 = 1_073_741_824;
+const GREATEST_TRAIL: u32 = 1_073_741_824;
+
+/// What the clock tells, in seconds: 2023-11-14T22:13:20Z.
+const NOW: u64 = 1_700_000_000;
 
 const CONNECTIONS: [Connection; 23] = [
     Connection {
@@ -329,21 +335,26 @@ const CONNECTIONS: [Connection; 23] = [
 
 type MemBook = Book<MemKeeper, ListTrail<Change>>;
 
-/// A token of this owner that holds all that the owner holds, and has no end.
-fn token(rt: &impl Abort, alloc: Global, text: &str, owner: Owner) -> ConfigToken {
-    let scopes = Vec::from_slice(alloc, &[RawScope::Inherit]);
-    ConfigToken {
-        text: Text::from_str(alloc, text).expect(rt, "there is memory"),
-        owner,
-        scopes: List::from_vec(scopes.expect(rt, "there is memory")),
-        expires_at: None,
+fn ann(rt: &impl Abort) -> UserName {
+    read_user(b"ann").expect(rt, "it is a name")
+}
+
+fn bot(rt: &impl Abort) -> ServiceName {
+    read_service(b"bot").expect(rt, "it is a name")
+}
+
+fn service(rt: &impl Abort) -> ConfigService {
+    ConfigService {
+        name: bot(rt),
+        redirect_uri: None,
+        secret: None,
     }
 }
 
 /// The role `helper`, which gives the service the scope `self`.
-fn helper(rt: &impl Abort, alloc: Global, bot: ServiceName) -> Role {
-    let scopes = Vec::from_slice(alloc, &[RawScope::SelfScope]);
-    let services = Vec::from_slice(alloc, &[bot]);
+fn helper(rt: &impl Abort, alloc: Global) -> Role {
+    let scopes = vec![in alloc; RawScope::SelfScope];
+    let services = vec![in alloc; bot(rt)];
     Role {
         name: read_role(b"helper").expect(rt, "it is a name"),
         groups: Sorted::new(alloc),
@@ -353,83 +364,117 @@ fn helper(rt: &impl Abort, alloc: Global, bot: ServiceName) -> Role {
     }
 }
 
-/// A configuration of the user ann and the service bot with a token each, and of bot's role.
-fn config(rt: &impl Abort, alloc: Global, connection: &Connection) -> HubConfig {
-    let ann = read_user(b"ann").expect(rt, "it is a name");
-    let bot = read_service(b"bot").expect(rt, "it is a name");
-    let user = ConfigUser {
-        name: ann,
-        admin: connection.admin,
-    };
-    let service = ConfigService {
-        name: bot,
-        redirect_uri: None,
-        secret: None,
-    };
-    let tokens = vec![in alloc;
-        token(rt, alloc, "secret-token-ann", Owner::User(ann)),
-        token(rt, alloc, "secret-token-bot", Owner::Service(bot)),
-    ];
-    let roles = vec![in alloc; helper(rt, alloc, bot)];
-    let mut limits = greatest_limits();
-    limits.trail_bytes = connection.trail_bytes.min(GREATEST_TRAIL);
-    HubConfig {
-        pool: List::new(alloc),
-        hub_url: None,
-        limits,
-        no_trail: false,
-        users: List::from_vec(vec![in alloc; user].expect(rt, "there is memory")),
-        groups: List::new(alloc),
-        services: List::from_vec(vec![in alloc; service].expect(rt, "there is memory")),
-        roles: List::from_vec(roles.expect(rt, "there is memory")),
-        tokens: List::from_vec(tokens.expect(rt, "there is memory")),
+/// A token of this owner that holds all that the owner holds, and has no end.
+fn token(rt: &impl Abort, alloc: Global, text: &str, owner: Owner) -> ConfigToken {
+    let scopes = vec![in alloc; RawScope::Inherit];
+    ConfigToken {
+        text: Text::from_str(alloc, text).expect(rt, "there is memory"),
+        owner,
+        scopes: List::from_vec(scopes.expect(rt, "there is memory")),
+        expires_at: None,
     }
 }
 
-/// The book that the connection is served by.
-fn book(rt: &impl Abort, alloc: Global, connection: &Connection, now: Moment) -> MemBook {
-    let mut config = config(rt, alloc, connection);
-    config.limits.trail_bytes = config.limits.trail_bytes.min(GREATEST_TRAIL);
-    let failing = Vec::from_slice(alloc, &[connection.failing_call]);
+fn tokens(rt: &impl Abort, alloc: Global) -> Vec<ConfigToken> {
+    let tokens = vec![in alloc;
+        token(rt, alloc, "secret-token-ann", Owner::User(ann(rt))),
+        token(rt, alloc, "secret-token-bot", Owner::Service(bot(rt))),
+    ];
+    tokens.expect(rt, "there is memory")
+}
+
+/// A configuration of the user ann and the service bot with a token each, and of bot's role.
+fn config(rt: &impl Abort, alloc: Global, admin: bool) -> HubConfig {
+    let user = ConfigUser {
+        name: ann(rt),
+        admin,
+    };
+    let users = vec![in alloc; user];
+    let services = vec![in alloc; service(rt)];
+    let roles = vec![in alloc; helper(rt, alloc)];
+    HubConfig {
+        pool: List::new(alloc),
+        hub_url: None,
+        limits: greatest_limits(),
+        no_trail: false,
+        users: List::from_vec(users.expect(rt, "there is memory")),
+        groups: List::new(alloc),
+        services: List::from_vec(services.expect(rt, "there is memory")),
+        roles: List::from_vec(roles.expect(rt, "there is memory")),
+        tokens: List::from_vec(tokens(rt, alloc)),
+    }
+}
+
+fn keeper(rt: &impl Abort, alloc: Global, failing_call: u64) -> MemKeeper {
+    let failing = Vec::from_slice(alloc, &[failing_call]);
     let failing = failing.expect(rt, "there is memory");
-    let keeper = MemKeeper::new(alloc, Vec::new(alloc), failing);
-    let keeper = keeper.expect(rt, "there is memory");
-    match Book::open(alloc, keeper, ListTrail::new(alloc), &config, now) {
+    MemKeeper::new(alloc, Vec::new(alloc), failing).expect(rt, "there is memory")
+}
+
+/// The book that the connection is served by.
+fn book(rt: &impl Abort, alloc: Global, connection: &Connection) -> MemBook {
+    let keeper = keeper(rt, alloc, connection.failing_call);
+    let mut config = config(rt, alloc, connection.admin);
+    config.limits.trail_bytes = u64::from(connection.trail_bytes);
+    let now = Moment::up_to(NOW);
+    let book = Book::open(alloc, keeper, ListTrail::new(alloc), &config, now);
+    drop(config);
+    match book {
         Ok(book) => book,
         Err(_) => panic!(rt; "no book"),
     }
 }
 
-/// Whether the connection ends as it should, has written its output, and leaves so many hits.
-fn ends_so<R: Abort + Wait>(rt: &R, alloc: Global, connection: &Connection) -> bool {
-    let now = Moment::up_to(1_700_000_000);
-    let book = book(rt, alloc, connection, now);
-    let Ok((desk, mut pass)) = Desk::open(alloc, book) else {
-        panic!(rt; "no desk")
-    };
+/// A desk over the book, and its first pass.
+fn open_desk(rt: &impl Abort, alloc: Global, book: MemBook) -> (Desk<MemBook>, Pass<MemBook>)
+    ensures { result.1.of ≡ result.0 }
+{
+    match Desk::open(alloc, book) {
+        Ok(opened) => opened,
+        Err(_) => panic!(rt; "no desk"),
+    }
+}
+
+/// Whether the connection ends as it should, and has written its output.
+fn is_served<R: Abort + Wait>(
+    rt: &R,
+    alloc: Global,
+    desk: &Desk<MemBook>,
+    pass: &mut Pass<MemBook>,
+    connection: &Connection,
+) -> bool
+    requires { pass.old.of ≡ desk.now }
+    ensures { pass.new.of ≡ pass.old.of }
+{
     let input = repeated(rt, alloc, connection.input, connection.times);
     let output = repeated(rt, alloc, connection.output, connection.times);
     let mut source = MemSource::new(input, 5, Vec::new(alloc));
     let mut sink = MemSink::new(alloc, Vec::new(alloc));
-    let mut clock = FixedClock(now);
-    let served = serve_connection(
-        rt,
-        alloc,
-        &desk,
-        &mut pass,
-        &mut source,
-        &mut sink,
-        &mut clock,
-    );
-    let hits = desk.close(rt, pass).hits();
-    (served == Ok(connection.end))
-        & (sink.as_slice() == output.as_slice())
-        & (hits == connection.hits)
+    let mut clock = FixedClock(Moment::up_to(NOW));
+    let served = serve_connection(rt, alloc, desk, pass, &mut source, &mut sink, &mut clock);
+    (served == Ok(connection.end)) & (sink.as_slice() == output.as_slice())
+}
+
+/// How often the rights of a token were at hand.
+fn hits<R: Wait>(rt: &R, desk: Desk<MemBook>, pass: Pass<MemBook>) -> u64
+    requires { pass.of ≡ desk }
+{
+    let book = desk.close(rt, pass);
+    let hits = book.hits();
+    drop(book);
+    hits
+}
+
+/// Whether the connection ends as it should, has written its output, and leaves so many hits.
+fn ends_so<R: Abort + Wait>(rt: &R, alloc: Global, connection: &Connection) -> bool {
+    let (desk, mut pass) = open_desk(rt, alloc, book(rt, alloc, connection));
+    let is_served = is_served(rt, alloc, &desk, &mut pass, connection);
+    is_served & (hits(rt, desk, pass) == connection.hits)
 }
 
 #[test]
 fn connections(rt: HostRuntime) {
     for connection in &CONNECTIONS {
-        assert!(rt; ends_so(&rt, rt.alloc(), connection), "{}", connection.name);
+        check(&rt, ends_so(&rt, rt.alloc(), connection), connection.name);
     }
 }

@@ -1,4 +1,5 @@
 //! Whole sessions, from their words to the status and the bytes that are written, by hand.
+use crate::check::check;
 use crate::repeated::repeated;
 use hub_devices::mem_bytes::{MemSink, MemSource};
 use hub_kit::bytes::Bytes;
@@ -250,6 +251,6 @@ fn ends_so<R: Abort + Wait>(rt: &R, alloc: Global, session: &Session) -> bool {
 #[test]
 fn sessions(rt: HostRuntime) {
     for session in &SESSIONS {
-        assert!(rt; ends_so(&rt, rt.alloc(), session), "{}", session.name);
+        check(&rt, ends_so(&rt, rt.alloc(), session), session.name);
     }
 }

@@ -9,7 +9,7 @@ ghost use Rattle.hub_tables.specs.Lookups.{shares_with};
 
 use crate::owned;
 use crate::parties::of_recipient;
-use crate::tables::Tables;
+use crate::tables::{Tables, memory_alone};
 use hub_kit::names::ServerKey;
 use hub_kit::text::Text;
 use hub_rows::keys::{Recipient, ShareKey};
@@ -61,19 +61,13 @@ impl Tables {
         ensures err { OnErr result (self.new ≡ self.old) }
         ensures memory { OnErr result (map.contains_key self.old.shares value.key ≡ false) }
     {
-        owned::set_share(
+        memory_alone(owned::put_share(
             self.alloc,
             &mut self.trees.shares,
             &mut self.trees.share_parties,
             value,
-        )
-    }
-
-    /// The number of the rows of shares.
-    pub fn count_of_shares(&self) -> usize
-        ensures { result ≡ map.len self.now.shares }
-    {
-        keyed_rows::count(&self.trees.shares)
+            None,
+        ))
     }
 
     /// Takes the row of a share out, and tells whether it was there. Takes no memory.
@@ -135,13 +129,6 @@ impl Tables {
         keyed::set(self.alloc, &mut self.trees.clients, value)
     }
 
-    /// The number of the rows of clients.
-    pub fn count_of_clients(&self) -> usize
-        ensures { result ≡ map.len self.now.clients }
-    {
-        keyed_rows::count(&self.trees.clients)
-    }
-
     /// Takes the row of a client out, and tells whether it was there. Takes no memory.
     pub fn remove_client(&mut self, key: &Text) -> bool
         ensures there { result ≡ map.contains_key self.old.clients key.now }
@@ -188,13 +175,6 @@ impl Tables {
         ensures memory { OnErr result (map.contains_key self.old.grant_codes value.hash ≡ false) }
     {
         keyed::set(self.alloc, &mut self.trees.grant_codes, value)
-    }
-
-    /// The number of the rows of the codes of OAuth.
-    pub fn count_of_grant_codes(&self) -> usize
-        ensures { result ≡ map.len self.now.grant_codes }
-    {
-        keyed_rows::count(&self.trees.grant_codes)
     }
 
     /// Takes the row of a code of OAuth out, and tells whether it was there. Takes no memory.

@@ -7,7 +7,7 @@ ghost use Rattle.keyed_rows.specs.Rows.{OwnKeys};
 ghost use Rattle.keyed_rows.specs.Puts.{IsAnswer};
 
 use crate::memberships;
-use crate::tables::Tables;
+use crate::tables::{Tables, memory_alone};
 use hub_kit::moment::Moment;
 use hub_kit::names::{GroupName, RoleName, ServiceName, UserName};
 use hub_rows::records::{Group, Role, Service, User};
@@ -109,12 +109,13 @@ impl Tables {
         ensures err { OnErr result (self.new ≡ self.old) }
         ensures memory { OnErr result (map.contains_key self.old.groups value.name ≡ false) }
     {
-        memberships::set_group(
+        memory_alone(memberships::put_group(
             self.alloc,
             &mut self.trees.groups,
             &mut self.trees.group_users,
             value,
-        )
+            None,
+        ))
     }
 
     /// The number of the rows of groups.
@@ -235,12 +236,13 @@ impl Tables {
         ensures err { OnErr result (self.new ≡ self.old) }
         ensures memory { OnErr result (map.contains_key self.old.roles value.name ≡ false) }
     {
-        memberships::set_role(
+        memory_alone(memberships::put_role(
             self.alloc,
             &mut self.trees.roles,
             &mut self.trees.role_indexes,
             value,
-        )
+            None,
+        ))
     }
 
     /// The number of the rows of roles.

@@ -9,7 +9,7 @@ ghost use Rattle.hub_tables.specs.Hashes.{row_with, FitsHash, FitsToken};
 ghost use Rattle.hub_tables.specs.Lookups.{tokens_of};
 
 use crate::parties::of_owner;
-use crate::tables::Tables;
+use crate::tables::{Tables, memory_alone};
 use crate::{hashed, owned};
 use hub_kit::text::Text;
 use hub_rows::records::{ShareCode, Token};
@@ -64,13 +64,14 @@ impl Tables {
         ensures err { OnErr result (self.new ≡ self.old) }
         ensures memory { OnErr result (map.contains_key self.old.tokens value.id ≡ false) }
     {
-        owned::set_token(
+        memory_alone(owned::put_token(
             self.alloc,
             &mut self.trees.tokens,
             &mut self.trees.token_ids,
             &mut self.trees.token_owners,
             value,
-        )
+            None,
+        ))
     }
 
     /// The number of the rows of tokens.
@@ -160,19 +161,13 @@ impl Tables {
         ensures err { OnErr result (self.new ≡ self.old) }
         ensures memory { OnErr result (map.contains_key self.old.codes value.id ≡ false) }
     {
-        hashed::set_hashed(
+        memory_alone(hashed::put_hashed(
             self.alloc,
             &mut self.trees.codes,
             &mut self.trees.code_ids,
             value,
-        )
-    }
-
-    /// The number of the rows of share codes.
-    pub fn count_of_codes(&self) -> usize
-        ensures { result ≡ map.len self.now.codes }
-    {
-        keyed_rows::count(&self.trees.codes)
+            None,
+        ))
     }
 
     /// Takes the row of a share code out, and tells whether it was there. Takes no memory.
@@ -181,14 +176,6 @@ impl Tables {
         ensures after { self.new ≡ record self.old { codes = map.remove self.old.codes id } }
     {
         hashed::remove_hashed(&mut self.trees.codes, &mut self.trees.code_ids, id)
-    }
-
-    /// Whether neither the id nor the hash of a share code is kept, so that a new one may stand under them.
-    pub fn code_is_new(&self, id: u64, hash: &Text) -> bool
-        ensures value { result ≡ not (map.contains_key self.now.codes id || is_some (row_with (λ row. row.hash) hash.now self.now.codes)) }
-        ensures fits { IsTrue result → (row : ShareCode) → row.id ≡ id → row.hash ≡ hash.now → FitsHash (λ row. row.id) (λ row. row.hash) self.now.codes row }
-    {
-        neither(self.code(id).is_some(), self.code_of_hash(hash).is_some())
     }
 
     /// The rows of share codes, in the order of ids.

@@ -6,9 +6,16 @@ use Rattle.hub_api.specs.Paths.{row_of}
 use Rattle.hub_api.specs.declared.refusal.ApiRefusal.{ApiRefusal}
 use Rattle.hub_api.proofs.reading.read_call.Goals as goal
 
-pub returns : goal.returns
+pub returns-in-Ok : goal.returns-in-Ok
 unfolding call_read
-returns c =
+returns-in-Ok c =
     let q = c.args.request in
     ap (λ (row : Option ℕ). call_of row q >>= (λ call. Ok (asked q call))) (sym (c.row_of-row.ensures ∙ ap row_of c.as_str.ensures))
-    ∙ ap (λ (call : Result Call ApiRefusal). call >>= (λ call. Ok (asked q call))) c.in_ok-call.ensures
+    ∙ ap (λ (call : Result Call ApiRefusal). call >>= (λ call. Ok (asked q call))) c.in-Ok.ensures
+
+pub returns-in-Err : goal.returns-in-Err
+unfolding call_read
+returns-in-Err c = λ other.
+    let q = c.args.request in
+    ap (λ (row : Option ℕ). call_of row q >>= (λ call. Ok (asked q call))) (sym (c.row_of-row.ensures ∙ ap row_of c.as_str.ensures))
+    ∙ ap (λ (call : Result Call ApiRefusal). call >>= (λ call. Ok (asked q call))) (c.in-Err.ensures other)

@@ -1,6 +1,17 @@
-use Rattle.hub_calls.proofs.Ruling.{join_group_puts}
+use Rattle.std.proofs.Common.{subst}
+use Rattle.std.proofs.lemmas.Result.{IfOk-weaker}
+use Rattle.hub_tables.specs.State.{State}
+use Rattle.admin_rules.specs.Rules.{Says}
+use Rattle.admin_rules.specs.Groups.{join_group}
+use Rattle.hub_calls.specs.Puts.{PutsGroup}
+use Rattle.hub_calls.proofs.Ruling.{join_group_puts, says_rows}
 use Rattle.hub_calls.proofs.group_calls.join_group.Goals as goal
 
-pub group_after-requires : goal.group_after-requires
-group_after-requires c =
-    rw c.as_slice.ensures.value (join_group_puts c.tables-tables.result.now c.args.group.now c.args.users.now c.in-Ok.rows.items (c.names_are_own.ensures.groups c.args.group.now) c.in-Ok.ensures.answer)
+pub answer_of_group-requires : goal.answer_of_group-requires
+answer_of_group-requires c =
+    says_rows _ c.join_group-rows.result (PutsGroup c.args.group.now) (λ rows. join_group_puts c.tables-tables.result.now c.args.group.now c.args.users.now rows (c.names_are_own.ensures.groups c.args.group.now)) c.join_group-rows.ensures.answer
+
+pub returns : goal.returns
+returns c =
+    let says = subst (λ (t : State). Says (join_group t c.args.group.now c.args.users.now) c.join_group-rows.result) c.tables-tables.ensures c.join_group-rows.ensures.answer in
+    IfOk-weaker c.answer_of_group.result _ _ (λ a h. h _ says) c.answer_of_group.ensures

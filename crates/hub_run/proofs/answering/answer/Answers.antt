@@ -11,8 +11,8 @@ returns-in-Ok-clause-answers g c = λ start base text is.
     let visit = c.ask-outcome.ensures.answers start base in
     made_visited start _ _ c.args.request text c.in-Ok.asked visit.0 c.ask-outcome.result c.args.last _ _
     is c.in-Ok.ensures visit.1 visit.2
-    (subst (λ (close : Bool). SaysOutcome c.ask-outcome.result close (written_bytes c.text_of_outcome.result.0) c.text_of_outcome.result.1)
-    c.closes_after-close.ensures.value c.text_of_outcome.ensures.says)
+    (subst (λ (close : Bool). SaysOutcome c.ask-outcome.result close (written_bytes c.text_of_outcome-text.result.0) c.text_of_outcome-text.result.1)
+    c.closes_after-close.ensures.value c.text_of_outcome-text.ensures.says)
 
 pub returns-in-Err-Memory-clause-answers : goal.returns-in-Err-Memory-clause-answers
 returns-in-Err-Memory-clause-answers g c = λ start base text is.

@@ -16,8 +16,8 @@ returns-in-Ok-write_all-clause-ok g c = λ start base.
           (c.as_slice.ensures ∙ found.6) c.in-Ok-write_all.ensures.ok,
     )
 
-pub returns-in-Ok-clause-err : goal.returns-in-Ok-clause-err
-returns-in-Ok-clause-err g c = λ start base.
+pub returns-in-Err-write_all-clause-err : goal.returns-in-Err-write_all-clause-err
+returns-in-Err-write_all-clause-err g c = λ start base.
     let found = c.in-Ok.ensures.ok start base in
     let broken = c.in-Err-write_all.ensures.err in (
       found.1,
@@ -35,7 +35,7 @@ returns-in-Ok-clause-err g c = λ start base.
       },
     )
 
-pub returns-clause-err : goal.returns-clause-err
-returns-clause-err g c = λ start base.
+pub returns-in-Err-clause-err : goal.returns-in-Err-clause-err
+returns-in-Err-clause-err g c = λ start base.
     let found = c.in-Err.ensures.err in
     (found.0, found.1, stops start _ _ _ _ found.0 c.in-Err.end found.2 (same_view _ _ _ _ found.3 found.4))

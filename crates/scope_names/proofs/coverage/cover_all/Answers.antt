@@ -3,7 +3,7 @@ use Rattle.std.proofs.lemmas.List.{take_all, take_more}
 use Rattle.std.proofs.lemmas.List.Folds.{list_any_at}
 use Rattle.scope_names.specs.declared.action.Action.{Action}
 use Rattle.scope_names.specs.ActionOrder.{same_action}
-use Rattle.scope_names.specs.Coverage.{is_among, known, IsReach, IsCoverage}
+use Rattle.scope_names.specs.Coverage.{is_among, known, IsCoverage}
 use Rattle.scope_names.proofs.Among.{same_self}
 use Rattle.scope_names.proofs.Cover.{Covered, coverage, covered_more, all_covered, covered_none}
 use Rattle.scope_names.proofs.coverage.cover_all.Goals as goal
@@ -16,13 +16,11 @@ loop-action-preserved c =
     let xs : List Action = c.deref-action-items.result.now in
     let a : Action = c.action-item.result in
     let below : c.loop-action.action-index + 1 ≤ length c.deref-action-items.result.now = omega arith in
-    let start : c.push.new.self.items ≡ a ∷ [] = c.in_ok-push.ensures.items ∙ ap (λ (ys : List Action). ys ++ a ∷ []) c.new-from.ensures.items in
     let all : xs ≡ known c.args.rows.now = c.deref-action-items.ensures.value ∙ c.in_ok-actions.ensures in
     let here : is_among a xs ≡ true = list_any_at (same_action a) xs c.loop-action.action-index a (omega arith) (subst (λ (y : Action). same_action a y ≡ true) c.action-item.is (same_self a)) in
-    let r : IsReach c.args.rows.now (a ∷ []) c.in_ok-reached.reached.items = subst (λ (ys : List Action). IsReach c.args.rows.now ys c.in_ok-reached.reached.items) start c.in_ok-reached.ensures in
-    let done : IsCoverage c.args.rows.now a c.from_vec.result = subst (λ (ys : List Action). IsCoverage c.args.rows.now a ys) (sym c.from_vec.ensures) (coverage c.args.rows.now a c.in_ok-reached.reached.items (subst (λ (ys : List Action). is_among a ys ≡ true) all here) r) in
+    let done : IsCoverage c.args.rows.now a c.in_ok-reach_one.field-0 = coverage c.args.rows.now a c.in_ok-reach_one.field-0 (subst (λ (ys : List Action). is_among a ys ≡ true) all here) c.in_ok-reach_one.ensures in
     subst (λ (ys : List Action). Covered c.args.rows.now c.insert.new.self ys) (sym (take_more xs c.loop-action.action-index a (omega arith) ∙ ap (λ (y : Action). take c.loop-action.action-index xs ++ y ∷ []) (sym c.action-item.is)))
-    (covered_more c.args.rows.now a (take c.loop-action.action-index xs) c.from_vec.result c.loop-action.covered c.insert.new.self c.in_ok-insert.ensures.updates.0 done c.loop-action.invariant)
+    (covered_more c.args.rows.now a (take c.loop-action.action-index xs) c.in_ok-reach_one.field-0 c.loop-action.covered c.insert.new.self c.in_ok-insert.ensures.updates.0 done c.loop-action.invariant)
 
 pub returns : goal.returns
 returns c =

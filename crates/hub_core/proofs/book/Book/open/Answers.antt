@@ -2,7 +2,7 @@ use Rattle.std.proofs.Common.{ap, sym, subst}
 use Rattle.hub_machine.specs.KeptRows.{Keeps}
 use Rattle.hub_machine.specs.State.{Hub}
 use Rattle.hub_core.proofs.Looking.{current_empty}
-use Rattle.hub_core.proofs.Opened.{owed_spare}
+use Rattle.hub_opening.proofs.Opened.{owed_spare}
 use Rattle.hub_core.proofs.Tied.{tied_opening}
 use Rattle.hub_core.proofs.book.Book.open.Goals as goal
 

@@ -1,7 +1,0 @@
-use Rattle.std.proofs.Common.{◌≡◌, ◌++◌, map}
-use Rattle.std.specs.FinMap.{values}
-use Rattle.hub_rows.specs.declared.changes.RowChange.TheVariants.{PutOAuthClient}
-use Rattle.hub_core.proofs.opening.push_clients.Given as goal
-
-abbrev pub invariant-loop-row : goal.invariant-loop-row
-invariant-loop-row l = l.rows.items ++ map PutOAuthClient l.row-iterator ≡ l.initial.rows.items ++ map PutOAuthClient (values l.tables.clients)

@@ -1,7 +1,0 @@
-use Rattle.std.proofs.Common.{◌≡◌, ◌++◌, map}
-use Rattle.std.specs.FinMap.{values}
-use Rattle.hub_rows.specs.declared.changes.RowChange.TheVariants.{PutRole}
-use Rattle.hub_core.proofs.opening.push_roles.Given as goal
-
-abbrev pub invariant-loop-row : goal.invariant-loop-row
-invariant-loop-row l = l.rows.items ++ map PutRole l.row-iterator ≡ l.initial.rows.items ++ map PutRole (values l.tables.roles)

@@ -1,0 +1,3 @@
+pub mod Opened
+pub mod OpenedRows
+pub mod Reading

@@ -1,0 +1,241 @@
+//! The rows of a configuration, put into tables.
+ghost use Rattle.std.specs.Prelude.{◌≡◌, ◌++◌, ℕ, fold, codes, IfOk, OnOk};
+ghost use Rattle.std.specs.Option.{option_copied};
+ghost use Rattle.std.specs.FinMap as finite;
+ghost use Rattle.hub_tables.specs.Hashes.{FitsToken};
+ghost use Rattle.hub_tables.specs.State.{State};
+ghost use Rattle.hub_opening.specs.Opening as spec;
+
+use crate::config::{ConfigService, ConfigToken, ConfigUser, HubConfig};
+use hub_kit::hashes::hash_of;
+use hub_kit::list::List;
+use hub_kit::moment::Moment;
+use hub_kit::names::ServiceName;
+use hub_kit::text::Text;
+use hub_rows::records::{Group, Next, OAuthClient, Role, Service, Token, User};
+use hub_tables::tables::Tables;
+use scope_filters::holder::Owner;
+use scope_filters::scope::RawScope;
+use std::alloc::{AllocError, Global};
+
+/// A row of a configuration.
+trait Configured: Sized {
+    /// The tables with it, which are opened at a moment.
+    ghost put: { ℕ → State → Self → State };
+
+    fn put(&self, alloc: Global, tables: &mut Tables, now: Moment) -> Result<(), AllocError>
+        ensures { OnOk result (tables.new ≡ put now tables.old self.now) };
+}
+
+impl Configured for ConfigUser {
+    ghost put = { spec.with_user };
+
+    fn put(&self, _: Global, tables: &mut Tables, now: Moment) -> Result<(), AllocError> {
+        let row = user_row(tables.user(&self.name), self, now);
+        tables.set_user(row)
+    }
+}
+
+impl Configured for Group {
+    ghost put = { λ now. spec.with_group };
+
+    /// Puts it where none of its name is there.
+    fn put(&self, alloc: Global, tables: &mut Tables, _: Moment) -> Result<(), AllocError> {
+        if tables.group(&self.name).is_some() {
+            return Ok(());
+        }
+        tables.set_group(self.copy(alloc)?)
+    }
+}
+
+impl Configured for ConfigService {
+    ghost put = { λ now. spec.with_service };
+
+    fn put(&self, alloc: Global, tables: &mut Tables, _: Moment) -> Result<(), AllocError> {
+        add_service(tables, self.name)?;
+        put_client(tables, client_of(alloc, self)?)
+    }
+}
+
+impl Configured for Role {
+    ghost put = { λ now. spec.with_role };
+
+    /// Puts it in place of the one of its name.
+    fn put(&self, alloc: Global, tables: &mut Tables, _: Moment) -> Result<(), AllocError> {
+        tables.set_role(self.copy(alloc)?)
+    }
+}
+
+impl Configured for ConfigToken {
+    ghost put = { spec.with_token };
+
+    fn put(&self, alloc: Global, tables: &mut Tables, now: Moment) -> Result<(), AllocError> {
+        let name = Text::from_str(alloc, "token")?;
+        let hash = hash_of(alloc, self.text.as_bytes())?;
+        let id = next_token(tables, &name);
+        if !tables.token_is_new(id, &hash) || !has_owner(tables, &self.owner) {
+            return Ok(());
+        }
+        let Some(next) = id.checked_add(1) else {
+            return Err(AllocError);
+        };
+        let row = token_row(alloc, id, now, hash, self)?;
+        add_token(tables, row, Next { name, next })
+    }
+}
+
+/// Puts rows of one kind, in order.
+fn put_all<C: Configured>(
+    alloc: Global,
+    tables: &mut Tables,
+    rows: &[C],
+    now: Moment,
+) -> Result<(), AllocError>
+    ensures { OnOk result (tables.new ≡ fold (C.put now) tables.old rows.now) }
+{
+    for row in rows {
+        row.put(alloc, tables, now)?;
+    }
+    Ok(())
+}
+
+/// The row of a configured user, in place of the kept one, if there is one.
+fn user_row(kept: Option<&User>, user: &ConfigUser, now: Moment) -> User
+    ensures { result ≡ spec.user_row now user.now (option_copied kept.entry) }
+{
+    match kept {
+        Some(kept) => User {
+            name: user.name,
+            admin: kept.admin || user.admin,
+            created: kept.created,
+            last_activity: kept.last_activity,
+        },
+        None => User {
+            name: user.name,
+            admin: user.admin,
+            created: now,
+            last_activity: None,
+        },
+    }
+}
+
+/// Puts the row of a service, where none of its name is there.
+fn add_service(tables: &mut Tables, name: ServiceName) -> Result<(), AllocError>
+    ensures { OnOk result (tables.new ≡ record tables.old { services = spec.put_new name (record { name = name }) tables.old.services }) }
+{
+    if tables.service(&name).is_some() {
+        return Ok(());
+    }
+    tables.set_service(Service { name })
+}
+
+/// The id of the client that a service is.
+fn client_id(alloc: Global, service: &ServiceName) -> Result<Text, AllocError>
+    ensures { IfOk result (λ id. id ≡ codes "service:" ++ service.now) }
+{
+    let mut id = Text::from_str(alloc, "service:")?;
+    id.push_str(service.as_str())?;
+    Ok(id)
+}
+
+/// The client of OAuth that a configured service is.
+fn client_of(alloc: Global, service: &ConfigService) -> Result<Option<OAuthClient>, AllocError>
+    ensures { IfOk result (λ client. client ≡ spec.client_of service.now) }
+{
+    let Some(uri) = &service.redirect_uri else {
+        return Ok(None);
+    };
+    let Some(secret) = &service.secret else {
+        return Ok(None);
+    };
+    Ok(Some(OAuthClient {
+        id: client_id(alloc, &service.name)?,
+        hash: hash_of(alloc, secret.as_bytes())?,
+        redirect_uri: uri.copy(alloc)?,
+    }))
+}
+
+/// Puts a client, if there is one, in place of the one of its id.
+fn put_client(tables: &mut Tables, client: Option<OAuthClient>) -> Result<(), AllocError>
+    ensures { OnOk result (tables.new ≡ record tables.old { clients = spec.with_client client tables.old.clients }) }
+{
+    match client {
+        Some(client) => tables.set_client(client),
+        None => Ok(()),
+    }
+}
+
+fn has_owner(tables: &Tables, owner: &Owner) -> bool
+    ensures { result ≡ spec.has_owner tables.now owner.now }
+{
+    match owner {
+        Owner::User(user) => tables.user(user).is_some(),
+        Owner::Service(service) => tables.service(service).is_some(),
+    }
+}
+
+/// The number of the next token.
+fn next_token(tables: &Tables, name: &Text) -> u64
+    ensures { result ≡ spec.next_in (finite.get tables.now.nexts name.now) }
+{
+    match tables.next_of(name) {
+        Some(row) => row.next,
+        None => 1,
+    }
+}
+
+fn copy_scopes(alloc: Global, scopes: &List<RawScope>) -> Result<List<RawScope>, AllocError>
+    ensures { IfOk result (λ copy. copy ≡ scopes.now) }
+{
+    let copy = Vec::from_slice(alloc, scopes.as_slice())?;
+    Ok(List::from_vec(copy))
+}
+
+/// The row of a configured token, under a number.
+fn token_row(
+    alloc: Global,
+    id: u64,
+    now: Moment,
+    hash: Text,
+    token: &ConfigToken,
+) -> Result<Token, AllocError>
+    ensures { IfOk result (λ row. row ≡ spec.row_of_hash id now hash token.now) }
+{
+    let scopes = copy_scopes(alloc, &token.scopes)?;
+    Ok(Token {
+        id,
+        client: None,
+        created: now,
+        expires_at: token.expires_at,
+        hash,
+        issued_for: None,
+        note: Text::new(alloc),
+        owner: token.owner,
+        scopes,
+    })
+}
+
+/// Adds a token whose number, hash and owner were found to fit.
+fn add_token(tables: &mut Tables, token: Token, next: Next) -> Result<(), AllocError>
+    requires { FitsToken tables.old.tokens token }
+    ensures { OnOk result (tables.new ≡ spec.both_put token next tables.old) }
+{
+    tables.set_token(token)?;
+    tables.set_next(next)
+}
+
+/// Puts the rows of the configuration.
+pub fn put_rows(
+    alloc: Global,
+    tables: &mut Tables,
+    config: &HubConfig,
+    now: Moment,
+) -> Result<(), AllocError>
+    ensures { OnOk result (tables.new ≡ fold (spec.with_token now) (fold spec.with_role (fold spec.with_service (fold spec.with_group (fold (spec.with_user now) tables.old config.now.users) config.now.groups) config.now.services) config.now.roles) config.now.tokens) }
+{
+    put_all(alloc, tables, config.users.as_slice(), now)?;
+    put_all(alloc, tables, config.groups.as_slice(), now)?;
+    put_all(alloc, tables, config.services.as_slice(), now)?;
+    put_all(alloc, tables, config.roles.as_slice(), now)?;
+    put_all(alloc, tables, config.tokens.as_slice(), now)
+}

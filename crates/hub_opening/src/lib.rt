@@ -1,0 +1,10 @@
+//! What a hub begins with: the machine of a configuration, and the rows that a keeper then has.
+//! The contract of `open_machine` carries it: the state is the one that the configuration opens, the keeper's rows are exactly those of
+//! that state, and each refusal has its cause. The book of `hub_core` stands above.
+#![tactic(auto)]
+
+pub mod config;
+mod configured;
+mod kept;
+pub mod open_error;
+pub mod opening;

@@ -1,0 +1,4 @@
+use Rattle.hub_view.proofs.identity.service_identity.Goals as goal
+
+pub returns : goal.returns
+returns g c = c.into_body.ensures _ (c.add.ensures _ _ (c.add_service.ensures _ c.access-fields.ensures) c.scopes.ensures)
