@@ -3,7 +3,7 @@ use Rattle.std.specs.Prelude.{ℕ, ◌==◌, List, bytes_eq, codes, if◌then◌
 use Rattle.http_wire.specs.declared.request.Request.{Request}
 use Rattle.hub_machine.specs.declared.call.Asked.{Asked}
 use Rattle.hub_machine.specs.declared.call.Call.{Call}
-use Rattle.hub_machine.specs.declared.call.Call.TheVariants.{C1, C2}
+use Rattle.hub_machine.specs.declared.call.Call.TheVariants.{GetVersion, GetInfo}
 use Rattle.request_parts.specs.Steps.{◌>>=◌}
 use Rattle.hub_api.specs.Readings as calls
 use Rattle.hub_api.specs.Paths.{row_of}
@@ -23,11 +23,11 @@ method_of text =
 -- ---- the paths with their methods
 
 abbrev pub root : Method → Result Call ApiRefusal
-root Get = Ok C1
+root Get = Ok GetVersion
 root method = Err NoMethod
 
 abbrev pub info : Method → Result Call ApiRefusal
-info Get = Ok C2
+info Get = Ok GetInfo
 info method = Err NoMethod
 
 abbrev pub identity : Method → Request → Result Call ApiRefusal
@@ -35,24 +35,24 @@ identity Get q = calls.get_identity q
 identity method q = Err NoMethod
 
 abbrev pub users : Method → Request → Result Call ApiRefusal
-users Get q = calls.list_users q
-users Post q = calls.add_users q
+users Get q = calls.get_users q
+users Post q = calls.post_users q
 users method q = Err NoMethod
 
 abbrev pub user : Method → Request → Result Call ApiRefusal
 user Get q = calls.get_user q
-user Post q = calls.add_user q
-user Patch q = calls.change_user q
+user Post q = calls.post_user q
+user Patch q = calls.patch_user q
 user Delete q = calls.delete_user q
 user method q = Err NoMethod
 
 abbrev pub groups : Method → Request → Result Call ApiRefusal
-groups Get q = calls.list_groups q
+groups Get q = calls.get_groups q
 groups method q = Err NoMethod
 
 abbrev pub group : Method → Request → Result Call ApiRefusal
 group Get q = calls.get_group q
-group Post q = calls.add_group q
+group Post q = calls.post_group q
 group Delete q = calls.delete_group q
 group method q = Err NoMethod
 
@@ -62,17 +62,17 @@ members Delete q = calls.leave_group q
 members method q = Err NoMethod
 
 abbrev pub services : Method → Request → Result Call ApiRefusal
-services Get q = calls.list_services q
+services Get q = calls.get_services q
 services method q = Err NoMethod
 
 abbrev pub service : Method → Request → Result Call ApiRefusal
 service Get q = calls.get_service q
-service Post q = calls.add_service q
+service Post q = calls.post_service q
 service Delete q = calls.delete_service q
 service method q = Err NoMethod
 
 abbrev pub roles : Method → Request → Result Call ApiRefusal
-roles Get q = calls.list_roles q
+roles Get q = calls.get_roles q
 roles method q = Err NoMethod
 
 abbrev pub role : Method → Request → Result Call ApiRefusal

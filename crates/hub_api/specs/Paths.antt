@@ -24,14 +24,14 @@ hub_paths =
     ∷ codes "/hub/api/info"
     ∷ codes "/hub/api/user"
     ∷ codes "/hub/api/users"
-    ∷ codes "/hub/api/users/{u}"
+    ∷ codes "/hub/api/users/{user}"
     ∷ codes "/hub/api/groups"
-    ∷ codes "/hub/api/groups/{g}"
-    ∷ codes "/hub/api/groups/{g}/users"
+    ∷ codes "/hub/api/groups/{group}"
+    ∷ codes "/hub/api/groups/{group}/users"
     ∷ codes "/hub/api/services"
-    ∷ codes "/hub/api/services/{v}"
+    ∷ codes "/hub/api/services/{service}"
     ∷ codes "/hub/api/roles"
-    ∷ codes "/hub/api/roles/{r}"
+    ∷ codes "/hub/api/roles/{role}"
     ∷ []
 
 -- the table of calls as matchit keeps it

@@ -17,26 +17,26 @@ pub(crate) fn groups(alloc: Global, method: Method, request: &Request) -> Result
     ensures { Gives result (paths.groups method request.now) }
 {
     match method {
-        Method::Get => list_groups(alloc, request),
+        Method::Get => get_groups(alloc, request),
         Method::Post | Method::Put | Method::Patch | Method::Delete | Method::Other => {
             Err(ApiRefusal::NoMethod)
         }
     }
 }
 
-/// `/groups/{g}`, by its methods.
+/// `/groups/{group}`, by its methods.
 pub(crate) fn group(alloc: Global, method: Method, request: &Request) -> Result<Call, ApiRefusal>
     ensures { Gives result (paths.group method request.now) }
 {
     match method {
         Method::Get => get_group(alloc, request),
-        Method::Post => add_group(alloc, request),
+        Method::Post => post_group(alloc, request),
         Method::Delete => delete_group(alloc, request),
         Method::Put | Method::Patch | Method::Other => Err(ApiRefusal::NoMethod),
     }
 }
 
-/// `/groups/{g}/users`, by its methods.
+/// `/groups/{group}/users`, by its methods.
 pub(crate) fn members(alloc: Global, method: Method, request: &Request) -> Result<Call, ApiRefusal>
     ensures { Gives result (paths.members method request.now) }
 {
@@ -47,12 +47,12 @@ pub(crate) fn members(alloc: Global, method: Method, request: &Request) -> Resul
     }
 }
 
-#[tactic(auto, unfolding(crate::specs::Readings::list_groups))]
-fn list_groups(alloc: Global, request: &Request) -> Result<Call, ApiRefusal>
-    ensures { Gives result (spec.list_groups request.now) }
+#[tactic(auto, unfolding(crate::specs::Readings::get_groups))]
+fn get_groups(alloc: Global, request: &Request) -> Result<Call, ApiRefusal>
+    ensures { Gives result (spec.get_groups request.now) }
 {
     let page = page_of(alloc, request)?;
-    Ok(Call::C21 {
+    Ok(Call::GetGroups {
         offset: page.offset,
         limit: page.limit,
         paged: request.paged,
@@ -63,47 +63,56 @@ fn list_groups(alloc: Global, request: &Request) -> Result<Call, ApiRefusal>
 fn get_group(alloc: Global, request: &Request) -> Result<Call, ApiRefusal>
     ensures { Gives result (spec.get_group request.now) }
 {
-    let g: GroupName = name_at(alloc, request, 4)?;
-    Ok(Call::C22 { g })
+    let group: GroupName = name_at(alloc, request, 4)?;
+    Ok(Call::GetGroup { group })
 }
 
-#[tactic(auto, unfolding(crate::specs::Readings::add_group))]
-fn add_group(alloc: Global, request: &Request) -> Result<Call, ApiRefusal>
-    ensures { Gives result (spec.add_group request.now) }
+#[tactic(auto, unfolding(crate::specs::Readings::post_group))]
+fn post_group(alloc: Global, request: &Request) -> Result<Call, ApiRefusal>
+    ensures { Gives result (spec.post_group request.now) }
 {
-    let g: GroupName = name_at(alloc, request, 4)?;
+    let group: GroupName = name_at(alloc, request, 4)?;
     let body = body_of(alloc, request)?;
     let users: Result<List<UserName>, ApiRefusal> = list(alloc, &body, "users");
     drop(body);
-    Ok(Call::C23 { g, users: users? })
+    Ok(Call::PostGroup {
+        group,
+        users: users?,
+    })
 }
 
 #[tactic(auto, unfolding(crate::specs::Readings::delete_group))]
 fn delete_group(alloc: Global, request: &Request) -> Result<Call, ApiRefusal>
     ensures { Gives result (spec.delete_group request.now) }
 {
-    let g: GroupName = name_at(alloc, request, 4)?;
-    Ok(Call::C24 { g })
+    let group: GroupName = name_at(alloc, request, 4)?;
+    Ok(Call::DeleteGroup { group })
 }
 
 #[tactic(auto, unfolding(crate::specs::Readings::join_group))]
 fn join_group(alloc: Global, request: &Request) -> Result<Call, ApiRefusal>
     ensures { Gives result (spec.join_group request.now) }
 {
-    let g: GroupName = name_at(alloc, request, 4)?;
+    let group: GroupName = name_at(alloc, request, 4)?;
     let body = body_of(alloc, request)?;
     let users = some_names(alloc, &body, "users");
     drop(body);
-    Ok(Call::C25 { g, users: users? })
+    Ok(Call::JoinGroup {
+        group,
+        users: users?,
+    })
 }
 
 #[tactic(auto, unfolding(crate::specs::Readings::leave_group))]
 fn leave_group(alloc: Global, request: &Request) -> Result<Call, ApiRefusal>
     ensures { Gives result (spec.leave_group request.now) }
 {
-    let g: GroupName = name_at(alloc, request, 4)?;
+    let group: GroupName = name_at(alloc, request, 4)?;
     let body = body_of(alloc, request)?;
     let users = some_names(alloc, &body, "users");
     drop(body);
-    Ok(Call::C26 { g, users: users? })
+    Ok(Call::LeaveGroup {
+        group,
+        users: users?,
+    })
 }

@@ -11,21 +11,21 @@ pub fn a_user_is_asked(request: &Request)
     requires path { request.now.path ≡ codes "/hub/api/user" }
     requires method { request.now.method ≡ codes "GET" }
     requires query { request.now.query ≡ [] }
-    ensures { call_read request.now ≡ Ok (asked request.now (Call.C3 None)) }
+    ensures { call_read request.now ≡ Ok (asked request.now (Call.GetIdentity None)) }
 {}
 
 /// `GET /hub/api/` asks the version.
 pub fn a_version_is_asked(request: &Request)
     requires path { request.now.path ≡ codes "/hub/api/" }
     requires method { request.now.method ≡ codes "GET" }
-    ensures { call_read request.now ≡ Ok (asked request.now Call.C1) }
+    ensures { call_read request.now ≡ Ok (asked request.now Call.GetVersion) }
 {}
 
 /// `GET /hub/api/users/ann` asks the user ann.
 pub fn a_named_user_is_asked(request: &Request)
     requires path { request.now.path ≡ codes "/hub/api/users/ann" }
     requires method { request.now.method ≡ codes "GET" }
-    ensures { call_read request.now ≡ Ok (asked request.now (Call.C6 (codes "ann"))) }
+    ensures { call_read request.now ≡ Ok (asked request.now (Call.GetUser (codes "ann"))) }
 {}
 
 /// A path that ends where a name should stand is none.

@@ -13,14 +13,14 @@ static PATHS: [&str; 13] = [
     "/hub/api/info",
     "/hub/api/user",
     "/hub/api/users",
-    "/hub/api/users/{u}",
+    "/hub/api/users/{user}",
     "/hub/api/groups",
-    "/hub/api/groups/{g}",
-    "/hub/api/groups/{g}/users",
+    "/hub/api/groups/{group}",
+    "/hub/api/groups/{group}/users",
     "/hub/api/services",
-    "/hub/api/services/{v}",
+    "/hub/api/services/{service}",
     "/hub/api/roles",
-    "/hub/api/roles/{r}",
+    "/hub/api/roles/{role}",
 ];
 
 /// The paths of the calls, each with its row. A connection makes one and keeps it.

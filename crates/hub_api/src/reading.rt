@@ -22,7 +22,7 @@ fn root(method: Method) -> Result<Call, ApiRefusal>
     ensures { result ≡ spec.root method }
 {
     match method {
-        Method::Get => Ok(Call::C1),
+        Method::Get => Ok(Call::GetVersion),
         Method::Post | Method::Put | Method::Patch | Method::Delete | Method::Other => {
             Err(ApiRefusal::NoMethod)
         }
@@ -34,7 +34,7 @@ fn info(method: Method) -> Result<Call, ApiRefusal>
     ensures { result ≡ spec.info method }
 {
     match method {
-        Method::Get => Ok(Call::C2),
+        Method::Get => Ok(Call::GetInfo),
         Method::Post | Method::Put | Method::Patch | Method::Delete | Method::Other => {
             Err(ApiRefusal::NoMethod)
         }
@@ -58,7 +58,7 @@ fn get_identity(alloc: Global, request: &Request) -> Result<Call, ApiRefusal>
     ensures { Gives result (calls.get_identity request.now) }
 {
     let for_server = server_of(alloc, request)?;
-    Ok(Call::C3 { for_server })
+    Ok(Call::GetIdentity { for_server })
 }
 
 /// The call of a row of the table of paths.

@@ -23,14 +23,14 @@ pub(crate) fn roles(alloc: Global, method: Method, request: &Request) -> Result<
     ensures { Gives result (paths.roles method request.now) }
 {
     match method {
-        Method::Get => list_roles(alloc, request),
+        Method::Get => get_roles(alloc, request),
         Method::Post | Method::Put | Method::Patch | Method::Delete | Method::Other => {
             Err(ApiRefusal::NoMethod)
         }
     }
 }
 
-/// `/roles/{r}`, by its methods.
+/// `/roles/{role}`, by its methods.
 pub(crate) fn role(alloc: Global, method: Method, request: &Request) -> Result<Call, ApiRefusal>
     ensures { Gives result (paths.role method request.now) }
 {
@@ -42,12 +42,12 @@ pub(crate) fn role(alloc: Global, method: Method, request: &Request) -> Result<C
     }
 }
 
-#[tactic(auto, unfolding(crate::specs::Readings::list_roles))]
-fn list_roles(alloc: Global, request: &Request) -> Result<Call, ApiRefusal>
-    ensures { Gives result (spec.list_roles request.now) }
+#[tactic(auto, unfolding(crate::specs::Readings::get_roles))]
+fn get_roles(alloc: Global, request: &Request) -> Result<Call, ApiRefusal>
+    ensures { Gives result (spec.get_roles request.now) }
 {
     let page = page_of(alloc, request)?;
-    Ok(Call::C31 {
+    Ok(Call::GetRoles {
         offset: page.offset,
         limit: page.limit,
         paged: request.paged,
@@ -58,17 +58,17 @@ fn list_roles(alloc: Global, request: &Request) -> Result<Call, ApiRefusal>
 fn get_role(alloc: Global, request: &Request) -> Result<Call, ApiRefusal>
     ensures { Gives result (spec.get_role request.now) }
 {
-    let r: RoleName = name_at(alloc, request, 4)?;
-    Ok(Call::C32 { r })
+    let role: RoleName = name_at(alloc, request, 4)?;
+    Ok(Call::GetRole { role })
 }
 
 #[tactic(auto, unfolding(crate::specs::Readings::put_role))]
 fn put_role(alloc: Global, request: &Request) -> Result<Call, ApiRefusal>
     ensures { Gives result (spec.put_role request.now) }
 {
-    let r: RoleName = name_at(alloc, request, 4)?;
+    let role: RoleName = name_at(alloc, request, 4)?;
     let body = body_of(alloc, request)?;
-    let call = put_role_of(alloc, r, &body);
+    let call = put_role_of(alloc, role, &body);
     drop(body);
     call
 }
@@ -83,8 +83,8 @@ fn put_role_of(alloc: Global, r: RoleName, body: &Value) -> Result<Call, ApiRefu
     let groups: List<GroupName> = list(alloc, body, "groups")?;
     let services: List<ServiceName> = list(alloc, body, "services")?;
     let scopes = scopes(alloc, &texts)?;
-    Ok(Call::C33 {
-        r,
+    Ok(Call::PutRole {
+        role,
         scopes,
         users,
         groups,
@@ -96,6 +96,6 @@ fn put_role_of(alloc: Global, r: RoleName, body: &Value) -> Result<Call, ApiRefu
 fn delete_role(alloc: Global, request: &Request) -> Result<Call, ApiRefusal>
     ensures { Gives result (spec.delete_role request.now) }
 {
-    let r: RoleName = name_at(alloc, request, 4)?;
-    Ok(Call::C34 { r })
+    let role: RoleName = name_at(alloc, request, 4)?;
+    Ok(Call::DeleteRole { role })
 }

@@ -16,31 +16,31 @@ pub(crate) fn services(alloc: Global, method: Method, request: &Request) -> Resu
     ensures { Gives result (paths.services method request.now) }
 {
     match method {
-        Method::Get => list_services(alloc, request),
+        Method::Get => get_services(alloc, request),
         Method::Post | Method::Put | Method::Patch | Method::Delete | Method::Other => {
             Err(ApiRefusal::NoMethod)
         }
     }
 }
 
-/// `/services/{v}`, by its methods.
+/// `/services/{service}`, by its methods.
 pub(crate) fn service(alloc: Global, method: Method, request: &Request) -> Result<Call, ApiRefusal>
     ensures { Gives result (paths.service method request.now) }
 {
     match method {
         Method::Get => get_service(alloc, request),
-        Method::Post => add_service(alloc, request),
+        Method::Post => post_service(alloc, request),
         Method::Delete => delete_service(alloc, request),
         Method::Put | Method::Patch | Method::Other => Err(ApiRefusal::NoMethod),
     }
 }
 
-#[tactic(auto, unfolding(crate::specs::Readings::list_services))]
-fn list_services(alloc: Global, request: &Request) -> Result<Call, ApiRefusal>
-    ensures { Gives result (spec.list_services request.now) }
+#[tactic(auto, unfolding(crate::specs::Readings::get_services))]
+fn get_services(alloc: Global, request: &Request) -> Result<Call, ApiRefusal>
+    ensures { Gives result (spec.get_services request.now) }
 {
     let page = page_of(alloc, request)?;
-    Ok(Call::C27 {
+    Ok(Call::GetServices {
         offset: page.offset,
         limit: page.limit,
         paged: request.paged,
@@ -51,22 +51,22 @@ fn list_services(alloc: Global, request: &Request) -> Result<Call, ApiRefusal>
 fn get_service(alloc: Global, request: &Request) -> Result<Call, ApiRefusal>
     ensures { Gives result (spec.get_service request.now) }
 {
-    let v: ServiceName = name_at(alloc, request, 4)?;
-    Ok(Call::C28 { v })
+    let service: ServiceName = name_at(alloc, request, 4)?;
+    Ok(Call::GetService { service })
 }
 
-#[tactic(auto, unfolding(crate::specs::Readings::add_service))]
-fn add_service(alloc: Global, request: &Request) -> Result<Call, ApiRefusal>
-    ensures { Gives result (spec.add_service request.now) }
+#[tactic(auto, unfolding(crate::specs::Readings::post_service))]
+fn post_service(alloc: Global, request: &Request) -> Result<Call, ApiRefusal>
+    ensures { Gives result (spec.post_service request.now) }
 {
-    let v: ServiceName = name_at(alloc, request, 4)?;
-    Ok(Call::C29 { v })
+    let service: ServiceName = name_at(alloc, request, 4)?;
+    Ok(Call::PostService { service })
 }
 
 #[tactic(auto, unfolding(crate::specs::Readings::delete_service))]
 fn delete_service(alloc: Global, request: &Request) -> Result<Call, ApiRefusal>
     ensures { Gives result (spec.delete_service request.now) }
 {
-    let v: ServiceName = name_at(alloc, request, 4)?;
-    Ok(Call::C30 { v })
+    let service: ServiceName = name_at(alloc, request, 4)?;
+    Ok(Call::DeleteService { service })
 }

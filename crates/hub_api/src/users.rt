@@ -16,46 +16,46 @@ pub(crate) fn users(alloc: Global, method: Method, request: &Request) -> Result<
     ensures { Gives result (paths.users method request.now) }
 {
     match method {
-        Method::Get => list_users(alloc, request),
-        Method::Post => add_users(alloc, request),
+        Method::Get => get_users(alloc, request),
+        Method::Post => post_users(alloc, request),
         Method::Put | Method::Patch | Method::Delete | Method::Other => Err(ApiRefusal::NoMethod),
     }
 }
 
-/// `/users/{u}`, by its methods.
+/// `/users/{user}`, by its methods.
 pub(crate) fn user(alloc: Global, method: Method, request: &Request) -> Result<Call, ApiRefusal>
     ensures { Gives result (paths.user method request.now) }
 {
     match method {
         Method::Get => get_user(alloc, request),
-        Method::Post => add_user(alloc, request),
-        Method::Patch => change_user(alloc, request),
+        Method::Post => post_user(alloc, request),
+        Method::Patch => patch_user(alloc, request),
         Method::Delete => delete_user(alloc, request),
         Method::Put | Method::Other => Err(ApiRefusal::NoMethod),
     }
 }
 
-#[tactic(auto, unfolding(crate::specs::Readings::list_users))]
-fn list_users(alloc: Global, request: &Request) -> Result<Call, ApiRefusal>
-    ensures { Gives result (spec.list_users request.now) }
+#[tactic(auto, unfolding(crate::specs::Readings::get_users))]
+fn get_users(alloc: Global, request: &Request) -> Result<Call, ApiRefusal>
+    ensures { Gives result (spec.get_users request.now) }
 {
     let page = page_of(alloc, request)?;
-    Ok(Call::C4 {
+    Ok(Call::GetUsers {
         offset: page.offset,
         limit: page.limit,
         paged: request.paged,
     })
 }
 
-#[tactic(auto, unfolding(crate::specs::Readings::add_users))]
-fn add_users(alloc: Global, request: &Request) -> Result<Call, ApiRefusal>
-    ensures { Gives result (spec.add_users request.now) }
+#[tactic(auto, unfolding(crate::specs::Readings::post_users))]
+fn post_users(alloc: Global, request: &Request) -> Result<Call, ApiRefusal>
+    ensures { Gives result (spec.post_users request.now) }
 {
     let body = body_of(alloc, request)?;
     let usernames = distinct_names(alloc, &body, "usernames");
     let admin = truth(&body, "admin");
     drop(body);
-    Ok(Call::C5 {
+    Ok(Call::PostUsers {
         usernames: usernames?,
         admin: admin?,
     })
@@ -65,33 +65,36 @@ fn add_users(alloc: Global, request: &Request) -> Result<Call, ApiRefusal>
 fn get_user(alloc: Global, request: &Request) -> Result<Call, ApiRefusal>
     ensures { Gives result (spec.get_user request.now) }
 {
-    let u: UserName = name_at(alloc, request, 4)?;
-    Ok(Call::C6 { u })
+    let user: UserName = name_at(alloc, request, 4)?;
+    Ok(Call::GetUser { user })
 }
 
-#[tactic(auto, unfolding(crate::specs::Readings::add_user))]
-fn add_user(alloc: Global, request: &Request) -> Result<Call, ApiRefusal>
-    ensures { Gives result (spec.add_user request.now) }
+#[tactic(auto, unfolding(crate::specs::Readings::post_user))]
+fn post_user(alloc: Global, request: &Request) -> Result<Call, ApiRefusal>
+    ensures { Gives result (spec.post_user request.now) }
 {
-    let u: UserName = name_at(alloc, request, 4)?;
-    Ok(Call::C7 { u })
+    let user: UserName = name_at(alloc, request, 4)?;
+    Ok(Call::PostUser { user })
 }
 
-#[tactic(auto, unfolding(crate::specs::Readings::change_user))]
-fn change_user(alloc: Global, request: &Request) -> Result<Call, ApiRefusal>
-    ensures { Gives result (spec.change_user request.now) }
+#[tactic(auto, unfolding(crate::specs::Readings::patch_user))]
+fn patch_user(alloc: Global, request: &Request) -> Result<Call, ApiRefusal>
+    ensures { Gives result (spec.patch_user request.now) }
 {
-    let u: UserName = name_at(alloc, request, 4)?;
+    let user: UserName = name_at(alloc, request, 4)?;
     let body = body_of(alloc, request)?;
     let admin = needed_truth(&body, "admin");
     drop(body);
-    Ok(Call::C8 { u, admin: admin? })
+    Ok(Call::PatchUser {
+        user,
+        admin: admin?,
+    })
 }
 
 #[tactic(auto, unfolding(crate::specs::Readings::delete_user))]
 fn delete_user(alloc: Global, request: &Request) -> Result<Call, ApiRefusal>
     ensures { Gives result (spec.delete_user request.now) }
 {
-    let u: UserName = name_at(alloc, request, 4)?;
-    Ok(Call::C9 { u })
+    let user: UserName = name_at(alloc, request, 4)?;
+    Ok(Call::DeleteUser { user })
 }

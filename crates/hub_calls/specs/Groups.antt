@@ -15,23 +15,23 @@ use Rattle.hub_calls.specs.Calling.{by_rules, done}
 abbrev pub get_groups : Hub → Rights → Page → Answer
 get_groups s may page = gives (good 200 (paged_list (codes "/groups") page (groups_shown may s (values s.tables.groups))))
 
--- GET /groups/{g}
+-- GET /groups/{group}
 abbrev pub get_group : Hub → Rights → List ℕ → Answer
 get_group s may g = gives (good 200 (group_at may s g))
 
--- POST /groups/{g}
+-- POST /groups/{group}
 abbrev pub post_group : Hub → Rights → List ℕ → List (List ℕ) → Answer
 post_group s may g users = by_rules s (groups.add_group s.tables g users) (λ after. good 201 (group_at may after g))
 
--- DELETE /groups/{g}
+-- DELETE /groups/{group}
 abbrev pub delete_group : Hub → List ℕ → Answer
 delete_group s g = by_rules s (groups.delete_group s.tables g) done
 
--- POST /groups/{g}/users
+-- POST /groups/{group}/users
 abbrev pub join_group : Hub → Rights → List ℕ → List (List ℕ) → Answer
 join_group s may g users = by_rules s (groups.join_group s.tables g users) (λ after. good 200 (group_at may after g))
 
--- DELETE /groups/{g}/users
+-- DELETE /groups/{group}/users
 abbrev pub leave_group : Hub → Rights → List ℕ → List (List ℕ) → Answer
 leave_group s may g users = by_rules s (groups.leave_group s.tables g users) (λ after. good 200 (group_at may after g))
 
@@ -39,14 +39,14 @@ leave_group s may g users = by_rules s (groups.leave_group s.tables g users) (λ
 abbrev pub get_services : Hub → Rights → Page → Answer
 get_services s may page = gives (good 200 (paged_list (codes "/services") page (services_shown may s (values s.tables.services))))
 
--- GET /services/{v}
+-- GET /services/{service}
 abbrev pub get_service : Hub → Rights → List ℕ → Answer
 get_service s may v = gives (good 200 (service_body may s v))
 
--- POST /services/{v}
+-- POST /services/{service}
 abbrev pub post_service : Hub → Rights → List ℕ → Answer
 post_service s may v = by_rules s (services.add_service s.tables v) (λ after. good 201 (service_body may after v))
 
--- DELETE /services/{v}
+-- DELETE /services/{service}
 abbrev pub delete_service : Hub → List ℕ → Answer
 delete_service s v = by_rules s (services.delete_service s.tables v) done

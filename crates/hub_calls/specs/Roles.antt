@@ -18,11 +18,11 @@ use Rattle.hub_calls.specs.Calling.{by_rules, done}
 abbrev pub get_roles : Hub → Page → Answer
 get_roles s page = gives (good 200 (paged_list (codes "/roles") page (map role_body (values s.tables.roles))))
 
--- GET /roles/{r}
+-- GET /roles/{role}
 abbrev pub get_role : Hub → List ℕ → Answer
 get_role s r = gives (good 200 (role_at s r))
 
--- ---- PUT /roles/{r}
+-- ---- PUT /roles/{role}
 
 -- the role with these lists, its names in order
 abbrev pub role_of : List ℕ → List RawScope → (users groups services : List (List ℕ)) → Role
@@ -40,6 +40,6 @@ put_status s r = if contains_key s.tables.roles r.name then 200 else 201
 abbrev pub put_role : Hub → Role → Answer
 put_role s r = by_rules s (rules.put_role s.tables r) (λ after. good (put_status s r) (role_body r))
 
--- DELETE /roles/{r}
+-- DELETE /roles/{role}
 abbrev pub delete_role : Hub → List ℕ → Answer
 delete_role s r = by_rules s (rules.delete_role s.tables r) done

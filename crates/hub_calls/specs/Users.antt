@@ -56,18 +56,18 @@ abbrev pub post_users : Hub → Rights → ℕ → List (List ℕ) → Bool → 
 post_users s may now names admin = by_rules s (add_users s.tables names admin now)
     (λ after. good 201 (items (map (user_at may after) (unkept_users s.tables names))))
 
--- GET /users/{u}
+-- GET /users/{user}
 abbrev pub get_user : Hub → Rights → List ℕ → Answer
 get_user s may u = gives (good 200 (user_at may s u))
 
--- POST /users/{u}
+-- POST /users/{user}
 abbrev pub post_user : Hub → Rights → ℕ → List ℕ → Answer
 post_user s may now u = by_rules s (add_users s.tables (u ∷ []) false now) (λ after. good 201 (user_at may after u))
 
--- PATCH /users/{u}
+-- PATCH /users/{user}
 abbrev pub patch_user : Hub → Rights → List ℕ → Bool → Answer
 patch_user s may u admin = by_rules s (set_admin s.tables u admin) (λ after. good 200 (user_at may after u))
 
--- DELETE /users/{u}
+-- DELETE /users/{user}
 abbrev pub delete_user : Hub → List ℕ → Answer
 delete_user s u = by_rules s (rules.delete_user s.tables u (has_live_server s.lives u)) done

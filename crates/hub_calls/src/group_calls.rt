@@ -71,7 +71,7 @@ fn list_groups(
     Ok(())
 }
 
-/// `GET /groups/{g}`
+/// `GET /groups/{group}`
 pub fn get_group(
     alloc: Global,
     hub: &Machine,
@@ -134,7 +134,7 @@ fn answer_of_group(
     }
 }
 
-/// `POST /groups/{g}`
+/// `POST /groups/{group}`
 pub fn post_group(
     alloc: Global,
     hub: &Machine,
@@ -148,14 +148,14 @@ pub fn post_group(
     answer_of_group(alloc, hub, rights, group, 201, rows)
 }
 
-/// `DELETE /groups/{g}`
+/// `DELETE /groups/{group}`
 pub fn delete_group(alloc: Global, hub: &Machine, group: &GroupName) -> Result<Answer, AllocError>
     ensures { IfOk result (λ answer. answer_view answer ≡ spec.delete_group hub.now group.now) }
 {
     carried(alloc, groups::delete_group(alloc, hub.tables(), group))
 }
 
-/// `POST /groups/{g}/users`
+/// `POST /groups/{group}/users`
 pub fn join_group(
     alloc: Global,
     hub: &Machine,
@@ -171,7 +171,7 @@ pub fn join_group(
     answer_of_group(alloc, hub, rights, group, 200, rows)
 }
 
-/// `DELETE /groups/{g}/users`
+/// `DELETE /groups/{group}/users`
 pub fn leave_group(
     alloc: Global,
     hub: &Machine,

@@ -59,7 +59,7 @@ fn list_roles(alloc: Global, hub: &Machine, list: &mut Listing) -> Result<(), Al
     Ok(())
 }
 
-/// `GET /roles/{r}`
+/// `GET /roles/{role}`
 pub fn get_role(alloc: Global, hub: &Machine, role: &RoleName) -> Result<Answer, AllocError>
     ensures { IfOk result (λ answer. answer_view answer ≡ spec.get_role hub.now role.now) }
 {
@@ -77,7 +77,7 @@ fn put_status(tables: &Tables, role: &RoleName) -> u16
     }
 }
 
-/// `PUT /roles/{r}`
+/// `PUT /roles/{role}`
 pub fn put_role(alloc: Global, hub: &Machine, role: &Role) -> Result<Answer, AllocError>
     ensures { IfOk result (λ answer. answer_view answer ≡ spec.put_role hub.now role.now) }
 {
@@ -88,7 +88,7 @@ pub fn put_role(alloc: Global, hub: &Machine, role: &Role) -> Result<Answer, All
     }
 }
 
-/// `DELETE /roles/{r}`
+/// `DELETE /roles/{role}`
 pub fn delete_role(alloc: Global, hub: &Machine, role: &RoleName) -> Result<Answer, AllocError>
     ensures { IfOk result (λ answer. answer_view answer ≡ spec.delete_role hub.now role.now) }
 {

@@ -52,7 +52,7 @@ fn list_services(
     Ok(())
 }
 
-/// `GET /services/{v}`
+/// `GET /services/{service}`
 pub fn get_service(
     alloc: Global,
     hub: &Machine,
@@ -64,7 +64,7 @@ pub fn get_service(
     Ok(gives(200, service_body(alloc, hub, rights, service)?))
 }
 
-/// `POST /services/{v}`
+/// `POST /services/{service}`
 pub fn post_service(
     alloc: Global,
     hub: &Machine,
@@ -79,7 +79,7 @@ pub fn post_service(
     }
 }
 
-/// `DELETE /services/{v}`
+/// `DELETE /services/{service}`
 pub fn delete_service(
     alloc: Global,
     hub: &Machine,

@@ -173,7 +173,7 @@ fn list_users(
     Ok(())
 }
 
-/// `GET /users/{u}`
+/// `GET /users/{user}`
 pub fn get_user(
     alloc: Global,
     hub: &Machine,
@@ -274,7 +274,7 @@ fn answer_of_user(
     }
 }
 
-/// `POST /users/{u}`
+/// `POST /users/{user}`
 pub fn post_user(
     alloc: Global,
     hub: &Machine,
@@ -288,7 +288,7 @@ pub fn post_user(
     answer_of_user(alloc, hub, rights, user, 201, rows)
 }
 
-/// `PATCH /users/{u}`
+/// `PATCH /users/{user}`
 pub fn patch_user(
     alloc: Global,
     hub: &Machine,
@@ -304,7 +304,7 @@ pub fn patch_user(
     answer_of_user(alloc, hub, rights, user, 200, rows)
 }
 
-/// `DELETE /users/{u}`
+/// `DELETE /users/{user}`
 pub fn delete_user(alloc: Global, hub: &Machine, user: &UserName) -> Result<Answer, AllocError>
     ensures { IfOk result (λ answer. answer_view answer ≡ spec.delete_user hub.now user.now) }
 {

@@ -38,7 +38,7 @@ use Rattle.hub_machine.specs.declared.refusal.Refusal.{Refusal}
 use Rattle.hub_machine.specs.declared.refusal.Refusal.TheVariants.{SeenPast, NotFound, TrailFull}
 use Rattle.hub_machine.specs.declared.call.Asked.{Asked}
 use Rattle.hub_machine.specs.declared.call.Call.{Call}
-use Rattle.hub_machine.specs.declared.call.Call.TheVariants.{C5, C7, C8, C9, C23, C24, C25, C26, C29, C30, C33, C34}
+use Rattle.hub_machine.specs.declared.call.Call.TheVariants.{PostUsers, PostUser, PatchUser, DeleteUser, PostGroup, DeleteGroup, JoinGroup, LeaveGroup, PostService, DeleteService, PutRole, DeleteRole}
 
 -- no row of the answer's change is found by a hash
 abbrev Plain : Answer → Type 0
@@ -102,30 +102,30 @@ one_role r (Some k) = plain_unless (roles.same_role r k) (PutRole r ∷ []) refl
 -- ---- each call
 
 plain_row : (s : Hub) (may : Rights) (now : ℕ) (k : Token) (call : Call) → Plain (row s may now k call)
-plain_row s may now k (C5 names admin) = plain_rules s (users.add_users s.tables names admin now) _ (new_users s.tables names admin now)
-plain_row s may now k (C7 u) = plain_rules s (users.add_users s.tables (u ∷ []) false now) _ (new_users s.tables (u ∷ []) false now)
-plain_row s may now k (C8 u admin) = plain_rules s (users.set_admin s.tables u admin) (λ after. good 200 (user_at may after u)) (λ rows e. plain_ok _ rows (one_admin admin (get s.tables.users u)) e)
-plain_row s may now k (C9 u) = plain_rules s (users.delete_user s.tables u (has_live_server s.lives u)) _
-    (λ rows e. plain_ruled (rules.if_so (has_live_server s.lives u) LiveServers ∷ []) _ rows (plain_if (contains_key s.tables.users u) (user_rows s.tables u) (user_plain s.tables u (user_rows s.tables u) refl)) e)
-plain_row s may now k (C23 g names) = plain_rules s (groups.add_group s.tables g names) _
-    (λ rows e. plain_ruled (rules.if_so (contains_key s.tables.groups g) (Exists g) ∷ groups.if_unknown_user s.tables names ∷ rules.if_full 2 s.tables.limits.groups (len s.tables.groups) 1 ∷ []) (PutGroup (record { name = g; users = in_order name_cmp names }) ∷ []) rows refl e)
-plain_row s may now k (C24 g) = plain_rules s (groups.delete_group s.tables g) done
-    (λ rows e. plain_ok _ rows (plain_if (contains_key s.tables.groups g) (group_rows s.tables g) (group_plain s.tables g (group_rows s.tables g) refl)) e)
-plain_row s may now k (C25 g names) = plain_rules s (groups.join_group s.tables g names) _
-    (λ rows e. plain_ruled (groups.if_unknown_user s.tables names ∷ []) _ rows (one_group (with_keys name_cmp names) (get s.tables.groups g)) e)
-plain_row s may now k (C26 g names) = plain_rules s (groups.leave_group s.tables g names) _
-    (λ rows e. plain_ruled (groups.if_unknown_user s.tables names ∷ []) _ rows (one_group (without_keys name_cmp names) (get s.tables.groups g)) e)
-plain_row s may now k (C29 v) = plain_rules s (services.add_service s.tables v) _
-    (λ rows e. plain_ruled (rules.if_so (contains_key s.tables.services v) (Exists v) ∷ rules.if_full 3 s.tables.limits.services (len s.tables.services) 1 ∷ []) (PutService (record { name = v }) ∷ []) rows refl e)
-plain_row s may now k (C30 v) = plain_rules s (services.delete_service s.tables v) done
-    (λ rows e. plain_ok _ rows (plain_if (contains_key s.tables.services v) (service_rows s.tables v) (service_plain s.tables v (service_rows s.tables v) refl)) e)
-plain_row s may now k (C33 r scopes us gs vs) =
-    let x : Role = role_of r scopes us gs vs in
+plain_row s may now k (PostUsers names admin) = plain_rules s (users.add_users s.tables names admin now) _ (new_users s.tables names admin now)
+plain_row s may now k (PostUser user) = plain_rules s (users.add_users s.tables (user ∷ []) false now) _ (new_users s.tables (user ∷ []) false now)
+plain_row s may now k (PatchUser user admin) = plain_rules s (users.set_admin s.tables user admin) (λ after. good 200 (user_at may after user)) (λ rows e. plain_ok _ rows (one_admin admin (get s.tables.users user)) e)
+plain_row s may now k (DeleteUser user) = plain_rules s (users.delete_user s.tables user (has_live_server s.lives user)) _
+    (λ rows e. plain_ruled (rules.if_so (has_live_server s.lives user) LiveServers ∷ []) _ rows (plain_if (contains_key s.tables.users user) (user_rows s.tables user) (user_plain s.tables user (user_rows s.tables user) refl)) e)
+plain_row s may now k (PostGroup group names) = plain_rules s (groups.add_group s.tables group names) _
+    (λ rows e. plain_ruled (rules.if_so (contains_key s.tables.groups group) (Exists group) ∷ groups.if_unknown_user s.tables names ∷ rules.if_full 2 s.tables.limits.groups (len s.tables.groups) 1 ∷ []) (PutGroup (record { name = group; users = in_order name_cmp names }) ∷ []) rows refl e)
+plain_row s may now k (DeleteGroup group) = plain_rules s (groups.delete_group s.tables group) done
+    (λ rows e. plain_ok _ rows (plain_if (contains_key s.tables.groups group) (group_rows s.tables group) (group_plain s.tables group (group_rows s.tables group) refl)) e)
+plain_row s may now k (JoinGroup group names) = plain_rules s (groups.join_group s.tables group names) _
+    (λ rows e. plain_ruled (groups.if_unknown_user s.tables names ∷ []) _ rows (one_group (with_keys name_cmp names) (get s.tables.groups group)) e)
+plain_row s may now k (LeaveGroup group names) = plain_rules s (groups.leave_group s.tables group names) _
+    (λ rows e. plain_ruled (groups.if_unknown_user s.tables names ∷ []) _ rows (one_group (without_keys name_cmp names) (get s.tables.groups group)) e)
+plain_row s may now k (PostService service) = plain_rules s (services.add_service s.tables service) _
+    (λ rows e. plain_ruled (rules.if_so (contains_key s.tables.services service) (Exists service) ∷ rules.if_full 3 s.tables.limits.services (len s.tables.services) 1 ∷ []) (PutService (record { name = service }) ∷ []) rows refl e)
+plain_row s may now k (DeleteService service) = plain_rules s (services.delete_service s.tables service) done
+    (λ rows e. plain_ok _ rows (plain_if (contains_key s.tables.services service) (service_rows s.tables service) (service_plain s.tables service (service_rows s.tables service) refl)) e)
+plain_row s may now k (PutRole role scopes us gs vs) =
+    let x : Role = role_of role scopes us gs vs in
     plain_rules s (roles.put_role s.tables x) _
     (λ rows e. plain_ruled (rules.if_so (roles.is_fixed_role x.name) FixedRole ∷ roles.if_unknown_scope s.tables.scopes x.scopes ∷ roles.if_unknown_holder s.tables x
     ∷ rules.if_full 4 s.tables.limits.roles (len s.tables.roles) (cond (contains_key s.tables.roles x.name) 0 1) ∷ []) _ rows (one_role x (get s.tables.roles x.name)) e)
-plain_row s may now k (C34 r) = plain_rules s (roles.delete_role s.tables r) _
-    (λ rows e. plain_ruled (rules.if_so (roles.is_fixed_role r) FixedRole ∷ []) _ rows (plain_if (contains_key s.tables.roles r) (RemoveRole r ∷ []) refl) e)
+plain_row s may now k (DeleteRole role) = plain_rules s (roles.delete_role s.tables role) _
+    (λ rows e. plain_ruled (rules.if_so (roles.is_fixed_role role) FixedRole ∷ []) _ rows (plain_if (contains_key s.tables.roles role) (RemoveRole role ∷ []) refl) e)
 plain_row s may now k _ = tt
 
 -- ---- the frame

@@ -34,7 +34,7 @@ use Rattle.hub_machine.specs.declared.refusal.Refusal.{Refusal}
 use Rattle.hub_machine.specs.declared.refusal.Refusal.TheVariants.{SeenPast, Needs, NotFound, TrailFull}
 use Rattle.hub_machine.specs.declared.call.Asked.{Asked}
 use Rattle.hub_machine.specs.declared.call.Call.{Call}
-use Rattle.hub_machine.specs.declared.call.Call.TheVariants.{C5, C7, C8, C9, C23, C24, C25, C26, C29, C30, C33, C34}
+use Rattle.hub_machine.specs.declared.call.Call.TheVariants.{PostUsers, PostUser, PatchUser, DeleteUser, PostGroup, DeleteGroup, JoinGroup, LeaveGroup, PostService, DeleteService, PutRole, DeleteRole}
 
 -- whether an answer is said by a 503
 abbrev is_503 : Answer → Bool
@@ -67,21 +67,21 @@ put_or_made true = refl
 put_or_made false = refl
 
 no_row : (s : Hub) (may : Rights) (now : ℕ) (k : Token) (call : Call) → is_503 (row s may now k call) ≡ false
-no_row s may now k (C5 names admin) =
+no_row s may now k (PostUsers names admin) =
     ruled s (users.add_users s.tables names admin now) (λ after. good 201 (items (map (user_at may after) (users.unkept_users s.tables names)))) (λ t. refl)
-no_row s may now k (C7 u) = ruled s (users.add_users s.tables (u ∷ []) false now) (λ after. good 201 (user_at may after u)) (λ t. refl)
-no_row s may now k (C8 u admin) = ruled s (users.set_admin s.tables u admin) (λ after. good 200 (user_at may after u)) (λ t. refl)
-no_row s may now k (C9 u) = ruled s (users.delete_user s.tables u (has_live_server s.lives u)) done (λ t. refl)
-no_row s may now k (C23 g names) = ruled s (groups.add_group s.tables g names) (λ after. good 201 (group_at may after g)) (λ t. refl)
-no_row s may now k (C24 g) = ruled s (groups.delete_group s.tables g) done (λ t. refl)
-no_row s may now k (C25 g names) = ruled s (groups.join_group s.tables g names) (λ after. good 200 (group_at may after g)) (λ t. refl)
-no_row s may now k (C26 g names) = ruled s (groups.leave_group s.tables g names) (λ after. good 200 (group_at may after g)) (λ t. refl)
-no_row s may now k (C29 v) = ruled s (services.add_service s.tables v) (λ after. good 201 (service_body may after v)) (λ t. refl)
-no_row s may now k (C30 v) = ruled s (services.delete_service s.tables v) done (λ t. refl)
-no_row s may now k (C33 r scopes us gs vs) =
-    let x : Role = role_of r scopes us gs vs in
-    ruled s (roles.put_role s.tables x) (λ after. good (cond (contains_key s.tables.roles r) 200 201) (role_body x)) (λ t. put_or_made (contains_key s.tables.roles r))
-no_row s may now k (C34 r) = ruled s (roles.delete_role s.tables r) done (λ t. refl)
+no_row s may now k (PostUser user) = ruled s (users.add_users s.tables (user ∷ []) false now) (λ after. good 201 (user_at may after user)) (λ t. refl)
+no_row s may now k (PatchUser user admin) = ruled s (users.set_admin s.tables user admin) (λ after. good 200 (user_at may after user)) (λ t. refl)
+no_row s may now k (DeleteUser user) = ruled s (users.delete_user s.tables user (has_live_server s.lives user)) done (λ t. refl)
+no_row s may now k (PostGroup group names) = ruled s (groups.add_group s.tables group names) (λ after. good 201 (group_at may after group)) (λ t. refl)
+no_row s may now k (DeleteGroup group) = ruled s (groups.delete_group s.tables group) done (λ t. refl)
+no_row s may now k (JoinGroup group names) = ruled s (groups.join_group s.tables group names) (λ after. good 200 (group_at may after group)) (λ t. refl)
+no_row s may now k (LeaveGroup group names) = ruled s (groups.leave_group s.tables group names) (λ after. good 200 (group_at may after group)) (λ t. refl)
+no_row s may now k (PostService service) = ruled s (services.add_service s.tables service) (λ after. good 201 (service_body may after service)) (λ t. refl)
+no_row s may now k (DeleteService service) = ruled s (services.delete_service s.tables service) done (λ t. refl)
+no_row s may now k (PutRole role scopes us gs vs) =
+    let x : Role = role_of role scopes us gs vs in
+    ruled s (roles.put_role s.tables x) (λ after. good (cond (contains_key s.tables.roles role) 200 201) (role_body x)) (λ t. put_or_made (contains_key s.tables.roles role))
+no_row s may now k (DeleteRole role) = ruled s (roles.delete_role s.tables role) done (λ t. refl)
 no_row s may now k _ = refl
 
 -- ---- the frame

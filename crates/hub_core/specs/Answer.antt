@@ -19,7 +19,7 @@ use Rattle.hub_machine.specs.declared.refusal.Refusal.{Refusal}
 use Rattle.hub_machine.specs.declared.refusal.Refusal.TheVariants.{SeenPast, NoValidToken, Needs, NotFound}
 use Rattle.hub_machine.specs.declared.call.Asked.{Asked}
 use Rattle.hub_machine.specs.declared.call.Call.{Call}
-use Rattle.hub_machine.specs.declared.call.Call.TheVariants.{C1, C2, C3, C4, C5, C6, C7, C8, C9, C21, C22, C23, C24, C25, C26, C27, C28, C29, C30, C31, C32, C33, C34}
+use Rattle.hub_machine.specs.declared.call.Call.TheVariants.{GetVersion, GetInfo, GetIdentity, GetUsers, PostUsers, GetUser, PostUser, PatchUser, DeleteUser, GetGroups, GetGroup, PostGroup, DeleteGroup, JoinGroup, LeaveGroup, GetServices, GetService, PostService, DeleteService, GetRoles, GetRole, PutRole, DeleteRole}
 
 -- what is decided over all scopes and objects, and not by looking into the tables (see Judged)
 pub record Judgement : Type 0 where
@@ -33,29 +33,29 @@ page offset limit paged = record { offset = offset; limit = limit; paged = paged
 
 -- the rules of the call in their order, and its Ok: one definition for each call
 abbrev pub row : Hub → Rights → ℕ → Token → Call → Answer
-row s may now k C1 = get_version
-row s may now k C2 = get_info s
-row s may now k (C3 server) = get_identity s may k server
-row s may now k (C4 offset limit paged) = get_users s may (page offset limit paged)
-row s may now k (C5 names admin) = post_users s may now names admin
-row s may now k (C6 u) = get_user s may u
-row s may now k (C7 u) = post_user s may now u
-row s may now k (C8 u admin) = patch_user s may u admin
-row s may now k (C9 u) = delete_user s u
-row s may now k (C21 offset limit paged) = get_groups s may (page offset limit paged)
-row s may now k (C22 g) = get_group s may g
-row s may now k (C23 g users) = post_group s may g users
-row s may now k (C24 g) = delete_group s g
-row s may now k (C25 g users) = join_group s may g users
-row s may now k (C26 g users) = leave_group s may g users
-row s may now k (C27 offset limit paged) = get_services s may (page offset limit paged)
-row s may now k (C28 v) = get_service s may v
-row s may now k (C29 v) = post_service s may v
-row s may now k (C30 v) = delete_service s v
-row s may now k (C31 offset limit paged) = get_roles s (page offset limit paged)
-row s may now k (C32 r) = get_role s r
-row s may now k (C33 r scopes users groups services) = put_role s (role_of r scopes users groups services)
-row s may now k (C34 r) = delete_role s r
+row s may now k GetVersion = get_version
+row s may now k GetInfo = get_info s
+row s may now k (GetIdentity server) = get_identity s may k server
+row s may now k (GetUsers offset limit paged) = get_users s may (page offset limit paged)
+row s may now k (PostUsers names admin) = post_users s may now names admin
+row s may now k (GetUser user) = get_user s may user
+row s may now k (PostUser user) = post_user s may now user
+row s may now k (PatchUser user admin) = patch_user s may user admin
+row s may now k (DeleteUser user) = delete_user s user
+row s may now k (GetGroups offset limit paged) = get_groups s may (page offset limit paged)
+row s may now k (GetGroup group) = get_group s may group
+row s may now k (PostGroup group users) = post_group s may group users
+row s may now k (DeleteGroup group) = delete_group s group
+row s may now k (JoinGroup group users) = join_group s may group users
+row s may now k (LeaveGroup group users) = leave_group s may group users
+row s may now k (GetServices offset limit paged) = get_services s may (page offset limit paged)
+row s may now k (GetService service) = get_service s may service
+row s may now k (PostService service) = post_service s may service
+row s may now k (DeleteService service) = delete_service s service
+row s may now k (GetRoles offset limit paged) = get_roles s (page offset limit paged)
+row s may now k (GetRole role) = get_role s role
+row s may now k (PutRole role scopes users groups services) = put_role s (role_of role scopes users groups services)
+row s may now k (DeleteRole role) = delete_role s role
 
 -- ---- the frame
 

@@ -52,26 +52,36 @@ fn needs(call: &Call) -> Need
     ensures { result ≡ need.needs call.now }
 {
     match call {
-        Call::C1 | Call::C3 { .. } => Need::GoodToken,
-        Call::C2 => Need::On(Action::ReadHub, Object::Hub),
-        Call::C4 { .. } => Need::Held(Action::ListUsers),
-        Call::C5 { .. } | Call::C8 { .. } => Need::On(Action::AdminUsers, Object::Hub),
-        Call::C6 { u } => Need::On(Action::ReadUsersName, Object::User(*u)),
-        Call::C7 { u } => Need::On(Action::AdminUsers, Object::User(*u)),
-        Call::C9 { u } => Need::On(Action::DeleteUsers, Object::User(*u)),
-        Call::C21 { .. } => Need::Held(Action::ListGroups),
-        Call::C22 { g } => Need::On(Action::ReadGroupsName, Object::Group(*g)),
-        Call::C23 { g, .. } => Need::On(Action::AdminGroups, Object::Group(*g)),
-        Call::C24 { g } => Need::On(Action::DeleteGroups, Object::Group(*g)),
-        Call::C25 { g, .. } | Call::C26 { g, .. } => Need::On(Action::Groups, Object::Group(*g)),
-        Call::C27 { .. } => Need::Held(Action::ListServices),
-        Call::C28 { v } => Need::On(Action::ReadServicesName, Object::Service(*v)),
-        Call::C29 { v } | Call::C30 { v } => {
-            Need::On(Action::AdminServices, Object::Service(*v))
+        Call::GetVersion | Call::GetIdentity { .. } => Need::GoodToken,
+        Call::GetInfo => Need::On(Action::ReadHub, Object::Hub),
+        Call::GetUsers { .. } => Need::Held(Action::ListUsers),
+        Call::PostUsers { .. } | Call::PatchUser { .. } => Need::On(
+            Action::AdminUsers,
+            Object::Hub,
+        ),
+        Call::GetUser { user } => Need::On(Action::ReadUsersName, Object::User(*user)),
+        Call::PostUser { user } => Need::On(Action::AdminUsers, Object::User(*user)),
+        Call::DeleteUser { user } => Need::On(Action::DeleteUsers, Object::User(*user)),
+        Call::GetGroups { .. } => Need::Held(Action::ListGroups),
+        Call::GetGroup { group } => Need::On(Action::ReadGroupsName, Object::Group(*group)),
+        Call::PostGroup { group, .. } => Need::On(Action::AdminGroups, Object::Group(*group)),
+        Call::DeleteGroup { group } => Need::On(Action::DeleteGroups, Object::Group(*group)),
+        Call::JoinGroup { group, .. } | Call::LeaveGroup { group, .. } => Need::On(
+            Action::Groups,
+            Object::Group(*group),
+        ),
+        Call::GetServices { .. } => Need::Held(Action::ListServices),
+        Call::GetService { service } => Need::On(
+            Action::ReadServicesName,
+            Object::Service(*service),
+        ),
+        Call::PostService { service } | Call::DeleteService { service } => {
+            Need::On(Action::AdminServices, Object::Service(*service))
         }
-        Call::C31 { .. } | Call::C32 { .. } | Call::C33 { .. } | Call::C34 { .. } => {
-            Need::On(Action::AdminRoles, Object::Hub)
-        }
+        Call::GetRoles { .. }
+        | Call::GetRole { .. }
+        | Call::PutRole { .. }
+        | Call::DeleteRole { .. } => { Need::On(Action::AdminRoles, Object::Hub) }
     }
 }
 
@@ -80,7 +90,7 @@ fn needs_token(call: &Call) -> bool
     ensures { result ≡ need.needs_token call.now }
 {
     match call {
-        Call::C1 => false,
+        Call::GetVersion => false,
         _ => true,
     }
 }
@@ -154,13 +164,15 @@ fn is_there(hub: &Machine, call: &Call) -> bool
     ensures { result ≡ need.is_there hub.now.tables call.now }
 {
     match call {
-        Call::C6 { u } | Call::C8 { u, .. } | Call::C9 { u } => has_user(hub, u),
-        Call::C22 { g } | Call::C24 { g } | Call::C25 { g, .. } | Call::C26 { g, .. } => {
-            has_group(hub, g)
-        }
-        Call::C28 { v } | Call::C30 { v } => has_service(hub, v),
-        Call::C32 { r } => has_role(hub, r),
-        Call::C34 { r } => is_fixed_role(r) || has_role(hub, r),
+        Call::GetUser { user } | Call::PatchUser { user, .. } | Call::DeleteUser { user } =>
+            has_user(hub, user),
+        Call::GetGroup { group }
+        | Call::DeleteGroup { group }
+        | Call::JoinGroup { group, .. }
+        | Call::LeaveGroup { group, .. } => { has_group(hub, group) }
+        Call::GetService { service } | Call::DeleteService { service } => has_service(hub, service),
+        Call::GetRole { role } => has_role(hub, role),
+        Call::DeleteRole { role } => is_fixed_role(role) || has_role(hub, role),
         _ => true,
     }
 }
@@ -202,7 +214,7 @@ fn token_with<'a>(tables: &'a Tables, hash: &Text) -> Option<&'a Token>
     tables.token_of_hash(hash)
 }
 
-/// What the rules of `PUT /roles/{r}` answer, for the role with these lists.
+/// What the rules of `PUT /roles/{role}` answer, for the role with these lists.
 fn put_role_with(
     alloc: Global,
     hub: &Machine,
@@ -240,53 +252,59 @@ fn row(
     ensures { IfOk result (λ answer. answer_view answer ≡ spec.row hub.now (may_of hub.now rights.now) now token.now call.now) }
 {
     match call {
-        Call::C1 => get_version(alloc),
-        Call::C2 => get_info(alloc, hub),
-        Call::C3 { for_server } => get_identity(alloc, hub, rights, token, for_server),
-        Call::C4 {
+        Call::GetVersion => get_version(alloc),
+        Call::GetInfo => get_info(alloc, hub),
+        Call::GetIdentity { for_server } => get_identity(alloc, hub, rights, token, for_server),
+        Call::GetUsers {
             offset,
             limit,
             paged,
         } => get_users(alloc, hub, rights, page(*offset, *limit, *paged)),
-        Call::C5 { usernames, admin } => {
+        Call::PostUsers { usernames, admin } => {
             post_users(alloc, hub, rights, now, usernames.as_slice(), *admin)
         }
-        Call::C6 { u } => get_user(alloc, hub, rights, u),
-        Call::C7 { u } => post_user(alloc, hub, rights, now, u),
-        Call::C8 { u, admin } => patch_user(alloc, hub, rights, u, *admin),
-        Call::C9 { u } => delete_user(alloc, hub, u),
-        Call::C21 {
+        Call::GetUser { user } => get_user(alloc, hub, rights, user),
+        Call::PostUser { user } => post_user(alloc, hub, rights, now, user),
+        Call::PatchUser { user, admin } => patch_user(alloc, hub, rights, user, *admin),
+        Call::DeleteUser { user } => delete_user(alloc, hub, user),
+        Call::GetGroups {
             offset,
             limit,
             paged,
         } => get_groups(alloc, hub, rights, page(*offset, *limit, *paged)),
-        Call::C22 { g } => get_group(alloc, hub, rights, g),
-        Call::C23 { g, users } => post_group(alloc, hub, rights, g, users.as_slice()),
-        Call::C24 { g } => delete_group(alloc, hub, g),
-        Call::C25 { g, users } => join_group(alloc, hub, rights, g, users.as_slice()),
-        Call::C26 { g, users } => leave_group(alloc, hub, rights, g, users.as_slice()),
-        Call::C27 {
+        Call::GetGroup { group } => get_group(alloc, hub, rights, group),
+        Call::PostGroup { group, users } => post_group(alloc, hub, rights, group, users.as_slice()),
+        Call::DeleteGroup { group } => delete_group(alloc, hub, group),
+        Call::JoinGroup { group, users } => join_group(alloc, hub, rights, group, users.as_slice()),
+        Call::LeaveGroup { group, users } => leave_group(
+            alloc,
+            hub,
+            rights,
+            group,
+            users.as_slice(),
+        ),
+        Call::GetServices {
             offset,
             limit,
             paged,
         } => get_services(alloc, hub, rights, page(*offset, *limit, *paged)),
-        Call::C28 { v } => get_service(alloc, hub, rights, v),
-        Call::C29 { v } => post_service(alloc, hub, rights, v),
-        Call::C30 { v } => delete_service(alloc, hub, v),
-        Call::C31 {
+        Call::GetService { service } => get_service(alloc, hub, rights, service),
+        Call::PostService { service } => post_service(alloc, hub, rights, service),
+        Call::DeleteService { service } => delete_service(alloc, hub, service),
+        Call::GetRoles {
             offset,
             limit,
             paged,
         } => get_roles(alloc, hub, page(*offset, *limit, *paged)),
-        Call::C32 { r } => get_role(alloc, hub, r),
-        Call::C33 {
-            r,
+        Call::GetRole { role } => get_role(alloc, hub, role),
+        Call::PutRole {
+            role,
             scopes,
             users,
             groups,
             services,
-        } => put_role_with(alloc, hub, r, scopes, users, groups, services),
-        Call::C34 { r } => delete_role(alloc, hub, r),
+        } => put_role_with(alloc, hub, role, scopes, users, groups, services),
+        Call::DeleteRole { role } => delete_role(alloc, hub, role),
     }
 }
 

@@ -4,114 +4,114 @@ use hub_kit::names::{GroupName, RoleName, ServerKey, ServiceName, UserName};
 use hub_kit::text::Text;
 use scope_filters::scope::RawScope;
 
-/// A call of JupyterHub's REST API. The numbers are the places in the table of calls. The fields are the path's names, the
-/// query's keys and the body's keys, in this order; a list that can be paged has `paged` last.
+/// A call of JupyterHub's REST API, named by its method and what it is on. The fields are the path's names, the query's keys and
+/// the body's keys, in this order; a list that can be paged has `paged` last.
 #[derive(Drop)]
 pub enum Call {
     /// `GET /`: the version. It needs no token.
-    C1,
+    GetVersion,
     /// `GET /info`: how many targets there are, and how many are leased.
-    C2,
+    GetInfo,
     /// `GET /user`: who the token's owner is, and where a server is named, whether the caller has access to it.
-    C3 {
+    GetIdentity {
         for_server: Option<ServerKey>,
     },
     /// `GET /users`
-    C4 {
+    GetUsers {
         offset: u64,
         limit: u64,
         paged: bool,
     },
     /// `POST /users`. There is a name, and the names are distinct.
-    C5 {
+    PostUsers {
         usernames: List<UserName>,
         admin: bool,
     },
-    /// `GET /users/{u}`
-    C6 {
-        u: UserName,
+    /// `GET /users/{user}`
+    GetUser {
+        user: UserName,
     },
-    /// `POST /users/{u}`
-    C7 {
-        u: UserName,
+    /// `POST /users/{user}`
+    PostUser {
+        user: UserName,
     },
-    /// `PATCH /users/{u}`
-    C8 {
-        u: UserName,
+    /// `PATCH /users/{user}`
+    PatchUser {
+        user: UserName,
         admin: bool,
     },
-    /// `DELETE /users/{u}`
-    C9 {
-        u: UserName,
+    /// `DELETE /users/{user}`
+    DeleteUser {
+        user: UserName,
     },
     /// `GET /groups`
-    C21 {
+    GetGroups {
         offset: u64,
         limit: u64,
         paged: bool,
     },
-    /// `GET /groups/{g}`
-    C22 {
-        g: GroupName,
+    /// `GET /groups/{group}`
+    GetGroup {
+        group: GroupName,
     },
-    /// `POST /groups/{g}`
-    C23 {
-        g: GroupName,
+    /// `POST /groups/{group}`
+    PostGroup {
+        group: GroupName,
         users: List<UserName>,
     },
-    /// `DELETE /groups/{g}`
-    C24 {
-        g: GroupName,
+    /// `DELETE /groups/{group}`
+    DeleteGroup {
+        group: GroupName,
     },
-    /// `POST /groups/{g}/users`
-    C25 {
-        g: GroupName,
+    /// `POST /groups/{group}/users`
+    JoinGroup {
+        group: GroupName,
         users: List<UserName>,
     },
-    /// `DELETE /groups/{g}/users`
-    C26 {
-        g: GroupName,
+    /// `DELETE /groups/{group}/users`
+    LeaveGroup {
+        group: GroupName,
         users: List<UserName>,
     },
     /// `GET /services`
-    C27 {
+    GetServices {
         offset: u64,
         limit: u64,
         paged: bool,
     },
-    /// `GET /services/{v}`
-    C28 {
-        v: ServiceName,
+    /// `GET /services/{service}`
+    GetService {
+        service: ServiceName,
     },
-    /// `POST /services/{v}`
-    C29 {
-        v: ServiceName,
+    /// `POST /services/{service}`
+    PostService {
+        service: ServiceName,
     },
-    /// `DELETE /services/{v}`
-    C30 {
-        v: ServiceName,
+    /// `DELETE /services/{service}`
+    DeleteService {
+        service: ServiceName,
     },
     /// `GET /roles`
-    C31 {
+    GetRoles {
         offset: u64,
         limit: u64,
         paged: bool,
     },
-    /// `GET /roles/{r}`
-    C32 {
-        r: RoleName,
+    /// `GET /roles/{role}`
+    GetRole {
+        role: RoleName,
     },
-    /// `PUT /roles/{r}`
-    C33 {
-        r: RoleName,
+    /// `PUT /roles/{role}`
+    PutRole {
+        role: RoleName,
         scopes: List<RawScope>,
         users: List<UserName>,
         groups: List<GroupName>,
         services: List<ServiceName>,
     },
-    /// `DELETE /roles/{r}`
-    C34 {
-        r: RoleName,
+    /// `DELETE /roles/{role}`
+    DeleteRole {
+        role: RoleName,
     },
 }
 

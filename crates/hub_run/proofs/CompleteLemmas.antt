@@ -20,7 +20,7 @@ use Rattle.hub_core.specs.Visits.{Reached}
 use Rattle.hub_kit.specs.declared.names.ServerKey.{ServerKey}
 use Rattle.hub_machine.specs.declared.change.Change.{Change}
 use Rattle.hub_machine.specs.declared.call.Asked.{Asked}
-use Rattle.hub_machine.specs.declared.call.Call.TheVariants.{C3}
+use Rattle.hub_machine.specs.declared.call.Call.TheVariants.{GetIdentity}
 use Rattle.hub_rows.specs.declared.records.Token.{Token}
 use Rattle.hub_run.specs.Complete.{IsOf, MayBeTold}
 use Rattle.hub_run.specs.Turns.{Turn, View, Visit, Visits, visited, declined, refused, wanting, TurnAt, IsAnswered}
@@ -87,7 +87,7 @@ its_turn one start left text more rest request wanting is at = _
 -- what a good token is answered to the call for its owner
 good_answer_is : (state : Hub) (moment : ℕ) (j : Judgement) (request : Request) (server : Option ServerKey) (token : Token)
     → is_past state.length request.seen ≡ false → good_token state.tables moment request.token ≡ Some token
-    → answer state moment None j (asked request (C3 server)) ≡ get_identity state j.may token server
+    → answer state moment None j (asked request (GetIdentity server)) ≡ get_identity state j.may token server
 good_answer_is state moment j request server token past good = rw (past, good) refl
 
 same_asked : (a b : Asked) (e : Result Asked ApiRefusal) → e ≡ Ok a → e ≡ Ok b → a ≡ b
@@ -102,7 +102,7 @@ its_answer : (start : Hub) (request : Request) (v : Visit) (state : Hub) (call :
     → (g : Good) × (r ≡ gives g) × (g.status ≡ 200)
 its_answer start request v state call r reached answers read good =
     let token = good.token state reached in
-    let is : call ≡ asked request (C3 good.server) = same_asked call (asked request (C3 good.server)) (call_read request) read good.call in (
+    let is : call ≡ asked request (GetIdentity good.server) = same_asked call (asked request (GetIdentity good.server)) (call_read request) read good.call in (
       _,
       answers.is ∙ (ap (λ (c : Asked). answer state v.moment None answers.judgement c) is
           ∙ good_answer_is state v.moment answers.judgement request good.server token.0 (good.seen state reached) token.1),

@@ -6,7 +6,7 @@ use Rattle.hub_api.specs.Calls.{call_read, asked}
 use Rattle.hub_core.specs.Answer.{is_past, good_token}
 use Rattle.hub_machine.specs.State.{Hub}
 use Rattle.hub_core.specs.Visits.{Reached}
-use Rattle.hub_machine.specs.declared.call.Call.TheVariants.{C3}
+use Rattle.hub_machine.specs.declared.call.Call.TheVariants.{GetIdentity}
 use Rattle.hub_rows.specs.declared.records.Token.{Token}
 use Rattle.hub_run.specs.Turns.{Turn, Visit, visited, declined, refused, wanting}
 
@@ -21,6 +21,6 @@ IsOf request wanting = Unit {0}
 -- the history and its token is kept and good
 pub record MayBeTold (start : Hub) (request : Request) (v : Visit) : Type 0 where
   pub server : Option ServerKey
-  pub call : call_read request ≡ Ok (asked request (C3 server))
+  pub call : call_read request ≡ Ok (asked request (GetIdentity server))
   pub seen : (state : Hub) → Reached start v.before state → is_past state.length request.seen ≡ false
   pub token : (state : Hub) → Reached start v.before state → (token : Token) × (good_token state.tables v.moment request.token ≡ Some token)

@@ -28,7 +28,7 @@ use Rattle.hub_machine.specs.declared.refusal.Refusal.{Refusal}
 use Rattle.hub_machine.specs.declared.refusal.Refusal.TheVariants.{Needs, NotFound, NoValidToken, SeenPast}
 use Rattle.hub_machine.specs.declared.call.Asked.{Asked}
 use Rattle.hub_machine.specs.declared.call.Call.{Call}
-use Rattle.hub_machine.specs.declared.call.Call.TheVariants.{C1, C2, C3, C4, C6, C21, C22, C27, C28, C31, C32}
+use Rattle.hub_machine.specs.declared.call.Call.TheVariants.{GetVersion, GetInfo, GetIdentity, GetUsers, GetUser, GetGroups, GetGroup, GetServices, GetService, GetRoles, GetRole}
 use Rattle.hub_calls.specs.Facts.{body_of_user, body_of_group, body_of_role, user_body, group_body, service_body, users_shown, groups_shown, services_shown}
 use Rattle.hub_calls.specs.Users.{get_version, get_info, identity, identity_of_user}
 use Rattle.hub_core.specs.Needs.{needs, needs_token}
@@ -157,49 +157,49 @@ module _ (k : Token) (s t : Hub) (seen : SeesSame k s t) where
     abbrev Same : Call → Type 0
     Same call = Says s k j.may → replies now s j call ≡ replies now t j call
 
-    info : Same C2
+    info : Same GetInfo
     info can = on_object j.is_held (j.may A.ReadHub Ob.Hub) (Needs A.ReadHub) (get_info s) (get_info t) (λ m.
         let leases = seen.leases (can A.ReadHub Ob.Hub m) in
         let pool = seen.pool (can A.ReadHub Ob.Hub m) in
         λ i. gives (good 200 (pairs ((codes "leases", whole (leases i)) ∷ (codes "pool", whole (pool i)) ∷ (codes "version", line (codes "5.0.0")) ∷ []))))
 
-    one_user : (u : List ℕ) → Same (C6 u)
+    one_user : (user : List ℕ) → Same (GetUser user)
     one_user u can = on_object j.is_held (j.may A.ReadUsersName (Ob.User u)) (Needs A.ReadUsersName) _ _ (λ m.
         user_found own own' j.may can u (get s.tables.users u) (get t.tables.users u) (own.users u) (own'.users u) (seen.users u (inr (inr (can A.ReadUsersName (Ob.User u) m)))))
 
-    one_group : (g : List ℕ) → Same (C22 g)
+    one_group : (group : List ℕ) → Same (GetGroup group)
     one_group g can = on_object j.is_held (j.may A.ReadGroupsName (Ob.Group g)) (Needs A.ReadGroupsName) _ _ (λ m.
         group_found own own' j.may can g (get s.tables.groups g) (get t.tables.groups g) (own.groups g) (own'.groups g) (seen.groups g (inr (can A.ReadGroupsName (Ob.Group g) m))))
 
-    one_service : (v : List ℕ) → Same (C28 v)
+    one_service : (service : List ℕ) → Same (GetService service)
     one_service v can = on_object j.is_held (j.may A.ReadServicesName (Ob.Service v)) (Needs A.ReadServicesName) _ _ (λ m.
         let same = seen.services v (inr (inr (can A.ReadServicesName (Ob.Service v) m))) in
         same_found (contains_key s.tables.services v) (contains_key t.tables.services v) _ _ same.there (λ there. same_service own own' j.may can v same))
 
-    one_role : (r : List ℕ) → Same (C32 r)
+    one_role : (role : List ℕ) → Same (GetRole role)
     one_role r can = on_object j.is_held (j.may A.AdminRoles Ob.Hub) (Needs A.AdminRoles) _ _ (λ m.
         let same = same_all_roles own own' j.may can m in
         same_found (contains_key s.tables.roles r) (contains_key t.tables.roles r) _ _ (ap (λ roles. contains_key roles r) same)
         (λ there. ap (λ roles. body_of_role (get roles r)) same))
 
-    all_users : (offset limit : ℕ) (paged : Bool) → Same (C4 offset limit paged)
+    all_users : (offset limit : ℕ) (paged : Bool) → Same (GetUsers offset limit paged)
     all_users offset limit paged can = where_held j.is_held (Needs A.ListUsers) _ _
         (ap (λ shown. gives (good 200 (paged_list (codes "/users") (record { offset = offset; limit = limit; paged = paged }) shown))) (same_users own own' j.may can))
 
-    all_groups : (offset limit : ℕ) (paged : Bool) → Same (C21 offset limit paged)
+    all_groups : (offset limit : ℕ) (paged : Bool) → Same (GetGroups offset limit paged)
     all_groups offset limit paged can = where_held j.is_held (Needs A.ListGroups) _ _
         (ap (λ shown. gives (good 200 (paged_list (codes "/groups") (record { offset = offset; limit = limit; paged = paged }) shown))) (same_groups own own' j.may can))
 
-    all_services : (offset limit : ℕ) (paged : Bool) → Same (C27 offset limit paged)
+    all_services : (offset limit : ℕ) (paged : Bool) → Same (GetServices offset limit paged)
     all_services offset limit paged can = where_held j.is_held (Needs A.ListServices) _ _
         (ap (λ shown. gives (good 200 (paged_list (codes "/services") (record { offset = offset; limit = limit; paged = paged }) shown))) (same_services own own' j.may can))
 
-    all_roles : (offset limit : ℕ) (paged : Bool) → Same (C31 offset limit paged)
+    all_roles : (offset limit : ℕ) (paged : Bool) → Same (GetRoles offset limit paged)
     all_roles offset limit paged can = on_object j.is_held (j.may A.AdminRoles Ob.Hub) (Needs A.AdminRoles) _ _ (λ m.
         ap (λ (roles : FinMap name_cmp Role). gives (good 200 (paged_list (codes "/roles") (record { offset = offset; limit = limit; paged = paged }) (map role_body (values roles)))))
         (same_all_roles own own' j.may can m))
 
-    who : (server : Option ServerKey) → Same (C3 server)
+    who : (server : Option ServerKey) → Same (GetIdentity server)
     who server can = ap (λ body. gives (good 200 body)) (same_identity own own' j.may can server k.owner refl)
 
   -- ---- by the rights in each state
@@ -214,18 +214,18 @@ module _ (k : Token) (s t : Hub) (seen : SeesSame k s t) where
 
     by_get : (call : Call) → IsTrue (is_get call) → JudgesCaller s.tables (needs call) j (decides call) → JudgesCaller t.tables (needs call) j' (decides call)
         → replies now s j call ≡ replies now t j' call
-    by_get C1 get a b = refl
-    by_get C2 get a b = on_one C2 (same_on A.ReadHub Ob.Hub j j' a b) (says (On A.ReadHub Ob.Hub) j a) (info own own' now j)
-    by_get (C3 server) get a b =
+    by_get GetVersion get a b = refl
+    by_get GetInfo get a b = on_one GetInfo (same_on A.ReadHub Ob.Hub j j' a b) (says (On A.ReadHub Ob.Hub) j a) (info own own' now j)
+    by_get (GetIdentity server) get a b =
         who own own' now j server (says GoodToken j a) ∙ ap (λ (may : view.Rights). gives (good 200 (identity may t k server k.owner))) (same_rights GoodToken GoodToken j j' a b)
-    by_get (C4 offset limit paged) get a b = on_one (C4 offset limit paged) (same_some A.ListUsers j j' a b) (says (Held A.ListUsers) j a) (all_users own own' now j offset limit paged)
-    by_get (C6 u) get a b = on_one (C6 u) (same_on A.ReadUsersName (Ob.User u) j j' a b) (says (On A.ReadUsersName (Ob.User u)) j a) (one_user own own' now j u)
-    by_get (C21 offset limit paged) get a b = on_one (C21 offset limit paged) (same_some A.ListGroups j j' a b) (says (Held A.ListGroups) j a) (all_groups own own' now j offset limit paged)
-    by_get (C22 g) get a b = on_one (C22 g) (same_on A.ReadGroupsName (Ob.Group g) j j' a b) (says (On A.ReadGroupsName (Ob.Group g)) j a) (one_group own own' now j g)
-    by_get (C27 offset limit paged) get a b = on_one (C27 offset limit paged) (same_some A.ListServices j j' a b) (says (Held A.ListServices) j a) (all_services own own' now j offset limit paged)
-    by_get (C28 v) get a b = on_one (C28 v) (same_on A.ReadServicesName (Ob.Service v) j j' a b) (says (On A.ReadServicesName (Ob.Service v)) j a) (one_service own own' now j v)
-    by_get (C31 offset limit paged) get a b = on_one (C31 offset limit paged) (same_on A.AdminRoles Ob.Hub j j' a b) (says (On A.AdminRoles Ob.Hub) j a) (all_roles own own' now j offset limit paged)
-    by_get (C32 r) get a b = on_one (C32 r) (same_on A.AdminRoles Ob.Hub j j' a b) (says (On A.AdminRoles Ob.Hub) j a) (one_role own own' now j r)
+    by_get (GetUsers offset limit paged) get a b = on_one (GetUsers offset limit paged) (same_some A.ListUsers j j' a b) (says (Held A.ListUsers) j a) (all_users own own' now j offset limit paged)
+    by_get (GetUser user) get a b = on_one (GetUser user) (same_on A.ReadUsersName (Ob.User user) j j' a b) (says (On A.ReadUsersName (Ob.User user)) j a) (one_user own own' now j user)
+    by_get (GetGroups offset limit paged) get a b = on_one (GetGroups offset limit paged) (same_some A.ListGroups j j' a b) (says (Held A.ListGroups) j a) (all_groups own own' now j offset limit paged)
+    by_get (GetGroup group) get a b = on_one (GetGroup group) (same_on A.ReadGroupsName (Ob.Group group) j j' a b) (says (On A.ReadGroupsName (Ob.Group group)) j a) (one_group own own' now j group)
+    by_get (GetServices offset limit paged) get a b = on_one (GetServices offset limit paged) (same_some A.ListServices j j' a b) (says (Held A.ListServices) j a) (all_services own own' now j offset limit paged)
+    by_get (GetService service) get a b = on_one (GetService service) (same_on A.ReadServicesName (Ob.Service service) j j' a b) (says (On A.ReadServicesName (Ob.Service service)) j a) (one_service own own' now j service)
+    by_get (GetRoles offset limit paged) get a b = on_one (GetRoles offset limit paged) (same_on A.AdminRoles Ob.Hub j j' a b) (says (On A.AdminRoles Ob.Hub) j a) (all_roles own own' now j offset limit paged)
+    by_get (GetRole role) get a b = on_one (GetRole role) (same_on A.AdminRoles Ob.Hub j j' a b) (says (On A.AdminRoles Ob.Hub) j a) (one_role own own' now j role)
     by_get _ get a b = absurd (cc)
 
 -- ---- the frame

@@ -9,22 +9,22 @@ use Rattle.hub_machine.specs.State.{Hub}
 use Rattle.hub_machine.specs.Replies.{Reply}
 use Rattle.hub_machine.specs.declared.call.Asked.{Asked}
 use Rattle.hub_machine.specs.declared.call.Call.{Call}
-use Rattle.hub_machine.specs.declared.call.Call.TheVariants.{C1, C2, C3, C4, C6, C21, C22, C27, C28, C31, C32}
+use Rattle.hub_machine.specs.declared.call.Call.TheVariants.{GetVersion, GetInfo, GetIdentity, GetUsers, GetUser, GetGroups, GetGroup, GetServices, GetService, GetRoles, GetRole}
 use Rattle.hub_core.specs.Answer.{is_past}
 
 -- the calls whose method is GET
 abbrev pub is_get : Call → Bool
-is_get C1 = true
-is_get C2 = true
-is_get (C3 server) = true
-is_get (C4 offset limit paged) = true
-is_get (C6 u) = true
-is_get (C21 offset limit paged) = true
-is_get (C22 g) = true
-is_get (C27 offset limit paged) = true
-is_get (C28 v) = true
-is_get (C31 offset limit paged) = true
-is_get (C32 r) = true
+is_get GetVersion = true
+is_get GetInfo = true
+is_get (GetIdentity server) = true
+is_get (GetUsers offset limit paged) = true
+is_get (GetUser user) = true
+is_get (GetGroups offset limit paged) = true
+is_get (GetGroup group) = true
+is_get (GetServices offset limit paged) = true
+is_get (GetService service) = true
+is_get (GetRoles offset limit paged) = true
+is_get (GetRole role) = true
 is_get _ = false
 
 -- the row of a text, good or over

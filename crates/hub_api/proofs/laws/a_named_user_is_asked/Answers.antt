@@ -1,5 +1,5 @@
 use Rattle.std.proofs.Common.{ap, ◌∙◌, Option, List, ℕ, Ok, ok_or}
-use Rattle.hub_machine.specs.declared.call.Call.TheVariants.{C6}
+use Rattle.hub_machine.specs.declared.call.Call.TheVariants.{GetUser}
 use Rattle.request_parts.specs.Names.{name_of}
 use Rattle.request_parts.specs.Paths.{read_in_path}
 use Rattle.request_parts.proofs.OnLiterals.{ann_is_read}
@@ -18,5 +18,5 @@ returns c =
     let q = c.args.request.now in
     ap (λ (row : Option ℕ). call_of row q >>= (λ call. Ok (asked q call))) (ap row_of c.requires.path ∙ user_row)
     ∙ (ap (λ (m : List ℕ). at_row 5 (method_of m) q >>= (λ call. Ok (asked q call))) c.requires.method
-    ∙ ap (λ (u : Option (List ℕ)). (ok_or u (BadName 4) >>= (λ u. Ok (C6 u))) >>= (λ call. Ok (asked q call)))
+    ∙ ap (λ (user : Option (List ℕ)). (ok_or user (BadName 4) >>= (λ u. Ok (GetUser user))) >>= (λ call. Ok (asked q call)))
     (ap (λ (p : List ℕ). read_in_path name_of 4 p) c.requires.path ∙ ann_is_read))

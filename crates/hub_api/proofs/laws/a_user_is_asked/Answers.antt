@@ -1,5 +1,5 @@
 use Rattle.std.proofs.Common.{ap, ◌∙◌, codes, Option, List, ℕ, Ok}
-use Rattle.hub_machine.specs.declared.call.Call.TheVariants.{C3}
+use Rattle.hub_machine.specs.declared.call.Call.TheVariants.{GetIdentity}
 use Rattle.request_parts.proofs.OnLiterals.{no_query}
 use Rattle.request_parts.specs.Queries.{query_value}
 use Rattle.request_parts.specs.Steps.{◌>>=◌}
@@ -16,5 +16,5 @@ returns c =
     let q = c.args.request.now in
     ap (λ (row : Option ℕ). call_of row q >>= (λ call. Ok (asked q call))) (ap row_of c.requires.path ∙ identity_row)
     ∙ (ap (λ (m : List ℕ). at_row 3 (method_of m) q >>= (λ call. Ok (asked q call))) c.requires.method
-    ∙ ap (λ (v : Option (List ℕ)). (server_in v >>= (λ server. Ok (C3 server))) >>= (λ call. Ok (asked q call)))
+    ∙ ap (λ (v : Option (List ℕ)). (server_in v >>= (λ server. Ok (GetIdentity server))) >>= (λ call. Ok (asked q call)))
     (ap (λ (s : List ℕ). query_value (codes "for") s) c.requires.query ∙ no_query (codes "for")))
