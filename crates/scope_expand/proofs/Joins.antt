@@ -1,10 +1,10 @@
 -- The filters of two grants together.
-use Rattle.std.proofs.Common.{◌≡◌, Bool, true, false, ◌&&◌, ◌||◌, cond, List, [], ◌∷◌, Some, Result, Ok, Err, OnOk, OnErr, refl, sym, ap, subst, ◌∙◌, inl, inr, IsTrue, T}
+use Rattle.std.proofs.Common.{◌≡◌, Bool, true, false, ◌&&◌, ◌||◌, cond, List, [], ◌∷◌, Some, refl, sym, ap, subst, ◌∙◌, T}
 use Rattle.std.specs.List.{list_any}
 use Rattle.std.specs.declared.cmp.Ordering.{Ordering}
 use Rattle.std.specs.declared.cmp.Ordering.TheVariants.{Less, Equal, Greater}
 use Rattle.std.specs.Ordering.{is_eq, is_lt}
-use Rattle.std.specs.FinMap.{keys, entries, entries_sorted, get-entries}
+use Rattle.std.specs.FinMap.{empty, keys, entries, entries_sorted, get-entries}
 use Rattle.std.specs.FinMap.Entries.{find, below_all, is_sorted}
 use Rattle.std.specs.FinSet.{FinSet}
 use Rattle.keyed_rows.proofs.Finite.{tied}
@@ -16,10 +16,10 @@ use Rattle.scope_filters.specs.Admits.{admits}
 use Rattle.scope_filters.specs.Contexts.{Context}
 use Rattle.scope_filters.specs.FilterOrder.{filter_cmp}
 use Rattle.scope_filters.specs.Grants.{Rights, listed, with_filter, grant_admits}
-use Rattle.scope_expand.specs.Passes.{passes, is_owner_of, HasNoOwnerOf, IsBetween, IsJoin, IsPartOfJoin}
-use Rattle.scope_expand.specs.Covering.{row_passes}
-use Rattle.scope_expand.proofs.Ones.{or_cases, or_left, or_right, left, both_false}
-use Rattle.scope_expand.proofs.Held.{passes_more}
+use Rattle.scope_expand.specs.Passes.{passes, is_owner_of, HasNoOwnerOf}
+use Rattle.scope_expand.specs.Covering.{IsJoin, row_passes}
+use Rattle.scope_expand.proofs.Ones.{both_false}
+use Rattle.scope_expand.proofs.Held.{passes_more, none_passes}
 
 -- ---- the entries of a grant, one by one
 
@@ -94,69 +94,43 @@ or_false false = refl
 
 -- the invariant of the loop over an entry's filters: what is there, and what is still to come, is all
 abbrev pub Adding : Rights → Action → FinSet filter_cmp → List Filter → Rights → Type 0
-Adding old b row rest g = (p : Filter → Bool) (a : Action) →
-    ((passes p g a || (same_action a b && list_any p rest)) ≡ (passes p old a || row_passes p a (b, row))) × (IsTrue (passes p old a) → IsTrue (passes p g a))
+Adding old b row rest g = (p : Filter → Bool) (a : Action) → (passes p g a || (same_action a b && list_any p rest)) ≡ (passes p old a || row_passes p a (b, row))
 
 pub adding_more : (old : Rights) (b : Action) (row : FinSet filter_cmp) (f : Filter) (left rest : List Filter) (g h : Rights)
     → left ≡ f ∷ rest → h ≡ with_filter g b f → Adding old b row left g → Adding old b row rest h
 adding_more old b row f left rest g h l e so_far p a =
-    let new : passes p h a ≡ ((same_action a b && p f) || passes p g a) = ap (λ g. passes p g a) e ∙ passes_more p g b a f in (
-      ap (λ o. o || (same_action a b && list_any p rest)) new ∙ moved (same_action a b) (p f) (passes p g a) (list_any p rest)
-          ∙ ap (λ fs. passes p g a || (same_action a b && list_any p fs)) (sym l) ∙ (so_far p a).0,
-      λ k. new ∙ or_right (same_action a b && p f) (passes p g a) ((so_far p a).1 k),
-    )
+    ap (λ o. o || (same_action a b && list_any p rest)) (ap (λ g. passes p g a) e ∙ passes_more p g b a f) ∙ moved (same_action a b) (p f) (passes p g a) (list_any p rest)
+    ∙ ap (λ fs. passes p g a || (same_action a b && list_any p fs)) (sym l) ∙ so_far p a
 
 pub all_added : (old : Rights) (b : Action) (row : FinSet filter_cmp) (rest : List Filter) (g : Rights) → rest ≡ [] → Adding old b row rest g
     → (p : Filter → Bool) (a : Action) → passes p g a ≡ (passes p old a || row_passes p a (b, row))
-all_added old b row rest g e so_far p a = sym (or_nothing (passes p g a) (same_action a b)) ∙ ap (λ fs. passes p g a || (same_action a b && list_any p fs)) (sym e) ∙ (so_far p a).0
-
-pub part_added : (old : Rights) (b : Action) (row : FinSet filter_cmp) (rest : List Filter) (g h : Rights) → h ≡ g → Adding old b row rest g
-    → (p : Filter → Bool) (a : Action) → IsBetween (passes p old a) (passes p h a) (passes p old a || row_passes p a (b, row))
-part_added old b row rest g h e so_far p a =
-    let same = ap (λ g. passes p g a) e in
-    (λ k. same ∙ (so_far p a).1 k, λ k. sym (so_far p a).0 ∙ or_left (passes p g a) (same_action a b && list_any p rest) (sym same ∙ k))
+all_added old b row rest g e so_far p a = sym (or_nothing (passes p g a) (same_action a b)) ∙ ap (λ fs. passes p g a || (same_action a b && list_any p fs)) (sym e) ∙ so_far p a
 
 -- the same of the loop over the entries
 abbrev pub Joining : Rights → Rights → List (Action × FinSet filter_cmp) → Rights → Type 0
-Joining old other rest g = (p : Filter → Bool) (a : Action) →
-    ((passes p g a || list_any (row_passes p a) rest) ≡ (passes p old a || passes p other a)) × (IsTrue (passes p old a) → IsTrue (passes p g a))
+Joining old other rest g = (p : Filter → Bool) (a : Action) → (passes p g a || list_any (row_passes p a) rest) ≡ (passes p old a || passes p other a)
 
 pub joining_none : (old other : Rights) (rest : List (Action × FinSet filter_cmp)) → rest ≡ entries other → Joining old other rest old
-joining_none old other rest e p a = (ap (λ b. passes p old a || b) (ap (list_any (row_passes p a)) e ∙ sym (rows_pass p other a)), λ k. k)
+joining_none old other rest e p a = ap (λ b. passes p old a || b) (ap (list_any (row_passes p a)) e ∙ sym (rows_pass p other a))
 
 pub joining_more : (old other : Rights) (row : Action × FinSet filter_cmp) (left rest : List (Action × FinSet filter_cmp)) (g h : Rights)
     → left ≡ row ∷ rest → ((p : Filter → Bool) (a : Action) → passes p h a ≡ (passes p g a || row_passes p a row)) → Joining old other left g → Joining old other rest h
-joining_more old other row left rest g h l e so_far p a = (
-  ap (λ o. o || list_any (row_passes p a) rest) (e p a) ∙ or_assoc (passes p g a) (row_passes p a row) (list_any (row_passes p a) rest)
-      ∙ ap (λ rows. passes p g a || list_any (row_passes p a) rows) (sym l) ∙ (so_far p a).0,
-  λ k. e p a ∙ or_left (passes p g a) (row_passes p a row) ((so_far p a).1 k),
-)
+joining_more old other row left rest g h l e so_far p a =
+    ap (λ o. o || list_any (row_passes p a) rest) (e p a) ∙ or_assoc (passes p g a) (row_passes p a row) (list_any (row_passes p a) rest)
+    ∙ ap (λ rows. passes p g a || list_any (row_passes p a) rows) (sym l) ∙ so_far p a
 
 pub all_joined : (old other : Rights) (rest : List (Action × FinSet filter_cmp)) (g : Rights) → rest ≡ [] → Joining old other rest g → IsJoin old other g
-all_joined old other rest g e so_far p a = sym (or_false (passes p g a)) ∙ ap (λ rows. passes p g a || list_any (row_passes p a) rows) (sym e) ∙ (so_far p a).0
+all_joined old other rest g e so_far p a = sym (or_false (passes p g a)) ∙ ap (λ rows. passes p g a || list_any (row_passes p a) rows) (sym e) ∙ so_far p a
 
-pub part_joined : (old other : Rights) (row : Action × FinSet filter_cmp) (left rest : List (Action × FinSet filter_cmp)) (g h : Rights)
-    → left ≡ row ∷ rest → ((p : Filter → Bool) (a : Action) → IsBetween (passes p g a) (passes p h a) (passes p g a || row_passes p a row)) → Joining old other left g → IsPartOfJoin old other h
-part_joined old other row left rest g h l part so_far p a = (
-  λ k. (part p a).0 ((so_far p a).1 k),
-  λ k. sym (so_far p a).0 ∙ ap (λ rows. passes p g a || list_any (row_passes p a) rows) l
-      ∙ elim (or_cases (passes p g a) (row_passes p a row) ((part p a).1 k)) as (λ _. (passes p g a || (row_passes p a row || list_any (row_passes p a) rest)) ≡ true) [
-        | inl k ↦ or_left (passes p g a) (row_passes p a row || list_any (row_passes p a) rest) k
-        | inr k ↦ or_right (passes p g a) (row_passes p a row || list_any (row_passes p a) rest) (or_left (row_passes p a row) (list_any (row_passes p a) rest) k)
-      ],
-)
+-- a new grant, one grant, and then the other
+pub joined_both : (none g h one both : Rights) → none ≡ empty → IsJoin none g one → IsJoin one h both → IsJoin g h both
+joined_both none g h one both e first then p a =
+    then p a ∙ ap (λ b. b || passes p h a) (first p a ∙ ap (λ b. b || passes p g a) (none_passes p none a e))
 
 -- ---- what a join admits
 
-pub joined_admits : {E : Type 0} (g h n : Rights) (r : Result (Unit {0}) E) → OnOk r (IsJoin g h n)
-    → OnOk r ((m : Context) (a : Action) (x : Object) → grant_admits m n a x ≡ (grant_admits m g a x || grant_admits m h a x))
-joined_admits g h n (Ok u) j = λ m a x. j (λ f. admits a m f x) a
-joined_admits g h n (Err e) j = tt
+pub joined_admits : (g h n : Rights) → IsJoin g h n → (m : Context) (a : Action) (x : Object) → grant_admits m n a x ≡ (grant_admits m g a x || grant_admits m h a x)
+joined_admits g h n j m a x = j (λ f. admits a m f x) a
 
-pub joined_plain : {E : Type 0} (g h n : Rights) (r : Result (Unit {0}) E) → OnOk r (IsJoin g h n) → OnOk r (HasNoOwnerOf g → HasNoOwnerOf h → HasNoOwnerOf n)
-joined_plain g h n (Ok u) j = λ k l a. j is_owner_of a ∙ both_false (passes is_owner_of g a) (passes is_owner_of h a) (k a) (l a)
-joined_plain g h n (Err e) j = tt
-
-pub on_err : {A E : Type 0} {P : Type 0} (r : Result A E) → P → OnErr r P
-on_err (Ok a) h = tt
-on_err (Err e) h = h
+pub joined_plain : (g h n : Rights) → IsJoin g h n → HasNoOwnerOf g → HasNoOwnerOf h → HasNoOwnerOf n
+joined_plain g h n j k l a = j is_owner_of a ∙ both_false (passes is_owner_of g a) (passes is_owner_of h a) (k a) (l a)

@@ -1,5 +1,5 @@
--- What plain scopes grant: their filters, under each action that they cover.
-use Rattle.std.specs.Prelude.{Bool, IsTrue, List, ◌↔◌, ◌&&◌}
+-- What plain scopes grant: their filters, under each action that they cover; and the filters of two grants together.
+use Rattle.std.specs.Prelude.{◌≡◌, Bool, IsTrue, List, ◌↔◌, ◌&&◌, ◌||◌}
 use Rattle.std.specs.FinSet.{FinSet}
 use Rattle.std.specs.FinMap.{keys}
 use Rattle.std.specs.List.{list_any}
@@ -24,3 +24,7 @@ GrantsCovered table plain g = (p : Filter → Bool) (a : Action) → IsTrue (pas
 -- an entry of a grant stands under the action and one of its filters passes the test
 abbrev pub row_passes : (Filter → Bool) → Action → Action × FinSet filter_cmp → Bool
 row_passes p a row = same_action a row.0 && list_any p (keys row.1)
+
+-- a grant has, under each action, the filters of two others
+abbrev pub IsJoin : Rights → Rights → Rights → Type 0
+IsJoin g h joined = (p : Filter → Bool) (a : Action) → passes p joined a ≡ (passes p g a || passes p h a)

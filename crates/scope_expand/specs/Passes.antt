@@ -1,5 +1,5 @@
 -- Which filters a grant has under an action, told by what tests they pass.
-use Rattle.std.specs.Prelude.{◌≡◌, Bool, true, false, ◌||◌, IsTrue, List, [], ◌∷◌, ◌⊎◌}
+use Rattle.std.specs.Prelude.{Bool, true, false, List, [], ◌∷◌, ◌⊎◌}
 use Rattle.std.specs.Bool.{IsFalse}
 use Rattle.std.specs.List.{list_any}
 use Rattle.scope_names.specs.declared.action.Action.{Action}
@@ -23,14 +23,3 @@ is_owner_of _ = false
 -- the grant has no `OwnerOf`, which comes of meets alone
 abbrev pub HasNoOwnerOf : Rights → Type 0
 HasNoOwnerOf g = (a : Action) → IsFalse (passes is_owner_of g a)
-
--- a grant has, under each action, the filters of two others
-abbrev pub IsJoin : Rights → Rights → Rights → Type 0
-IsJoin g h joined = (p : Filter → Bool) (a : Action) → passes p joined a ≡ (passes p g a || passes p h a)
-
-abbrev pub IsBetween : Bool → Bool → Bool → Type 0
-IsBetween low b high = (IsTrue low → IsTrue b) × (IsTrue b → IsTrue high)
-
--- a grant has the filters of the first and some of the second, and no others
-abbrev pub IsPartOfJoin : Rights → Rights → Rights → Type 0
-IsPartOfJoin g h part = (p : Filter → Bool) (a : Action) → IsBetween (passes p g a) (passes p part a) (passes p g a || passes p h a)

@@ -13,8 +13,8 @@ ghost use Rattle.scope_filters.specs.Contexts.{Context};
 ghost use Rattle.scope_filters.specs.Grants.{grant_admits};
 ghost use Rattle.scope_expand.specs.Meaning.{means, plain_scopes, under, IsMeant};
 ghost use Rattle.scope_expand.specs.Meaning as spec;
-ghost use Rattle.scope_expand.specs.Passes.{passes, HasNoOwnerOf, IsBetween, IsJoin, IsPartOfJoin};
-ghost use Rattle.scope_expand.specs.Covering.{GrantsCovered, row_passes};
+ghost use Rattle.scope_expand.specs.Passes.{passes, HasNoOwnerOf};
+ghost use Rattle.scope_expand.specs.Covering.{GrantsCovered, IsJoin, row_passes};
 
 use hub_kit::names::ServerKey;
 use scope_filters::filter::Filter;
@@ -48,13 +48,15 @@ pub fn expand(
     grant_of(alloc, table, &plain)
 }
 
-/// Adds to a grant all that another grants. Without memory a part of it may have been added, and nothing else.
+/// Adds to a grant all that another grants. Without memory the grant is as it was.
 pub fn join(into: &mut Grant, other: &Grant) -> Result<(), AllocError>
     ensures admits { OnOk result ((m : Context) (a : Action) (x : Object) → grant_admits m into.new a x ≡ (grant_admits m into.old a x || grant_admits m other.now a x)) }
     ensures owners { OnOk result (HasNoOwnerOf into.old → HasNoOwnerOf other.now → HasNoOwnerOf into.new) }
-    ensures part { OnErr result (IsPartOfJoin into.old other.now into.new) }
+    ensures kept { OnErr result (into.new ≡ into.old) }
 {
-    join_all(into, other)
+    let grant = joined(into, other)?;
+    *into = grant;
+    Ok(())
 }
 
 /// What the scopes mean for the holder.
@@ -200,9 +202,18 @@ fn add_each(grant: &mut Grant, actions: &[Action], filter: &Filter) -> Result<()
     Ok(())
 }
 
-fn join_all(into: &mut Grant, other: &Grant) -> Result<(), AllocError>
-    ensures ok { OnOk result (IsJoin into.old other.now into.new) }
-    ensures err { OnErr result (IsPartOfJoin into.old other.now into.new) }
+/// The grant of all that either of two grants.
+fn joined(one: &Grant, other: &Grant) -> Result<Grant, AllocError>
+    ensures { IfOk result (IsJoin one.now other.now) }
+{
+    let mut grant = one.fresh();
+    add_all(&mut grant, one)?;
+    add_all(&mut grant, other)?;
+    Ok(grant)
+}
+
+fn add_all(into: &mut Grant, other: &Grant) -> Result<(), AllocError>
+    ensures { OnOk result (IsJoin into.old other.now into.new) }
 {
     for (action, filters) in other.iter() {
         add_filters(into, action, filters)?;
@@ -212,8 +223,7 @@ fn join_all(into: &mut Grant, other: &Grant) -> Result<(), AllocError>
 
 /// Adds filters under an action.
 fn add_filters(into: &mut Grant, action: &Action, filters: &Filters) -> Result<(), AllocError>
-    ensures ok { OnOk result ((p : Filter → Bool) (a : Action) → passes p into.new a ≡ (passes p into.old a || row_passes p a (action.now, filters.now))) }
-    ensures err { OnErr result ((p : Filter → Bool) (a : Action) → IsBetween (passes p into.old a) (passes p into.new a) (passes p into.old a || row_passes p a (action.now, filters.now))) }
+    ensures { OnOk result ((p : Filter → Bool) (a : Action) → passes p into.new a ≡ (passes p into.old a || row_passes p a (action.now, filters.now))) }
 {
     for filter in filters.iter() {
         into.add(*action, *filter)?;

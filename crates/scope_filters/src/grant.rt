@@ -131,6 +131,13 @@ impl Grant {
         }
     }
 
+    /// Another grant of nothing, which keeps the allocator of this one.
+    pub fn fresh(&self) -> Grant
+        ensures { result ≡ map.empty }
+    {
+        Grant::new(self.alloc)
+    }
+
     /// Adds a filter under an action.
     pub fn add(&mut self, action: Action, filter: Filter) -> Result<(), AllocError>
         ensures ok { OnOk result (self.new ≡ with_filter self.old action filter) }

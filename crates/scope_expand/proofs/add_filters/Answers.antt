@@ -1,4 +1,4 @@
-use Rattle.scope_expand.proofs.Joins.{adding_more, all_added, part_added, on_err}
+use Rattle.scope_expand.proofs.Joins.{adding_more, all_added}
 use Rattle.scope_expand.proofs.add_filters.Goals as goal
 
 pub loop-filter-preserved : goal.loop-filter-preserved
@@ -6,10 +6,5 @@ loop-filter-preserved c =
     adding_more c.args.into.now c.args.action.now c.args.filters.now c.in-Some.filter.now c.loop-filter.filter-iterator c.next.new.self c.loop-filter.into c.add.new.self
     c.in-Some.ensures.steps c.in_ok-add.ensures.ok c.loop-filter.invariant
 
-pub returns-in_err-add-clause-err : goal.returns-in_err-add-clause-err
-returns-in_err-add-clause-err c =
-    on_err c.from_residual.result (part_added c.args.into.now c.args.action.now c.args.filters.now c.loop-filter.filter-iterator c.loop-filter.into c.add.new.self c.in_err-add.ensures.err c.loop-filter.invariant)
-
-pub returns-clause-ok : goal.returns-clause-ok
-returns-clause-ok c =
-    all_added c.args.into.now c.args.action.now c.args.filters.now c.loop-filter.filter-iterator c.loop-filter.into c.in-None.ensures.steps.0 c.loop-filter.invariant
+pub returns : goal.returns
+returns c = all_added c.args.into.now c.args.action.now c.args.filters.now c.loop-filter.filter-iterator c.loop-filter.into c.in-None.ensures.steps.0 c.loop-filter.invariant
