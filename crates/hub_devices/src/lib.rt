@@ -22,3 +22,4 @@ pub mod route_link;
 pub mod sink;
 pub mod source;
 pub mod spawner;
+pub mod streams;
