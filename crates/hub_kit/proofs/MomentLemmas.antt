@@ -1,12 +1,19 @@
--- The text of a moment has no fraction, and 20 bytes.
-use Rattle.std.proofs.Common.{◌≡◌, ℕ, ℤ, pos, negsuc, ◌*◌, ◌≤ℤ◌, ◌<ℤ◌, List, ◌++◌, length, length-append, codes, ap, inl, refl, ◌∙◌, arith, rules}
-use Rattle.jiff.specs.Words.{epoch_day, civil_nanos, civil_seconds, iso_datetime_text}
+-- The text of a moment in jiff's calendar, which has no fraction, and 20 bytes.
+use Rattle.std.proofs.Common.{◌≡◌, ℕ, ℤ, pos, negsuc, ◌*◌, ◌≤ℤ◌, ◌<ℤ◌, List, ◌++◌, length, length-append, codes, Some, ap, inl, refl, ◌∙◌, arith, rules}
+use Rattle.jiff.specs.Words.{date_text, epoch_day, civil_nanos, civil_seconds, iso_datetime_text, time_text}
 use Rattle.jiff.specs.Types.{Date, DateTime}
 use Rattle.jiff_core.specs.Calendar.{days_from_civil}
 use Rattle.jiff_core.proofs.DateLemmas.{epoch_day-lt}
 use Rattle.jiff_fmt.specs.Text.{year_text}
 use Rattle.jiff.proofs.SpanFacts.{signed_arith}
-use Rattle.hub_kit.specs.MomentTexts.{utc_text, IsMomentText}
+
+-- a date and a time of whole seconds, as 2023-11-14T22:13:20Z
+abbrev pub utc_text : DateTime → List ℕ
+utc_text at = date_text at.date ++ (codes "T" ++ time_text (Some 0) at.time) ++ codes "Z"
+
+-- the text of the date and time that is so many seconds after 1970-01-01T00:00:00
+abbrev pub IsMomentText : ℕ → List ℕ → Type 0
+IsMomentText seconds text = (at : DateTime) × (civil_seconds at ≡ pos seconds) × (text ≡ utc_text at)
 
 seconds_of : (at : DateTime) (n : ℕ) → civil_nanos at ≡ pos (n * 1000000000) → (civil_seconds at ≡ pos n) × (at.time.subsec_nanosecond ≡ 0)
 unfolding civil_nanos civil_seconds

@@ -1,5 +1,6 @@
 pub mod Hashes
 pub mod KeyOrder
+pub mod MomentReads
 pub mod MomentTexts
 pub mod Moments
 pub mod Names

@@ -1,25 +1,52 @@
--- The texts of moments.
-use Rattle.std.specs.Prelude.{◌≡◌, ℕ, ℤ, pos, negsuc, ◌/◌, List, ◌++◌, codes, Some, Result, Ok, Err}
-use Rattle.jiff.specs.Words.{civil_seconds, date_text, time_text, Error}
-use Rattle.jiff.specs.Types.{DateTime}
-use Rattle.hub_kit.specs.Moments.{capped}
-use Rattle.hub_kit.specs.declared.moments.MomentError.{MomentError}
-use Rattle.hub_kit.specs.declared.moments.MomentError.TheVariants.{BadText}
+-- The text of a moment: its date and time of day in UTC, as `YYYY-MM-DDTHH:MM:SSZ`.
+use Rattle.std.specs.Prelude.{ℕ, ◌+◌, ◌-◌, ◌*◌, ◌/◌, ◌%◌, nat_lt, if◌then◌else◌, List, [], ◌∷◌, ◌++◌, codes}
 
--- the moment of an instant's nanoseconds since 1970: its whole seconds, none before 1970 and none past the greatest
-abbrev pub moment_at : ℤ → ℕ
-moment_at (pos n) = capped (n / 1000000000)
-moment_at (negsuc n) = 0
+-- ---- the date, by years that begin on 1 March: a leap day comes last in them
 
--- what reading a moment gives, where the text reads as this instant
-abbrev pub moment_read : Result ℤ Error → Result ℕ MomentError
-moment_read (Ok nanos) = Ok (moment_at nanos)
-moment_read (Err e) = Err BadText
+-- the days since 1 March of the year 0
+abbrev pub day_of : ℕ → ℕ
+day_of seconds = seconds / 86400 + 719468
 
--- a date and a time of whole seconds, as 2023-11-14T22:13:20Z
-abbrev pub utc_text : DateTime → List ℕ
-utc_text at = date_text at.date ++ (codes "T" ++ time_text (Some 0) at.time) ++ codes "Z"
+-- four times the day's place among the 146,097 days of 400 years falls into a century, and what is left into a year of 1,461 quarter days
+abbrev pub century_of : ℕ → ℕ
+century_of day = (4 * day + 3) / 146097
 
--- the text of the date and time that is so many seconds after 1970-01-01T00:00:00
-abbrev pub IsMomentText : ℕ → List ℕ → Type 0
-IsMomentText seconds text = (at : DateTime) × (civil_seconds at ≡ pos seconds) × (text ≡ utc_text at)
+abbrev pub quarters_in_century : ℕ → ℕ
+quarters_in_century day = (4 * day + 3) % 146097 / 4 * 4 + 3
+
+abbrev pub march_year : ℕ → ℕ
+march_year day = 100 * century_of day + quarters_in_century day / 1461
+
+-- the days since that year's 1 March
+abbrev pub day_in_year : ℕ → ℕ
+day_in_year day = quarters_in_century day % 1461 / 4
+
+-- the months from March, 3, to February, 14, have 153 days in five
+abbrev pub march_month : ℕ → ℕ
+march_month day = (5 * day_in_year day + 461) / 153
+
+abbrev pub day_in_month : ℕ → ℕ
+day_in_month day = (5 * day_in_year day + 461) % 153 / 5 + 1
+
+abbrev pub year : ℕ → ℕ
+year day = if nat_lt 12 (march_month day) then march_year day + 1 else march_year day
+
+abbrev pub month : ℕ → ℕ
+month day = if nat_lt 12 (march_month day) then march_month day - 12 else march_month day
+
+-- ---- the text
+
+abbrev pub two : ℕ → List ℕ
+two n = (48 + n / 10) ∷ (48 + n % 10) ∷ []
+
+abbrev pub four : ℕ → List ℕ
+four n = two (n / 100) ++ two (n % 100)
+
+abbrev pub date_text : ℕ → List ℕ
+date_text day = four (year day) ++ codes "-" ++ two (month day) ++ codes "-" ++ two (day_in_month day)
+
+abbrev pub time_text : ℕ → List ℕ
+time_text seconds = two (seconds / 3600 % 24) ++ codes ":" ++ two (seconds / 60 % 60) ++ codes ":" ++ two (seconds % 60)
+
+unfoldable pub moment_text : ℕ → List ℕ
+moment_text seconds = date_text (day_of seconds) ++ codes "T" ++ time_text seconds ++ codes "Z"

@@ -2,7 +2,8 @@
 ghost use Rattle.std.specs.Prelude.{◌≡◌, ◌≤◌, pos, ◌*ℤ◌, length, IsOk, IfOk};
 ghost use Rattle.jiff.specs.Words.{parse_timestamp, civil_nanos};
 ghost use Rattle.hub_kit.specs.Moments.{greatest, moment_of};
-ghost use Rattle.hub_kit.specs.MomentTexts.{moment_read, IsMomentText};
+ghost use Rattle.hub_kit.specs.MomentReads.{moment_read};
+ghost use Rattle.hub_kit.specs.MomentTexts as spec;
 
 use crate::moment::Moment;
 use crate::text::Text;
@@ -27,7 +28,7 @@ pub fn moment(seconds: u64) -> Option<Moment>
 
 /// The date and time in UTC of a moment, as `YYYY-MM-DDTHH:MM:SSZ` (RFC 3339).
 pub fn moment_text(alloc: Global, at: Moment) -> Result<Text, AllocError>
-    ensures text { IfOk result (IsMomentText at) }
+    ensures text { IfOk result (λ text. text ≡ spec.moment_text at) }
     ensures len { IfOk result (λ text. length text ≡ 20) }
 {
     let shown = match civil_of(at.seconds()) {

@@ -1,5 +1,4 @@
 pub mod Arms
-mod Calendar
 pub mod Chains
 pub mod Items
 pub mod PageLaws

@@ -4,7 +4,7 @@ use Rattle.hub_kit.specs.declared.names.ServerKey.{ServerKey}
 use Rattle.server_life.specs.declared.life.Phase.{Phase}
 use Rattle.server_life.specs.declared.life.Phase.TheVariants.{Stopped, Adopting, Spawning, Routing, Ready}
 use Rattle.hub_view.specs.Json.{Json, line, truth, maybe, nothing, pairs}
-use Rattle.hub_view.specs.MomentTexts.{moment_text}
+use Rattle.hub_kit.specs.MomentTexts.{moment_text}
 use Rattle.hub_view.specs.declared.facts.ServerFacts.{ServerFacts}
 
 abbrev pub at : ℕ → Json

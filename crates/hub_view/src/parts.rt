@@ -8,8 +8,8 @@ ghost use Rattle.hub_view.specs.Records as records;
 
 use crate::body::Body;
 use crate::members::line;
-use crate::moments::moment_text;
 use hub_kit::moment::Moment;
+use hub_kit::moments::moment_text;
 use hub_kit::names::{GroupName, RoleName, ServerKey, ServiceName, UserName, key_text};
 use hub_kit::text::Text;
 use scope_filters::scope::{RawScope, scope_text};

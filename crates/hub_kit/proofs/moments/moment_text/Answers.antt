@@ -1,4 +1,5 @@
 use Rattle.std.proofs.Common.{◌∙◌, ◌*◌, pos, ap}
+use Rattle.hub_kit.proofs.Calendar.{defined_text}
 use Rattle.hub_kit.proofs.MomentLemmas.{is_moment_text, length_of_text}
 use Rattle.hub_kit.proofs.moments.moment_text.Goals as goal
 
@@ -6,4 +7,4 @@ pub returns : goal.returns
 returns c =
     let seconds = ap (λ n. pos (n * 1000000000)) c.seconds.ensures.value in
     let text = is_moment_text c.in-Ok.shown c.args.at c.from_string.result (c.in-Ok.ensures.value ∙ seconds) (c.from_string.ensures ∙ c.in_ok-text.ensures.ok) in
-    record { text = text; len = length_of_text c.args.at c.from_string.result text }
+    record { text = defined_text c.args.at c.from_string.result c.seconds.ensures.bounded text; len = length_of_text c.args.at c.from_string.result text }
