@@ -1,3 +1,4 @@
 mod Inside
+mod Open
 mod Props
 mod Told

@@ -157,6 +157,8 @@ impl<S: Alter + Drop> Keeper for SqliteKeeper<S> {
         ensures faults { self.new.faults ≡ faults_after result self.old.faults }
         ensures listed { IsTold S.Store self.new.connection self.new.is_own → IfOk result (λ all. Lists (told_rows S.Store self.old.connection) all.items) }
         ensures kept { IsTold S.Store self.new.connection self.new.is_own → IsTold S.Store self.old.connection self.old.is_own × AreSame (told_rows S.Store self.new.connection) (told_rows S.Store self.old.connection) }
+        ensures own { self.new.is_own ≡ self.old.is_own }
+        ensures tells { HasCleanDisk (state S.Store self.new.connection) → OnOk result (IsTold S.Store self.old.connection self.old.is_own → IsTold S.Store self.new.connection self.new.is_own) }
         ensures loaded { HasCleanDisk (state S.Store self.new.connection) → IfOk result (λ all. IsLoaded S.Store self.old.connection self.new.connection all.items) }
     {
         match store::load_rows(self.alloc, &mut self.connection) {
@@ -174,6 +176,8 @@ impl<S: Alter + Drop> Keeper for SqliteKeeper<S> {
         ensures told { IsTold S.Store self.new.connection self.new.is_own → IsTold S.Store self.old.connection self.old.is_own }
         ensures ok { IsTold S.Store self.new.connection self.new.is_own → OnOk result (AreSame (told_rows S.Store self.new.connection) (after_items batch.now (told_rows S.Store self.old.connection))) }
         ensures err { IsTold S.Store self.new.connection self.new.is_own → OnErr result (AreSame (told_rows S.Store self.new.connection) (told_rows S.Store self.old.connection)) }
+        ensures own { self.new.is_own ≡ self.old.is_own }
+        ensures tells { HasCleanDisk (state S.Store self.new.connection) → OnOk result (IsTold S.Store self.old.connection self.old.is_own → IsTold S.Store self.new.connection self.new.is_own) }
         ensures done { HasCleanDisk (state S.Store self.new.connection) → OnOk result (IsCommitted S.Store batch.now self.old.connection self.new.connection) }
         ensures undone { HasCleanDisk (state S.Store self.new.connection) → IsTrue (state S.Store self.new.connection).is_open
             → OnErr result (((state S.Store self.new.connection).now ≡ (state S.Store self.old.connection).now) × ((state S.Store self.new.connection).committed ≡ (state S.Store self.old.connection).committed)) }

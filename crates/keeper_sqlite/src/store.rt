@@ -141,6 +141,7 @@ pub(crate) fn commit_items<S: Alter>(conn: &mut Connection<S>, items: &[Item]) -
     ensures clean { doubt (state S.Store conn.old).is_clean ≤ doubt (state S.Store conn.new).is_clean }
     ensures was_open { HasCleanDisk (state S.Store conn.new) → IsTrue (state S.Store conn.new).is_open → IsTrue (state S.Store conn.old).is_open }
     ensures ended { conn.old.in_transaction ≡ false → conn.new.in_transaction ≡ false }
+    ensures open { HasCleanDisk (state S.Store conn.new) → OnOk result (IsTrue (state S.Store conn.new).is_open) }
     ensures undone { HasCleanDisk (state S.Store conn.new) → IsTrue (state S.Store conn.new).is_open
         → OnErr result (((state S.Store conn.new).now ≡ (state S.Store conn.old).now) × ((state S.Store conn.new).committed ≡ (state S.Store conn.old).committed)) }
 {
@@ -173,6 +174,7 @@ pub(crate) fn load_rows<S: Alter>(
     ensures clean { doubt (state S.Store conn.old).is_clean ≤ doubt (state S.Store conn.new).is_clean }
     ensures ended { conn.old.in_transaction ≡ false → conn.new.in_transaction ≡ false }
     ensures loaded { HasCleanDisk (state S.Store conn.new) → IfOk result (λ all. IsLoaded S.Store conn.old conn.new all.items) }
+    ensures open { HasCleanDisk (state S.Store conn.new) → IsTrue (state S.Store conn.old).is_open → OnOk result (IsTrue (state S.Store conn.new).is_open) }
     ensures stands { HasCleanDisk (state S.Store conn.new) → IsOwned S.Store conn.old → Stands S.Store conn.old conn.new }
     ensures listed { HasCleanDisk (state S.Store conn.new) → IsTrue (state S.Store conn.new).is_open → IsOwned S.Store conn.old → IfOk result (λ all. Lists (told_rows S.Store conn.old) all.items) }
 {

@@ -6,6 +6,8 @@ use Rattle.sqlite.specs.State.{HasCleanDisk}
 use Rattle.keeper_sqlite.specs.Own.{told_rows}
 use Rattle.keeper_sqlite.specs.Statements.{HasNoTables}
 use Rattle.keeper_sqlite.proofs.Inside.{all_loaded}
+use Rattle.keeper_sqlite.proofs.Open.{shown_open, on_ok}
+use Rattle.row_table.specs.Texts.{select_text}
 use Rattle.keeper_sqlite.proofs.Told.{number_stands, rows_stand, loaded_listed, settled_by, empty_listed}
 use Rattle.keeper_sqlite.proofs.store.load_rows.Goals as goal
 
@@ -48,3 +50,8 @@ returns-clause-listed g c clean open_now owned =
     (all_loaded g.S.Store c.args.conn.now c.find_form.new.conn c.select_rows.new.conn c.in_ok-_form._form c.in_ok-select_rows.field-0.items c.rows_of.result (λ all. all.items)
     c.rows_of.ensures (λ none. both_ways c.is_empty.result c.if-is_empty.false (c.is_empty.ensures.only none))
     (c.in_ok-_form.ensures.form (omega (arith, c.select_rows.ensures.clean, clean))) (c.in_ok-select_rows.ensures.shown clean))
+
+pub returns-clause-open : goal.returns-clause-open
+returns-clause-open g c clean open_before =
+    on_ok c.rows_of.result
+    (shown_open select_text [] (state g.S.Store c.find_form.new.conn) (state g.S.Store c.select_rows.new.conn) c.in_ok-select_rows.field-0.items (c.in_ok-select_rows.ensures.shown clean))
