@@ -1,1 +1,2 @@
 pub mod ShareOrder
+pub mod RowKeys

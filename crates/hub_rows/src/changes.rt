@@ -1,38 +1,34 @@
 //! Changes of rows.
-use crate::keys::ShareKey;
-use crate::records::{
-    Group, Lease, Next, OAuthClient, OAuthCode, Role, ServerRow, Service, Share, ShareCode, Token,
-    User,
-};
-use hub_kit::names::{GroupName, RoleName, ServerKey, ServiceName, UserName};
-use hub_kit::target::Target;
-use hub_kit::text::Text;
+ghost use Rattle.std.specs.Prelude.{◌≡◌, IfOk};
+ghost use Rattle.hub_rows.specs.RowKeys as spec;
+
+use crate::rows::{Row, RowKey};
+use std::alloc::{AllocError, Global};
 
 /// One change of the tables: a row that is put, or the key of one that goes.
 #[derive(Drop)]
 pub enum RowChange {
-    PutUser(User),
-    RemoveUser(UserName),
-    PutGroup(Group),
-    RemoveGroup(GroupName),
-    PutService(Service),
-    RemoveService(ServiceName),
-    PutRole(Role),
-    RemoveRole(RoleName),
-    PutToken(Token),
-    RemoveToken(u64),
-    PutServerRow(ServerRow),
-    RemoveServerRow(ServerKey),
-    PutLease(Lease),
-    RemoveLease(Target),
-    PutShare(Share),
-    RemoveShare(ShareKey),
-    PutShareCode(ShareCode),
-    RemoveShareCode(u64),
-    PutOAuthClient(OAuthClient),
-    RemoveOAuthClient(Text),
-    PutOAuthCode(OAuthCode),
-    RemoveOAuthCode(Text),
-    PutNext(Next),
-    RemoveNext(Text),
+    Put(Row),
+    Remove(RowKey),
+}
+
+impl RowChange {
+    pub fn is_put(&self) -> bool
+        ensures { result ≡ spec.is_put self.now }
+    {
+        match self {
+            RowChange::Put(_) => true,
+            RowChange::Remove(_) => false,
+        }
+    }
+
+    /// What is changed: the key of the row that is put, or of the one that goes.
+    pub fn key(&self, alloc: Global) -> Result<RowKey, AllocError>
+        ensures { IfOk result (λ key. key ≡ spec.key_in self.now) }
+    {
+        match self {
+            RowChange::Put(row) => row.key(alloc),
+            RowChange::Remove(key) => key.copy(alloc),
+        }
+    }
 }

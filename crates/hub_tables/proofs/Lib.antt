@@ -4,4 +4,5 @@ pub mod Indexed
 pub mod Kept
 mod MemberRows
 pub mod Owners
+pub mod RowsAt
 pub mod Sets

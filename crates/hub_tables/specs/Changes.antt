@@ -1,58 +1,70 @@
--- What a change of a row makes of the tables.
-use Rattle.std.specs.Prelude.{Bool, true, false, not, List, [], ◌∷◌, Option, Some, None}
+-- What a change of a row makes of the tables, and when it may be done.
+use Rattle.std.specs.Prelude.{◌≡◌, Bool, true, false, not, List, [], ◌∷◌, Option, Some, None, option_map}
+use Rattle.std.specs.Option.{is_some}
 use Rattle.std.specs.List.{filter}
-use Rattle.std.specs.FinMap.{get, contains_key, insert, remove}
+use Rattle.std.specs.FinMap.{get, insert, remove}
+use Rattle.hub_rows.specs.RowKeys.{is_put, key_in}
 use Rattle.hub_rows.specs.declared.changes.RowChange.{RowChange}
-use Rattle.hub_rows.specs.declared.changes.RowChange.TheVariants.{PutUser, RemoveUser, PutGroup, RemoveGroup, PutService, RemoveService, PutRole, RemoveRole, PutToken, RemoveToken, PutServerRow, RemoveServerRow, PutLease, RemoveLease, PutShare, RemoveShare, PutShareCode, RemoveShareCode, PutOAuthClient, RemoveOAuthClient, PutOAuthCode, RemoveOAuthCode, PutNext, RemoveNext}
-use Rattle.hub_rows.specs.declared.records.ShareCode.{ShareCode}
-use Rattle.hub_tables.specs.Hashes.{FitsHash, FitsToken}
+use Rattle.hub_rows.specs.declared.changes.RowChange.TheVariants.{Put, Remove}
+use Rattle.hub_rows.specs.declared.rows.Row.{Row}
+use Rattle.hub_rows.specs.declared.rows.Row.TheVariants as Row
+use Rattle.hub_rows.specs.declared.rows.RowKey.{RowKey}
+use Rattle.hub_rows.specs.declared.rows.RowKey.TheVariants as RowKey
+use Rattle.hub_tables.specs.Hashes.{FitsCode, FitsToken}
 use Rattle.hub_tables.specs.State.{State}
 
--- one row is put or removed, and all else stays
+-- the row that stands under a key
+abbrev pub row_at : State → RowKey → Option Row
+row_at s (RowKey.User name) = option_map Row.User (get s.users name)
+row_at s (RowKey.Group name) = option_map Row.Group (get s.groups name)
+row_at s (RowKey.Service name) = option_map Row.Service (get s.services name)
+row_at s (RowKey.Role name) = option_map Row.Role (get s.roles name)
+row_at s (RowKey.Token id) = option_map Row.Token (get s.tokens id)
+row_at s (RowKey.ServerRow key) = option_map Row.ServerRow (get s.servers key)
+row_at s (RowKey.Lease target) = option_map Row.Lease (get s.leases target)
+row_at s (RowKey.Share key) = option_map Row.Share (get s.shares key)
+row_at s (RowKey.ShareCode id) = option_map Row.ShareCode (get s.codes id)
+row_at s (RowKey.OAuthClient id) = option_map Row.OAuthClient (get s.clients id)
+row_at s (RowKey.OAuthCode hash) = option_map Row.OAuthCode (get s.grant_codes hash)
+row_at s (RowKey.Next name) = option_map Row.Next (get s.nexts name)
+
+-- a row stands under its key, and all else stays
+abbrev pub with_row : Row → State → State
+with_row (Row.User row) s = record s { users = insert s.users row.name row }
+with_row (Row.Group row) s = record s { groups = insert s.groups row.name row }
+with_row (Row.Service row) s = record s { services = insert s.services row.name row }
+with_row (Row.Role row) s = record s { roles = insert s.roles row.name row }
+with_row (Row.Token row) s = record s { tokens = insert s.tokens row.id row }
+with_row (Row.ServerRow row) s = record s { servers = insert s.servers row.key row }
+with_row (Row.Lease row) s = record s { leases = insert s.leases row.target row }
+with_row (Row.Share row) s = record s { shares = insert s.shares row.key row }
+with_row (Row.ShareCode row) s = record s { codes = insert s.codes row.id row }
+with_row (Row.OAuthClient row) s = record s { clients = insert s.clients row.id row }
+with_row (Row.OAuthCode row) s = record s { grant_codes = insert s.grant_codes row.hash row }
+with_row (Row.Next row) s = record s { nexts = insert s.nexts row.name row }
+
+-- no row stands under a key, and all else stays
+abbrev pub without_row : RowKey → State → State
+without_row (RowKey.User name) s = record s { users = remove s.users name }
+without_row (RowKey.Group name) s = record s { groups = remove s.groups name }
+without_row (RowKey.Service name) s = record s { services = remove s.services name }
+without_row (RowKey.Role name) s = record s { roles = remove s.roles name }
+without_row (RowKey.Token id) s = record s { tokens = remove s.tokens id }
+without_row (RowKey.ServerRow key) s = record s { servers = remove s.servers key }
+without_row (RowKey.Lease target) s = record s { leases = remove s.leases target }
+without_row (RowKey.Share key) s = record s { shares = remove s.shares key }
+without_row (RowKey.ShareCode id) s = record s { codes = remove s.codes id }
+without_row (RowKey.OAuthClient id) s = record s { clients = remove s.clients id }
+without_row (RowKey.OAuthCode hash) s = record s { grant_codes = remove s.grant_codes hash }
+without_row (RowKey.Next name) s = record s { nexts = remove s.nexts name }
+
 abbrev pub row_done : RowChange → State → State
-row_done (PutUser row) s = record s { users = insert s.users row.name row }
-row_done (RemoveUser key) s = record s { users = remove s.users key }
-row_done (PutGroup row) s = record s { groups = insert s.groups row.name row }
-row_done (RemoveGroup key) s = record s { groups = remove s.groups key }
-row_done (PutService row) s = record s { services = insert s.services row.name row }
-row_done (RemoveService key) s = record s { services = remove s.services key }
-row_done (PutRole row) s = record s { roles = insert s.roles row.name row }
-row_done (RemoveRole key) s = record s { roles = remove s.roles key }
-row_done (PutToken row) s = record s { tokens = insert s.tokens row.id row }
-row_done (RemoveToken key) s = record s { tokens = remove s.tokens key }
-row_done (PutServerRow row) s = record s { servers = insert s.servers row.key row }
-row_done (RemoveServerRow key) s = record s { servers = remove s.servers key }
-row_done (PutLease row) s = record s { leases = insert s.leases row.target row }
-row_done (RemoveLease key) s = record s { leases = remove s.leases key }
-row_done (PutShare row) s = record s { shares = insert s.shares row.key row }
-row_done (RemoveShare key) s = record s { shares = remove s.shares key }
-row_done (PutShareCode row) s = record s { codes = insert s.codes row.id row }
-row_done (RemoveShareCode key) s = record s { codes = remove s.codes key }
-row_done (PutOAuthClient row) s = record s { clients = insert s.clients row.id row }
-row_done (RemoveOAuthClient key) s = record s { clients = remove s.clients key }
-row_done (PutOAuthCode row) s = record s { grant_codes = insert s.grant_codes row.hash row }
-row_done (RemoveOAuthCode key) s = record s { grant_codes = remove s.grant_codes key }
-row_done (PutNext row) s = record s { nexts = insert s.nexts row.name row }
-row_done (RemoveNext key) s = record s { nexts = remove s.nexts key }
+row_done (Put row) s = with_row row s
+row_done (Remove key) s = without_row key s
 
 abbrev pub rows_done : List RowChange → State → State
 rows_done [] s = s
 rows_done (r ∷ rest) s = rows_done rest (row_done r s)
-
-abbrev pub is_put : RowChange → Bool
-is_put (RemoveUser key) = false
-is_put (RemoveGroup key) = false
-is_put (RemoveService key) = false
-is_put (RemoveRole key) = false
-is_put (RemoveToken key) = false
-is_put (RemoveServerRow key) = false
-is_put (RemoveLease key) = false
-is_put (RemoveShare key) = false
-is_put (RemoveShareCode key) = false
-is_put (RemoveOAuthClient key) = false
-is_put (RemoveOAuthCode key) = false
-is_put (RemoveNext key) = false
-is_put _ = true
 
 abbrev pub puts_of : List RowChange → List RowChange
 puts_of rows = filter is_put rows
@@ -62,71 +74,39 @@ removals_of rows = filter (λ r. not (is_put r)) rows
 
 -- whether the row of the change's key is kept
 abbrev pub has_row : State → RowChange → Bool
-has_row s (PutUser row) = contains_key s.users row.name
-has_row s (RemoveUser key) = contains_key s.users key
-has_row s (PutGroup row) = contains_key s.groups row.name
-has_row s (RemoveGroup key) = contains_key s.groups key
-has_row s (PutService row) = contains_key s.services row.name
-has_row s (RemoveService key) = contains_key s.services key
-has_row s (PutRole row) = contains_key s.roles row.name
-has_row s (RemoveRole key) = contains_key s.roles key
-has_row s (PutToken row) = contains_key s.tokens row.id
-has_row s (RemoveToken key) = contains_key s.tokens key
-has_row s (PutServerRow row) = contains_key s.servers row.key
-has_row s (RemoveServerRow key) = contains_key s.servers key
-has_row s (PutLease row) = contains_key s.leases row.target
-has_row s (RemoveLease key) = contains_key s.leases key
-has_row s (PutShare row) = contains_key s.shares row.key
-has_row s (RemoveShare key) = contains_key s.shares key
-has_row s (PutShareCode row) = contains_key s.codes row.id
-has_row s (RemoveShareCode key) = contains_key s.codes key
-has_row s (PutOAuthClient row) = contains_key s.clients row.id
-has_row s (RemoveOAuthClient key) = contains_key s.clients key
-has_row s (PutOAuthCode row) = contains_key s.grant_codes row.hash
-has_row s (RemoveOAuthCode key) = contains_key s.grant_codes key
-has_row s (PutNext row) = contains_key s.nexts row.name
-has_row s (RemoveNext key) = contains_key s.nexts key
+has_row s change = is_some (row_at s (key_in change))
 
--- the puts of rows that are found by a hash
-abbrev pub puts_hashed : RowChange → Bool
-puts_hashed (PutToken row) = true
-puts_hashed (PutShareCode row) = true
-puts_hashed _ = false
+-- ---- which puts may be done
 
 -- a row with a hash may stand under its id, and any other row may stand under its key
-abbrev pub FitsRow : State → RowChange → Type 0
-FitsRow s (PutToken row) = FitsToken s.tokens row
-FitsRow s (PutShareCode row) = FitsHash (λ (code : ShareCode). code.id) (λ code. code.hash) s.codes row
-FitsRow s _ = Unit {0}
+abbrev pub FitsKey : State → Row → Type 0
+FitsKey s (Row.Token row) = FitsToken s.tokens row
+FitsKey s (Row.ShareCode row) = FitsCode s.codes row
+FitsKey s _ = Unit {0}
 
--- a put of the kept row, or a removal where none is kept
-abbrev pub kept_or : {X : Type 0} → (X → RowChange) → RowChange → Option X → RowChange
-kept_or put gone None = gone
-kept_or put gone (Some row) = put row
+abbrev pub FitsRow : State → RowChange → Type 0
+FitsRow s (Put row) = FitsKey s row
+FitsRow s (Remove key) = Unit {0}
+
+-- each put of the list fits where the puts before it left the tables
+abbrev pub FitAll : List RowChange → State → Type 0
+FitAll [] s = Unit {0}
+FitAll (Put row ∷ rest) s = FitsKey s row × FitAll rest (with_row row s)
+FitAll (Remove key ∷ rest) s = FitAll rest s
+
+-- the puts of rows that are found by a hash: all others fit anywhere
+abbrev pub puts_hashed : RowChange → Bool
+puts_hashed (Put (Row.Token row)) = true
+puts_hashed (Put (Row.ShareCode row)) = true
+puts_hashed _ = false
+
+-- ---- the way back
+
+-- a put of the row that is kept under a key, or its removal where none is kept
+abbrev pub put_or_remove : RowKey → Option Row → RowChange
+put_or_remove key None = Remove key
+put_or_remove key (Some row) = Put row
 
 -- what sets the row of a change's key as it is
 abbrev pub way_back : State → RowChange → RowChange
-way_back s (PutUser row) = kept_or PutUser (RemoveUser row.name) (get s.users row.name)
-way_back s (RemoveUser key) = kept_or PutUser (RemoveUser key) (get s.users key)
-way_back s (PutGroup row) = kept_or PutGroup (RemoveGroup row.name) (get s.groups row.name)
-way_back s (RemoveGroup key) = kept_or PutGroup (RemoveGroup key) (get s.groups key)
-way_back s (PutService row) = kept_or PutService (RemoveService row.name) (get s.services row.name)
-way_back s (RemoveService key) = kept_or PutService (RemoveService key) (get s.services key)
-way_back s (PutRole row) = kept_or PutRole (RemoveRole row.name) (get s.roles row.name)
-way_back s (RemoveRole key) = kept_or PutRole (RemoveRole key) (get s.roles key)
-way_back s (PutToken row) = kept_or PutToken (RemoveToken row.id) (get s.tokens row.id)
-way_back s (RemoveToken key) = kept_or PutToken (RemoveToken key) (get s.tokens key)
-way_back s (PutServerRow row) = kept_or PutServerRow (RemoveServerRow row.key) (get s.servers row.key)
-way_back s (RemoveServerRow key) = kept_or PutServerRow (RemoveServerRow key) (get s.servers key)
-way_back s (PutLease row) = kept_or PutLease (RemoveLease row.target) (get s.leases row.target)
-way_back s (RemoveLease key) = kept_or PutLease (RemoveLease key) (get s.leases key)
-way_back s (PutShare row) = kept_or PutShare (RemoveShare row.key) (get s.shares row.key)
-way_back s (RemoveShare key) = kept_or PutShare (RemoveShare key) (get s.shares key)
-way_back s (PutShareCode row) = kept_or PutShareCode (RemoveShareCode row.id) (get s.codes row.id)
-way_back s (RemoveShareCode key) = kept_or PutShareCode (RemoveShareCode key) (get s.codes key)
-way_back s (PutOAuthClient row) = kept_or PutOAuthClient (RemoveOAuthClient row.id) (get s.clients row.id)
-way_back s (RemoveOAuthClient key) = kept_or PutOAuthClient (RemoveOAuthClient key) (get s.clients key)
-way_back s (PutOAuthCode row) = kept_or PutOAuthCode (RemoveOAuthCode row.hash) (get s.grant_codes row.hash)
-way_back s (RemoveOAuthCode key) = kept_or PutOAuthCode (RemoveOAuthCode key) (get s.grant_codes key)
-way_back s (PutNext row) = kept_or PutNext (RemoveNext row.name) (get s.nexts row.name)
-way_back s (RemoveNext key) = kept_or PutNext (RemoveNext key) (get s.nexts key)
+way_back s change = put_or_remove (key_in change) (row_at s (key_in change))

@@ -4,6 +4,7 @@ use Rattle.std.specs.Ordering.{nat_cmp, eq_by_cmp}
 use Rattle.std.specs.List.{find}
 use Rattle.std.specs.FinMap.{FinMap, get, values}
 use Rattle.hub_kit.specs.KeyOrder.{name_cmp}
+use Rattle.hub_rows.specs.declared.records.ShareCode.{ShareCode}
 use Rattle.hub_rows.specs.declared.records.Token.{Token}
 
 -- the first row that has the hash, in the order of the ids
@@ -19,6 +20,11 @@ pub record FitsHash {X : Type 0} (id_of : X → ℕ) (hash_of : X → List ℕ) 
 pub record FitsToken (tokens : FinMap nat_cmp Token) (value : Token) : Type 0 where
   pub hash : FitsHash (λ (row : Token). row.id) (λ row. row.hash) tokens value
   pub owner : (row : Token) → get tokens value.id ≡ Some row → row.owner ≡ value.owner
+
+-- a share code may stand under its id: its hash fits, and one that it replaces is of the same server
+pub record FitsCode (codes : FinMap nat_cmp ShareCode) (value : ShareCode) : Type 0 where
+  pub hash : FitsHash (λ (row : ShareCode). row.id) (λ row. row.hash) codes value
+  pub server : (row : ShareCode) → get codes value.id ≡ Some row → row.server ≡ value.server
 
 -- the ids have the id of each row under its hash, and nothing else
 pub record IsIndexed {X : Type 0} (hash_of : X → List ℕ) (rows : FinMap nat_cmp X) (ids : FinMap name_cmp ℕ) : Type 0 where

@@ -5,7 +5,7 @@ ghost use Rattle.std.specs.FinMap as map;
 ghost use Rattle.std.specs.Map.Iter.{ShowsInOrder, deref};
 ghost use Rattle.keyed_rows.specs.Rows.{OwnKeys};
 ghost use Rattle.keyed_rows.specs.Puts.{IsAnswer};
-ghost use Rattle.hub_tables.specs.Hashes.{row_with, FitsHash, FitsToken};
+ghost use Rattle.hub_tables.specs.Hashes.{row_with, FitsCode, FitsToken};
 ghost use Rattle.hub_tables.specs.Lookups.{tokens_of};
 
 use crate::parties::of_owner;
@@ -133,9 +133,9 @@ impl Tables {
         hashed::row_of_hash(&self.trees.codes, &self.trees.code_ids, hash)
     }
 
-    /// Sets the row of a share code. No other row has its hash, and a kept row of its id has the same.
+    /// Sets the row of a share code. No other row has its hash, and a kept row of its id has the same hash and server.
     pub fn put_code(&mut self, value: ShareCode, leaving: u32) -> Result<(), PutError>
-        requires { FitsHash (λ row. row.id) (λ row. row.hash) self.old.codes value }
+        requires { FitsCode self.old.codes value }
         ensures answer { IsAnswer 9 self.old.limits.codes self.old.codes value.id leaving result }
         ensures ok { OnOk result (self.new ≡ record self.old { codes = map.insert self.old.codes value.id value }) }
         ensures err { OnErr result (self.new ≡ self.old) }
@@ -154,9 +154,10 @@ impl Tables {
         )
     }
 
-    /// Sets the row of a share code, whatever the number of rows. No other row has its hash, and a kept row of its id has the same. Memory is wanting at a new key alone.
+    /// Sets the row of a share code, whatever the number of rows. No other row has its hash, and a kept row of its id has the same hash and
+    /// server. Memory is wanting at a new key alone.
     pub fn set_code(&mut self, value: ShareCode) -> Result<(), AllocError>
-        requires { FitsHash (λ row. row.id) (λ row. row.hash) self.old.codes value }
+        requires { FitsCode self.old.codes value }
         ensures ok { OnOk result (self.new ≡ record self.old { codes = map.insert self.old.codes value.id value }) }
         ensures err { OnErr result (self.new ≡ self.old) }
         ensures memory { OnErr result (map.contains_key self.old.codes value.id ≡ false) }

@@ -1,13 +1,19 @@
+use Rattle.std.proofs.Common.{sym, subst}
 use Rattle.std.specs.Cmp.{nat_cmp_total}
 use Rattle.std.specs.FinMap.{nat_cmp-IsAntisymmetric}
 use Rattle.keyed_rows.proofs.Finite.{own_put}
 use Rattle.hub_rows.specs.declared.records.ShareCode.{ShareCode}
+use Rattle.hub_tables.specs.Hashes.{FitsCode}
 use Rattle.hub_tables.specs.Kept.{Codes}
+use Rattle.hub_tables.specs.State.{State}
 use Rattle.hub_tables.proofs.Kept.{codes_kept}
 use Rattle.hub_tables.proofs.tables.Tables.put_code.Goals as goal
 
 pub put_hashed-requires-clause-indexed : goal.put_hashed-requires-clause-indexed
 put_hashed-requires-clause-indexed c = (c.self.invariant Codes).indexed
+
+pub put_hashed-requires-clause-fits : goal.put_hashed-requires-clause-fits
+put_hashed-requires-clause-fits c = (subst (λ (s : State). FitsCode s.codes c.args.value) (sym c.self.view_is) c.requires).hash
 
 pub invariant_of-self : goal.invariant_of-self
 invariant_of-self c =
