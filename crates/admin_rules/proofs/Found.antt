@@ -4,7 +4,8 @@ use Rattle.std.specs.FinMap.{values}
 use Rattle.scope_filters.specs.Contexts.{same}
 use Rattle.scope_filters.specs.declared.holder.Owner.{Owner}
 use Rattle.scope_filters.specs.declared.holder.Owner.TheVariants as Of
-use Rattle.hub_rows.specs.declared.changes.RowChange.TheVariants.{RemoveToken, RemoveServerRow, RemoveShare}
+use Rattle.hub_rows.specs.declared.changes.RowChange.TheVariants.{Remove}
+use Rattle.hub_rows.specs.declared.rows.RowKey.TheVariants as RowKey
 use Rattle.hub_rows.specs.declared.keys.Recipient.{Recipient}
 use Rattle.hub_rows.specs.declared.keys.Recipient.TheVariants as To
 use Rattle.hub_rows.specs.declared.records.ServerRow.{ServerRow}
@@ -34,22 +35,22 @@ to_group : (group : List ℕ) (o : Recipient) → same_recipient o (To.Group gro
 to_group group (To.User name) = refl
 to_group group (To.Group name) = refl
 
-pub user_tokens : (s : State) (user : List ℕ) → map (λ id. RemoveToken id) (tokens_of s (Of.User user)) ≡ changes_of (is_token_of_user user) (λ token. RemoveToken token.id) (values s.tokens)
+pub user_tokens : (s : State) (user : List ℕ) → map (λ id. Remove (RowKey.Token id)) (tokens_of s (Of.User user)) ≡ changes_of (is_token_of_user user) (λ token. Remove (RowKey.Token token.id)) (values s.tokens)
 user_tokens s user =
-    map_twice RemoveToken (λ (token : Token). token.id) _ ∙ ap (λ p. map (λ (token : Token). RemoveToken token.id) (filter p (values s.tokens))) (λ i token. of_user user token.owner i)
+    map_twice (λ key. Remove (RowKey.Token key)) (λ (token : Token). token.id) _ ∙ ap (λ p. map (λ (token : Token). Remove (RowKey.Token token.id)) (filter p (values s.tokens))) (λ i token. of_user user token.owner i)
 
-pub service_tokens : (s : State) (service : List ℕ) → map (λ id. RemoveToken id) (tokens_of s (Of.Service service)) ≡ changes_of (is_token_of_service service) (λ token. RemoveToken token.id) (values s.tokens)
+pub service_tokens : (s : State) (service : List ℕ) → map (λ id. Remove (RowKey.Token id)) (tokens_of s (Of.Service service)) ≡ changes_of (is_token_of_service service) (λ token. Remove (RowKey.Token token.id)) (values s.tokens)
 service_tokens s service =
-    map_twice RemoveToken (λ (token : Token). token.id) _ ∙ ap (λ p. map (λ (token : Token). RemoveToken token.id) (filter p (values s.tokens))) (λ i token. of_service service token.owner i)
+    map_twice (λ key. Remove (RowKey.Token key)) (λ (token : Token). token.id) _ ∙ ap (λ p. map (λ (token : Token). Remove (RowKey.Token token.id)) (filter p (values s.tokens))) (λ i token. of_service service token.owner i)
 
-pub user_servers : (s : State) (user : List ℕ) → map (λ key. RemoveServerRow key) (servers_of s user) ≡ changes_of (is_server_of_user user) (λ row. RemoveServerRow row.key) (values s.servers)
-user_servers s user = map_twice RemoveServerRow (λ (row : ServerRow). row.key) _
+pub user_servers : (s : State) (user : List ℕ) → map (λ key. Remove (RowKey.ServerRow key)) (servers_of s user) ≡ changes_of (is_server_of_user user) (λ row. Remove (RowKey.ServerRow row.key)) (values s.servers)
+user_servers s user = map_twice (λ key. Remove (RowKey.ServerRow key)) (λ (row : ServerRow). row.key) _
 
-pub user_shares : (s : State) (user : List ℕ) → map (λ key. RemoveShare key) (shares_with s (To.User user)) ≡ changes_of (is_share_of_user user) (λ share. RemoveShare share.key) (values s.shares)
+pub user_shares : (s : State) (user : List ℕ) → map (λ key. Remove (RowKey.Share key)) (shares_with s (To.User user)) ≡ changes_of (is_share_of_user user) (λ share. Remove (RowKey.Share share.key)) (values s.shares)
 user_shares s user =
-    map_twice RemoveShare (λ (share : Share). share.key) _
-    ∙ ap (λ p. map (λ (share : Share). RemoveShare share.key) (filter p (values s.shares))) (λ i share. same share.key.server.user user || to_user user share.key.to i)
+    map_twice (λ key. Remove (RowKey.Share key)) (λ (share : Share). share.key) _
+    ∙ ap (λ p. map (λ (share : Share). Remove (RowKey.Share share.key)) (filter p (values s.shares))) (λ i share. same share.key.server.user user || to_user user share.key.to i)
 
-pub group_shares : (s : State) (group : List ℕ) → map (λ key. RemoveShare key) (shares_with s (To.Group group)) ≡ changes_of (is_share_to_group group) (λ share. RemoveShare share.key) (values s.shares)
+pub group_shares : (s : State) (group : List ℕ) → map (λ key. Remove (RowKey.Share key)) (shares_with s (To.Group group)) ≡ changes_of (is_share_to_group group) (λ share. Remove (RowKey.Share share.key)) (values s.shares)
 group_shares s group =
-    map_twice RemoveShare (λ (share : Share). share.key) _ ∙ ap (λ p. map (λ (share : Share). RemoveShare share.key) (filter p (values s.shares))) (λ i share. to_group group share.key.to i)
+    map_twice (λ key. Remove (RowKey.Share key)) (λ (share : Share). share.key) _ ∙ ap (λ p. map (λ (share : Share). Remove (RowKey.Share share.key)) (filter p (values s.shares))) (λ i share. to_group group share.key.to i)

@@ -1,4 +1,4 @@
--- None of the changes puts a row that is found by a hash.
+-- None of the changes puts a row that is found by a hash, and so each put of them fits.
 use Rattle.std.proofs.Common.{◌≡◌, ℕ, Bool, true, false, ◌||◌, List, [], ◌∷◌, ◌++◌, map, filter, refl, sym, subst}
 use Rattle.std.specs.List.{list_any}
 use Rattle.std.specs.FinMap.{values}
@@ -9,8 +9,11 @@ use Rattle.hub_rows.specs.declared.records.ShareCode.{ShareCode}
 use Rattle.hub_rows.specs.declared.records.OAuthClient.{OAuthClient}
 use Rattle.hub_rows.specs.declared.records.OAuthCode.{OAuthCode}
 use Rattle.hub_rows.specs.declared.changes.RowChange.{RowChange}
-use Rattle.hub_rows.specs.declared.changes.RowChange.TheVariants.{RemoveUser, RemoveGroup, RemoveService, RemoveToken, RemoveServerRow, RemoveShare, RemoveShareCode, RemoveOAuthClient, RemoveOAuthCode}
-use Rattle.hub_tables.specs.Changes.{puts_hashed}
+use Rattle.hub_rows.specs.declared.changes.RowChange.TheVariants.{Put, Remove}
+use Rattle.hub_rows.specs.declared.rows.Row.{Row}
+use Rattle.hub_rows.specs.declared.rows.Row.TheVariants as Row
+use Rattle.hub_rows.specs.declared.rows.RowKey.TheVariants as RowKey
+use Rattle.hub_tables.specs.Changes.{puts_hashed, with_row, FitsKey, FitAll}
 use Rattle.hub_tables.specs.State.{State}
 use Rattle.admin_rules.specs.Purges.{changes_of, has_member, without_member, is_held_by_user, without_user, is_token_of_user, is_server_of_user, is_share_of_user, is_code_of_user, is_called, clients_of_user, is_grant_of_user, user_rows, is_held_by_group, without_group, is_share_to_group, group_rows, is_held_by_service, without_service, is_token_of_service, is_client, client_of_service, service_rows}
 use Rattle.admin_rules.specs.Users.{new_user}
@@ -48,13 +51,13 @@ plain_user : (s : State) (user : List ℕ) → ArePlain (user_rows s user)
 plain_user s user =
     let groups : List RowChange = changes_of (has_member user) (without_member user) (values s.groups) in
     let roles : List RowChange = changes_of (is_held_by_user user) (without_user user) (values s.roles) in
-    let row : List RowChange = RemoveUser user ∷ [] in
-    let of_tokens : Token → RowChange = λ token. RemoveToken token.id in
-    let of_servers : ServerRow → RowChange = λ row. RemoveServerRow row.key in
-    let of_shares : Share → RowChange = λ share. RemoveShare share.key in
-    let of_codes : ShareCode → RowChange = λ code. RemoveShareCode code.id in
-    let of_clients : OAuthClient → RowChange = λ client. RemoveOAuthClient client.id in
-    let of_grants : OAuthCode → RowChange = λ code. RemoveOAuthCode code.hash in
+    let row : List RowChange = Remove (RowKey.User user) ∷ [] in
+    let of_tokens : Token → RowChange = λ token. Remove (RowKey.Token token.id) in
+    let of_servers : ServerRow → RowChange = λ row. Remove (RowKey.ServerRow row.key) in
+    let of_shares : Share → RowChange = λ share. Remove (RowKey.Share share.key) in
+    let of_codes : ShareCode → RowChange = λ code. Remove (RowKey.ShareCode code.id) in
+    let of_clients : OAuthClient → RowChange = λ client. Remove (RowKey.OAuthClient client.id) in
+    let of_grants : OAuthCode → RowChange = λ code. Remove (RowKey.OAuthCode code.hash) in
     let tokens : List RowChange = changes_of (is_token_of_user user) of_tokens (values s.tokens) in
     let servers : List RowChange = changes_of (is_server_of_user user) of_servers (values s.servers) in
     let first : List RowChange = groups ++ roles ++ row ++ tokens ++ servers in
@@ -76,8 +79,8 @@ plain_user s user =
 
 plain_group : (s : State) (group : List ℕ) → ArePlain (group_rows s group)
 plain_group s group =
-    let of_shares : Share → RowChange = λ share. RemoveShare share.key in
-    let row : List RowChange = RemoveGroup group ∷ [] in
+    let of_shares : Share → RowChange = λ share. Remove (RowKey.Share share.key) in
+    let row : List RowChange = Remove (RowKey.Group group) ∷ [] in
     three (changes_of (is_held_by_group group) (without_group group) (values s.roles)) row (changes_of (is_share_to_group group) of_shares (values s.shares))
     (changed (is_held_by_group group) (without_group group) (λ _. refl) (values s.roles))
     refl
@@ -85,10 +88,10 @@ plain_group s group =
 
 plain_service : (s : State) (service : List ℕ) → ArePlain (service_rows s service)
 plain_service s service =
-    let of_tokens : Token → RowChange = λ token. RemoveToken token.id in
-    let of_clients : OAuthClient → RowChange = λ client. RemoveOAuthClient client.id in
+    let of_tokens : Token → RowChange = λ token. Remove (RowKey.Token token.id) in
+    let of_clients : OAuthClient → RowChange = λ client. Remove (RowKey.OAuthClient client.id) in
     let roles : List RowChange = changes_of (is_held_by_service service) (without_service service) (values s.roles) in
-    let row : List RowChange = RemoveService service ∷ [] in
+    let row : List RowChange = Remove (RowKey.Service service) ∷ [] in
     let tokens : List RowChange = changes_of (is_token_of_service service) of_tokens (values s.tokens) in
     let clients : List RowChange = changes_of (is_client (client_of_service service)) of_clients (values s.clients) in
     plain-append (roles ++ row ++ tokens) clients
@@ -111,3 +114,24 @@ group_plain s group rows e = subst ArePlain (sym e) (plain_group s group)
 
 pub service_plain : (s : State) (service : List ℕ) (rows : List RowChange) → rows ≡ service_rows s service → ArePlain rows
 service_plain s service rows e = subst ArePlain (sym e) (plain_service s service)
+
+-- ---- rows that aren't found by a hash fit anywhere
+
+true_false : true ≡ false → ⊥
+true_false e = cc
+
+unhashed : (row : Row) (t : State) → puts_hashed (Put row) ≡ false → FitsKey t row
+unhashed (Row.Token x) t h = absurd (true_false h)
+unhashed (Row.ShareCode x) t h = absurd (true_false h)
+unhashed _ t h = tt
+
+neither : (a b : Bool) → (a || b) ≡ false → (a ≡ false) × (b ≡ false)
+neither true b h = absurd (true_false h)
+neither false b h = (refl, h)
+
+pub plain_fit : (rows : List RowChange) (t : State) → ArePlain rows → FitAll rows t
+plain_fit [] t h = tt
+plain_fit (Put row ∷ rest) t h =
+    let apart = neither (puts_hashed (Put row)) (list_any puts_hashed rest) h in
+    (unhashed row t apart.0, plain_fit rest (with_row row t) apart.1)
+plain_fit (Remove key ∷ rest) t h = plain_fit rest t h

@@ -7,7 +7,8 @@ use Rattle.keyed_rows.specs.Sorted.{with_keys, without_keys, in_order}
 use Rattle.scope_filters.specs.Contexts.{same}
 use Rattle.hub_rows.specs.declared.records.Group.{Group}
 use Rattle.hub_rows.specs.declared.changes.RowChange.{RowChange}
-use Rattle.hub_rows.specs.declared.changes.RowChange.TheVariants.{PutGroup}
+use Rattle.hub_rows.specs.declared.changes.RowChange.TheVariants.{Put}
+use Rattle.hub_rows.specs.declared.rows.Row.TheVariants as Row
 use Rattle.hub_tables.specs.State.{State}
 use Rattle.admin_rules.specs.declared.refusals.RuleRefusal.{RuleRefusal}
 use Rattle.admin_rules.specs.declared.refusals.RuleRefusal.TheVariants.{Exists, UnknownUser}
@@ -27,7 +28,7 @@ add_group s group users =
     ∷ if_unknown_user s users
     ∷ if_full 2 s.limits.groups (len s.groups) 1
     ∷ [])
-    (PutGroup (record { name = group; users = in_order name_cmp users }) ∷ [])
+    (Put (Row.Group (record { name = group; users = in_order name_cmp users })) ∷ [])
 
 -- ---- joining and leaving
 
@@ -38,7 +39,7 @@ same_names = pointwise same
 abbrev pub with_members : (List (List ℕ) → List (List ℕ)) → Option Group → List RowChange
 with_members change None = []
 with_members change (Some group) =
-    if same_names (change group.users) group.users then [] else PutGroup (record group { users = change group.users }) ∷ []
+    if same_names (change group.users) group.users then [] else Put (Row.Group (record group { users = change group.users })) ∷ []
 
 abbrev pub join_group : State → List ℕ → List (List ℕ) → Answer
 join_group s group users = by_rules (if_unknown_user s users ∷ []) (with_members (with_keys name_cmp users) (get s.groups group))

@@ -18,7 +18,9 @@ use Rattle.hub_rows.specs.declared.records.ShareCode.{ShareCode}
 use Rattle.hub_rows.specs.declared.records.OAuthClient.{OAuthClient}
 use Rattle.hub_rows.specs.declared.records.OAuthCode.{OAuthCode}
 use Rattle.hub_rows.specs.declared.changes.RowChange.{RowChange}
-use Rattle.hub_rows.specs.declared.changes.RowChange.TheVariants.{RemoveUser, PutGroup, RemoveGroup, RemoveService, PutRole, RemoveToken, RemoveServerRow, RemoveShare, RemoveShareCode, RemoveOAuthClient, RemoveOAuthCode}
+use Rattle.hub_rows.specs.declared.changes.RowChange.TheVariants.{Put, Remove}
+use Rattle.hub_rows.specs.declared.rows.Row.TheVariants as Row
+use Rattle.hub_rows.specs.declared.rows.RowKey.TheVariants as RowKey
 use Rattle.hub_tables.specs.State.{State}
 
 -- the change of each row that a test takes, in the order of the rows
@@ -31,13 +33,13 @@ abbrev pub has_member : List ℕ → Group → Bool
 has_member user group = is_among name_cmp user group.users
 
 abbrev pub without_member : List ℕ → Group → RowChange
-without_member user group = PutGroup (record group { users = without_keys name_cmp (user ∷ []) group.users })
+without_member user group = Put (Row.Group (record group { users = without_keys name_cmp (user ∷ []) group.users }))
 
 abbrev pub is_held_by_user : List ℕ → Role → Bool
 is_held_by_user user role = is_among name_cmp user role.users
 
 abbrev pub without_user : List ℕ → Role → RowChange
-without_user user role = PutRole (record role { users = without_keys name_cmp (user ∷ []) role.users })
+without_user user role = Put (Row.Role (record role { users = without_keys name_cmp (user ∷ []) role.users }))
 
 abbrev pub is_user : List ℕ → Owner → Bool
 is_user user (Of.User name) = same name user
@@ -75,13 +77,13 @@ abbrev pub user_rows : State → List ℕ → List RowChange
 user_rows s user =
     changes_of (has_member user) (without_member user) (values s.groups)
     ++ changes_of (is_held_by_user user) (without_user user) (values s.roles)
-    ++ RemoveUser user ∷ []
-    ++ changes_of (is_token_of_user user) (λ token. RemoveToken token.id) (values s.tokens)
-    ++ changes_of (is_server_of_user user) (λ row. RemoveServerRow row.key) (values s.servers)
-    ++ changes_of (is_share_of_user user) (λ share. RemoveShare share.key) (values s.shares)
-    ++ changes_of (is_code_of_user user) (λ code. RemoveShareCode code.id) (values s.codes)
-    ++ changes_of (is_called (clients_of_user user)) (λ client. RemoveOAuthClient client.id) (values s.clients)
-    ++ changes_of (is_grant_of_user user) (λ code. RemoveOAuthCode code.hash) (values s.grant_codes)
+    ++ Remove (RowKey.User user) ∷ []
+    ++ changes_of (is_token_of_user user) (λ token. Remove (RowKey.Token token.id)) (values s.tokens)
+    ++ changes_of (is_server_of_user user) (λ row. Remove (RowKey.ServerRow row.key)) (values s.servers)
+    ++ changes_of (is_share_of_user user) (λ share. Remove (RowKey.Share share.key)) (values s.shares)
+    ++ changes_of (is_code_of_user user) (λ code. Remove (RowKey.ShareCode code.id)) (values s.codes)
+    ++ changes_of (is_called (clients_of_user user)) (λ client. Remove (RowKey.OAuthClient client.id)) (values s.clients)
+    ++ changes_of (is_grant_of_user user) (λ code. Remove (RowKey.OAuthCode code.hash)) (values s.grant_codes)
 
 -- ---- with a group
 
@@ -89,7 +91,7 @@ abbrev pub is_held_by_group : List ℕ → Role → Bool
 is_held_by_group group role = is_among name_cmp group role.groups
 
 abbrev pub without_group : List ℕ → Role → RowChange
-without_group group role = PutRole (record role { groups = without_keys name_cmp (group ∷ []) role.groups })
+without_group group role = Put (Row.Role (record role { groups = without_keys name_cmp (group ∷ []) role.groups }))
 
 abbrev pub is_to_group : List ℕ → Recipient → Bool
 is_to_group group (To.User name) = false
@@ -102,8 +104,8 @@ is_share_to_group group share = is_to_group group share.key.to
 abbrev pub group_rows : State → List ℕ → List RowChange
 group_rows s group =
     changes_of (is_held_by_group group) (without_group group) (values s.roles)
-    ++ RemoveGroup group ∷ []
-    ++ changes_of (is_share_to_group group) (λ share. RemoveShare share.key) (values s.shares)
+    ++ Remove (RowKey.Group group) ∷ []
+    ++ changes_of (is_share_to_group group) (λ share. Remove (RowKey.Share share.key)) (values s.shares)
 
 -- ---- with a service
 
@@ -111,7 +113,7 @@ abbrev pub is_held_by_service : List ℕ → Role → Bool
 is_held_by_service service role = is_among name_cmp service role.services
 
 abbrev pub without_service : List ℕ → Role → RowChange
-without_service service role = PutRole (record role { services = without_keys name_cmp (service ∷ []) role.services })
+without_service service role = Put (Row.Role (record role { services = without_keys name_cmp (service ∷ []) role.services }))
 
 abbrev pub is_service : List ℕ → Owner → Bool
 is_service service (Of.User name) = false
@@ -130,6 +132,6 @@ is_client id client = same client.id id
 abbrev pub service_rows : State → List ℕ → List RowChange
 service_rows s service =
     changes_of (is_held_by_service service) (without_service service) (values s.roles)
-    ++ RemoveService service ∷ []
-    ++ changes_of (is_token_of_service service) (λ token. RemoveToken token.id) (values s.tokens)
-    ++ changes_of (is_client (client_of_service service)) (λ client. RemoveOAuthClient client.id) (values s.clients)
+    ++ Remove (RowKey.Service service) ∷ []
+    ++ changes_of (is_token_of_service service) (λ token. Remove (RowKey.Token token.id)) (values s.tokens)
+    ++ changes_of (is_client (client_of_service service)) (λ client. Remove (RowKey.OAuthClient client.id)) (values s.clients)

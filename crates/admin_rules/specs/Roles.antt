@@ -15,7 +15,9 @@ use Rattle.scope_filters.specs.declared.scope.RawScope.TheVariants.{Plain, SelfS
 use Rattle.scope_filters.specs.contracts.scope.RawScopePartialEq.TheImpl as scope
 use Rattle.hub_rows.specs.declared.records.Role.{Role}
 use Rattle.hub_rows.specs.declared.changes.RowChange.{RowChange}
-use Rattle.hub_rows.specs.declared.changes.RowChange.TheVariants.{PutRole, RemoveRole}
+use Rattle.hub_rows.specs.declared.changes.RowChange.TheVariants.{Put, Remove}
+use Rattle.hub_rows.specs.declared.rows.Row.TheVariants as Row
+use Rattle.hub_rows.specs.declared.rows.RowKey.TheVariants as RowKey
 use Rattle.hub_tables.specs.State.{State}
 use Rattle.admin_rules.specs.declared.refusals.RuleRefusal.{RuleRefusal}
 use Rattle.admin_rules.specs.declared.refusals.RuleRefusal.TheVariants.{FixedRole, UnknownScope, UnknownHolder}
@@ -62,8 +64,8 @@ same_role a b =
 
 -- a role that is equal to the kept one isn't put
 abbrev pub role_put : Role → Option Role → List RowChange
-role_put role None = PutRole role ∷ []
-role_put role (Some kept) = if same_role role kept then [] else PutRole role ∷ []
+role_put role None = Put (Row.Role role) ∷ []
+role_put role (Some kept) = if same_role role kept then [] else Put (Row.Role role) ∷ []
 
 abbrev pub put_role : State → Role → Answer
 put_role s role =
@@ -79,4 +81,4 @@ put_role s role =
 
 abbrev pub delete_role : State → List ℕ → Answer
 delete_role s role =
-    by_rules (if_so (is_fixed_role role) FixedRole ∷ []) (if contains_key s.roles role then RemoveRole role ∷ [] else [])
+    by_rules (if_so (is_fixed_role role) FixedRole ∷ []) (if contains_key s.roles role then Remove (RowKey.Role role) ∷ [] else [])

@@ -3,7 +3,8 @@ use Rattle.std.specs.Prelude.{ℕ, Bool, true, false, not, List, [], ◌∷◌, 
 use Rattle.std.specs.FinMap.{get, contains_key, len}
 use Rattle.hub_rows.specs.declared.records.User.{User}
 use Rattle.hub_rows.specs.declared.changes.RowChange.{RowChange}
-use Rattle.hub_rows.specs.declared.changes.RowChange.TheVariants.{PutUser}
+use Rattle.hub_rows.specs.declared.changes.RowChange.TheVariants.{Put}
+use Rattle.hub_rows.specs.declared.rows.Row.TheVariants as Row
 use Rattle.hub_tables.specs.State.{State}
 use Rattle.admin_rules.specs.declared.refusals.RuleRefusal.{RuleRefusal}
 use Rattle.admin_rules.specs.declared.refusals.RuleRefusal.TheVariants.{Exists, LiveServers}
@@ -16,7 +17,7 @@ abbrev pub unkept_users : State → List (List ℕ) → List (List ℕ)
 unkept_users s names = filter (λ name. not (contains_key s.users name)) names
 
 abbrev pub new_user : Bool → ℕ → List ℕ → RowChange
-new_user admin now name = PutUser (record { name = name; admin = admin; created = now; last_activity = None })
+new_user admin now name = Put (Row.User (record { name = name; admin = admin; created = now; last_activity = None }))
 
 -- a rule that refuses where none of the names is new: the first exists
 abbrev pub if_none_new : (new names : List (List ℕ)) → Option RuleRefusal
@@ -41,7 +42,7 @@ same_bool false b = not b
 -- a row that is equal to the kept one isn't put
 abbrev pub with_admin : Bool → Option User → List RowChange
 with_admin admin None = []
-with_admin admin (Some user) = if same_bool user.admin admin then [] else PutUser (record user { admin = admin }) ∷ []
+with_admin admin (Some user) = if same_bool user.admin admin then [] else Put (Row.User (record user { admin = admin })) ∷ []
 
 abbrev pub set_admin : State → List ℕ → Bool → Answer
 set_admin s name admin = Ok (with_admin admin (get s.users name))

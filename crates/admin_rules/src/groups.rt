@@ -10,6 +10,7 @@ use crate::rows::one;
 use hub_kit::names::{GroupName, UserName};
 use hub_rows::changes::RowChange;
 use hub_rows::records::Group;
+use hub_rows::rows::Row;
 use hub_tables::tables::Tables;
 use keyed_rows::sorted::Sorted;
 use std::alloc::Global;
@@ -35,10 +36,10 @@ pub fn add_group(
     let users = Sorted::from_vec(Vec::from_slice(alloc, users)?);
     one(
         alloc,
-        RowChange::PutGroup(Group {
+        RowChange::Put(Row::Group(Group {
             name: *group,
             users,
-        }),
+        })),
     )
 }
 
@@ -118,10 +119,10 @@ fn with_members(
     if members.as_slice() == kept.users.as_slice() {
         return Ok(Vec::new(alloc));
     }
-    let change = RowChange::PutGroup(Group {
+    let change = RowChange::Put(Row::Group(Group {
         name: kept.name,
         users: members,
-    });
+    }));
     one(alloc, change)
 }
 

@@ -8,6 +8,7 @@ use hub_kit::names::GroupName;
 use hub_rows::changes::RowChange;
 use hub_rows::keys::Recipient;
 use hub_rows::records::Role;
+use hub_rows::rows::{Row, RowKey};
 use hub_tables::tables::Tables;
 use std::alloc::{AllocError, Global};
 
@@ -34,7 +35,7 @@ fn purge_group(
     ensures { OnOk result (changes.new.items ≡ group_rows tables.now group.now) }
 {
     purge_rows(alloc, changes, group, tables.roles())?;
-    append(changes, RowChange::RemoveGroup(*group))?;
+    append(changes, RowChange::Remove(RowKey::Group(*group)))?;
     remove_shares(alloc, changes, tables, &Recipient::Group(*group))?;
     Ok(())
 }
@@ -52,6 +53,6 @@ impl Purge<Role> for GroupName {
         let groups = role.groups.without(alloc, &[*self])?;
         let mut role = role.copy(alloc)?;
         role.groups = groups;
-        Ok(RowChange::PutRole(role))
+        Ok(RowChange::Put(Row::Role(role)))
     }
 }

@@ -1,7 +1,8 @@
 //! What goes with a service.
 ghost use Rattle.std.specs.Prelude.{◌≡◌, ◌++◌, [], IfOk, OnOk};
 ghost use Rattle.std.specs.FinMap.{values};
-ghost use Rattle.hub_rows.specs.declared.changes.RowChange.TheVariants.{RemoveOAuthClient};
+ghost use Rattle.hub_rows.specs.declared.changes.RowChange.TheVariants.{Remove};
+ghost use Rattle.hub_rows.specs.declared.rows.RowKey.TheVariants as RowKey;
 ghost use Rattle.admin_rules.specs.Purges.{changes_of, is_held_by_service, without_service, is_client, client_of_service, service_rows};
 
 use crate::purges::{Purge, purge_rows, remove_tokens};
@@ -10,6 +11,7 @@ use hub_kit::names::ServiceName;
 use hub_kit::text::Text;
 use hub_rows::changes::RowChange;
 use hub_rows::records::{OAuthClient, Role};
+use hub_rows::rows::{Row, RowKey};
 use hub_tables::tables::Tables;
 use scope_filters::holder::Owner;
 use std::alloc::{AllocError, Global};
@@ -37,7 +39,7 @@ fn purge_service(
     ensures { OnOk result (changes.new.items ≡ service_rows tables.now service.now) }
 {
     purge_rows(alloc, changes, service, tables.roles())?;
-    append(changes, RowChange::RemoveService(*service))?;
+    append(changes, RowChange::Remove(RowKey::Service(*service)))?;
     remove_tokens(alloc, changes, tables, &Owner::Service(*service))?;
     remove_client(alloc, changes, tables, service)?;
     Ok(())
@@ -50,7 +52,7 @@ fn remove_client(
     tables: &Tables,
     service: &ServiceName,
 ) -> Result<(), AllocError>
-    ensures { OnOk result (changes.new.items ≡ changes.old.items ++ changes_of (is_client (client_of_service service.now)) (λ client. RemoveOAuthClient client.id) (values tables.now.clients)) }
+    ensures { OnOk result (changes.new.items ≡ changes.old.items ++ changes_of (is_client (client_of_service service.now)) (λ client. Remove (RowKey.OAuthClient client.id)) (values tables.now.clients)) }
 {
     let client = Client {
         id: client_of_service(alloc, service)?,
@@ -86,20 +88,20 @@ impl Purge<Role> for ServiceName {
         let services = role.services.without(alloc, &[*self])?;
         let mut role = role.copy(alloc)?;
         role.services = services;
-        Ok(RowChange::PutRole(role))
+        Ok(RowChange::Put(Row::Role(role)))
     }
 }
 
 impl Purge<OAuthClient> for Client {
     ghost takes = { λ client row. is_client client.id row };
 
-    ghost makes = { λ client row. RemoveOAuthClient row.id };
+    ghost makes = { λ client row. Remove (RowKey.OAuthClient row.id) };
 
     fn is_taken(&self, row: &OAuthClient) -> bool {
         row.id == self.id
     }
 
     fn change(&self, alloc: Global, row: &OAuthClient) -> Result<RowChange, AllocError> {
-        Ok(RowChange::RemoveOAuthClient(row.id.copy(alloc)?))
+        Ok(RowChange::Remove(RowKey::OAuthClient(row.id.copy(alloc)?)))
     }
 }

@@ -1,7 +1,8 @@
 //! What goes with a user.
 ghost use Rattle.std.specs.Prelude.{◌≡◌, ◌++◌, [], IfOk, OnOk};
 ghost use Rattle.std.specs.FinMap.{values};
-ghost use Rattle.hub_rows.specs.declared.changes.RowChange.TheVariants.{RemoveShareCode, RemoveOAuthClient, RemoveOAuthCode};
+ghost use Rattle.hub_rows.specs.declared.changes.RowChange.TheVariants.{Remove};
+ghost use Rattle.hub_rows.specs.declared.rows.RowKey.TheVariants as RowKey;
 ghost use Rattle.admin_rules.specs.Purges.{changes_of, has_member, without_member, is_held_by_user, without_user, is_code_of_user, is_called, clients_of_user, is_grant_of_user, user_rows};
 
 use crate::purges::{Purge, purge_rows, remove_servers, remove_shares, remove_tokens};
@@ -11,6 +12,7 @@ use hub_kit::text::Text;
 use hub_rows::changes::RowChange;
 use hub_rows::keys::Recipient;
 use hub_rows::records::{Group, OAuthClient, OAuthCode, Role, ShareCode};
+use hub_rows::rows::{Row, RowKey};
 use hub_tables::tables::Tables;
 use scope_filters::holder::Owner;
 use std::alloc::{AllocError, Global};
@@ -39,7 +41,7 @@ fn purge_user(
 {
     purge_rows(alloc, changes, user, tables.groups())?;
     purge_rows(alloc, changes, user, tables.roles())?;
-    append(changes, RowChange::RemoveUser(*user))?;
+    append(changes, RowChange::Remove(RowKey::User(*user)))?;
     remove_tokens(alloc, changes, tables, &Owner::User(*user))?;
     remove_servers(alloc, changes, tables, user)?;
     remove_shares(alloc, changes, tables, &Recipient::User(*user))?;
@@ -56,7 +58,7 @@ fn remove_clients(
     tables: &Tables,
     user: &UserName,
 ) -> Result<(), AllocError>
-    ensures { OnOk result (changes.new.items ≡ changes.old.items ++ changes_of (is_called (clients_of_user user.now)) (λ client. RemoveOAuthClient client.id) (values tables.now.clients)) }
+    ensures { OnOk result (changes.new.items ≡ changes.old.items ++ changes_of (is_called (clients_of_user user.now)) (λ client. Remove (RowKey.OAuthClient client.id)) (values tables.now.clients)) }
 {
     let clients = Clients {
         beginning: clients_of_user(alloc, user)?,
@@ -90,10 +92,10 @@ impl Purge<Group> for UserName {
     }
 
     fn change(&self, alloc: Global, group: &Group) -> Result<RowChange, AllocError> {
-        Ok(RowChange::PutGroup(Group {
+        Ok(RowChange::Put(Row::Group(Group {
             name: group.name,
             users: group.users.without(alloc, &[*self])?,
-        }))
+        })))
     }
 }
 
@@ -110,48 +112,48 @@ impl Purge<Role> for UserName {
         let users = role.users.without(alloc, &[*self])?;
         let mut role = role.copy(alloc)?;
         role.users = users;
-        Ok(RowChange::PutRole(role))
+        Ok(RowChange::Put(Row::Role(role)))
     }
 }
 
 impl Purge<ShareCode> for UserName {
     ghost takes = { is_code_of_user };
 
-    ghost makes = { λ user code. RemoveShareCode code.id };
+    ghost makes = { λ user code. Remove (RowKey.ShareCode code.id) };
 
     fn is_taken(&self, code: &ShareCode) -> bool {
         code.server.user == *self
     }
 
     fn change(&self, _alloc: Global, code: &ShareCode) -> Result<RowChange, AllocError> {
-        Ok(RowChange::RemoveShareCode(code.id))
+        Ok(RowChange::Remove(RowKey::ShareCode(code.id)))
     }
 }
 
 impl Purge<OAuthClient> for Clients {
     ghost takes = { λ clients client. is_called clients.beginning client };
 
-    ghost makes = { λ clients client. RemoveOAuthClient client.id };
+    ghost makes = { λ clients client. Remove (RowKey.OAuthClient client.id) };
 
     fn is_taken(&self, client: &OAuthClient) -> bool {
         client.id.as_bytes().starts_with(self.beginning.as_bytes())
     }
 
     fn change(&self, alloc: Global, client: &OAuthClient) -> Result<RowChange, AllocError> {
-        Ok(RowChange::RemoveOAuthClient(client.id.copy(alloc)?))
+        Ok(RowChange::Remove(RowKey::OAuthClient(client.id.copy(alloc)?)))
     }
 }
 
 impl Purge<OAuthCode> for UserName {
     ghost takes = { is_grant_of_user };
 
-    ghost makes = { λ user code. RemoveOAuthCode code.hash };
+    ghost makes = { λ user code. Remove (RowKey.OAuthCode code.hash) };
 
     fn is_taken(&self, code: &OAuthCode) -> bool {
         code.owner == *self
     }
 
     fn change(&self, alloc: Global, code: &OAuthCode) -> Result<RowChange, AllocError> {
-        Ok(RowChange::RemoveOAuthCode(code.hash.copy(alloc)?))
+        Ok(RowChange::Remove(RowKey::OAuthCode(code.hash.copy(alloc)?)))
     }
 }

@@ -1,6 +1,7 @@
 //! What goes with a name: one way for rows that are walked through, and one for those that an index finds.
 ghost use Rattle.std.specs.Prelude.{◌≡◌, ◌∷◌, [], ◌++◌, Bool, map, OnOk, IfOk};
-ghost use Rattle.hub_rows.specs.declared.changes.RowChange.TheVariants.{RemoveToken, RemoveServerRow, RemoveShare};
+ghost use Rattle.hub_rows.specs.declared.changes.RowChange.TheVariants.{Remove};
+ghost use Rattle.hub_rows.specs.declared.rows.RowKey.TheVariants as RowKey;
 ghost use Rattle.hub_rows.specs.declared.changes.RowChange.{RowChange};
 ghost use Rattle.hub_tables.specs.Lookups.{tokens_of, servers_of, shares_with};
 ghost use Rattle.admin_rules.specs.Purges.{changes_of};
@@ -9,6 +10,7 @@ use crate::rows::append;
 use hub_kit::names::UserName;
 use hub_rows::changes::RowChange;
 use hub_rows::keys::Recipient;
+use hub_rows::rows::RowKey;
 use hub_tables::tables::Tables;
 use scope_filters::holder::Owner;
 use std::alloc::{AllocError, Global};
@@ -64,11 +66,11 @@ pub(crate) fn remove_tokens(
     tables: &Tables,
     owner: &Owner,
 ) -> Result<(), AllocError>
-    ensures { OnOk result (changes.new.items ≡ changes.old.items ++ map (λ id. RemoveToken id) (tokens_of tables.now owner.now)) }
+    ensures { OnOk result (changes.new.items ≡ changes.old.items ++ map (λ id. Remove (RowKey.Token id)) (tokens_of tables.now owner.now)) }
 {
     let ids = tables.tokens_of(alloc, owner)?;
     for id in ids.as_slice() {
-        append(changes, RowChange::RemoveToken(*id))?;
+        append(changes, RowChange::Remove(RowKey::Token(*id)))?;
     }
     Ok(())
 }
@@ -80,11 +82,11 @@ pub(crate) fn remove_servers(
     tables: &Tables,
     user: &UserName,
 ) -> Result<(), AllocError>
-    ensures { OnOk result (changes.new.items ≡ changes.old.items ++ map (λ key. RemoveServerRow key) (servers_of tables.now user.now)) }
+    ensures { OnOk result (changes.new.items ≡ changes.old.items ++ map (λ key. Remove (RowKey.ServerRow key)) (servers_of tables.now user.now)) }
 {
     let keys = tables.servers_of(alloc, user)?;
     for key in keys.as_slice() {
-        append(changes, RowChange::RemoveServerRow(*key))?;
+        append(changes, RowChange::Remove(RowKey::ServerRow(*key)))?;
     }
     Ok(())
 }
@@ -96,11 +98,11 @@ pub(crate) fn remove_shares(
     tables: &Tables,
     to: &Recipient,
 ) -> Result<(), AllocError>
-    ensures { OnOk result (changes.new.items ≡ changes.old.items ++ map (λ key. RemoveShare key) (shares_with tables.now to.now)) }
+    ensures { OnOk result (changes.new.items ≡ changes.old.items ++ map (λ key. Remove (RowKey.Share key)) (shares_with tables.now to.now)) }
 {
     let keys = tables.shares_with(alloc, to)?;
     for key in keys.as_slice() {
-        append(changes, RowChange::RemoveShare(*key))?;
+        append(changes, RowChange::Remove(RowKey::Share(*key)))?;
     }
     Ok(())
 }

@@ -1,7 +1,8 @@
 //! The calls that put and delete roles.
 ghost use Rattle.std.specs.Prelude.{◌≡◌, ◌∷◌, [], IfOk, Ok, Some};
 ghost use Rattle.std.specs.Option.{option_copied, option_or};
-ghost use Rattle.hub_rows.specs.declared.changes.RowChange.TheVariants.{PutRole};
+ghost use Rattle.hub_rows.specs.declared.changes.RowChange.TheVariants.{Put};
+ghost use Rattle.hub_rows.specs.declared.rows.Row.TheVariants as Row;
 ghost use Rattle.admin_rules.specs.declared.refusals.RuleRefusal.TheVariants.{FixedRole};
 ghost use Rattle.admin_rules.specs.Rules.{ArePlain, Checks, Says, first_unkept, if_so};
 ghost use Rattle.admin_rules.specs.Roles.{delete_role, if_unknown_holder, if_unknown_scope, is_fixed_role, is_known_scope, put_role, same_role, unknown_holder, unknown_scope};
@@ -13,6 +14,7 @@ use hub_kit::names::{GroupName, RoleName, ServiceName};
 use hub_kit::text::Text;
 use hub_rows::changes::RowChange;
 use hub_rows::records::Role;
+use hub_rows::rows::{Row, RowKey};
 use hub_tables::tables::Tables;
 use scope_filters::scope::{RawScope, scope_text};
 use scope_names::action::Action;
@@ -49,10 +51,10 @@ fn check_role(alloc: Global, tables: &Tables, role: &Role) -> Result<(), RuleRef
 
 /// The put of a copy of a role.
 fn put_copy(alloc: Global, role: &Role) -> Result<Vec<RowChange>, RuleRefusal>
-    ensures answer { Says (Ok (PutRole role.now ∷ [])) result }
+    ensures answer { Says (Ok (Put (Row.Role role.now) ∷ [])) result }
     ensures plain { IfOk result (λ rows. ArePlain rows.items) }
 {
-    one(alloc, RowChange::PutRole(role.copy(alloc)?))
+    one(alloc, RowChange::Put(Row::Role(role.copy(alloc)?)))
 }
 
 /// Whether the role is one that every hub has, and that no call changes: `user` and `admin` (JupyterHub's documentation, "Default roles").
@@ -170,5 +172,5 @@ pub fn delete_role(
     if tables.role(role).is_none() {
         return Ok(Vec::new(alloc));
     }
-    one(alloc, RowChange::RemoveRole(*role))
+    one(alloc, RowChange::Remove(RowKey::Role(*role)))
 }

@@ -9,6 +9,7 @@ use crate::rows::one;
 use hub_kit::names::ServiceName;
 use hub_rows::changes::RowChange;
 use hub_rows::records::Service;
+use hub_rows::rows::Row;
 use hub_tables::tables::Tables;
 use std::alloc::Global;
 
@@ -28,7 +29,7 @@ pub fn add_service(
         tables.count_of_services() as u64,
         1,
     )?;
-    let change = RowChange::PutService(Service { name: *service });
+    let change = RowChange::Put(Row::Service(Service { name: *service }));
     one(alloc, change)
 }
 

@@ -11,6 +11,7 @@ use hub_kit::names::UserName;
 use hub_kit::text::Text;
 use hub_rows::changes::RowChange;
 use hub_rows::records::User;
+use hub_rows::rows::Row;
 use hub_tables::tables::Tables;
 use std::alloc::{AllocError, Global};
 
@@ -83,12 +84,12 @@ fn new_users(
 fn new_user(name: UserName, admin: bool, now: Moment) -> RowChange
     ensures { result ≡ new_user admin now name }
 {
-    RowChange::PutUser(User {
+    RowChange::Put(Row::User(User {
         name,
         admin,
         created: now,
         last_activity: None,
-    })
+    }))
 }
 
 /// Makes a user an admin, or no longer one, as `PATCH /users/{name}` does. Without such a user nothing changes.
@@ -103,7 +104,7 @@ pub fn set_admin(
 {
     match tables.user(user) {
         Some(kept) if kept.admin != admin => {
-            let change = RowChange::PutUser(User { admin, ..*kept });
+            let change = RowChange::Put(Row::User(User { admin, ..*kept }));
             one(alloc, change)
         }
         _ => Ok(Vec::new(alloc)),

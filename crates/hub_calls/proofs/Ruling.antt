@@ -11,7 +11,8 @@ use Rattle.hub_tables.specs.State.{State}
 use Rattle.hub_rows.specs.declared.records.User.{User}
 use Rattle.hub_rows.specs.declared.records.Group.{Group}
 use Rattle.hub_rows.specs.declared.changes.RowChange.{RowChange}
-use Rattle.hub_rows.specs.declared.changes.RowChange.TheVariants.{PutUser, PutGroup, PutService}
+use Rattle.hub_rows.specs.declared.changes.RowChange.TheVariants.{Put}
+use Rattle.hub_rows.specs.declared.rows.Row.TheVariants as Row
 use Rattle.admin_rules.specs.declared.refusals.RuleRefusal.{RuleRefusal}
 use Rattle.admin_rules.specs.Rules as rules
 use Rattle.admin_rules.specs.Users as users
@@ -46,7 +47,7 @@ ruled (Some r ∷ checks) made rows e = absurd (not_ok rows r e)
 puts_admin : (admin : Bool) (u : List ℕ) (kept : Option User) → ((x : User) → kept ≡ Some x → x.name ≡ u) → PutsUser u (users.with_admin admin kept)
 puts_admin admin u None own = tt
 puts_admin admin u (Some x) own =
-    elim (users.same_bool x.admin admin) as (λ b. PutsUser u (cond b [] (PutUser (record x { admin = admin }) ∷ []))) [ true ↦ tt | false ↦ own x refl ]
+    elim (users.same_bool x.admin admin) as (λ b. PutsUser u (cond b [] (Put (Row.User (record x { admin = admin })) ∷ []))) [ true ↦ tt | false ↦ own x refl ]
 
 pub set_admin_puts : (t : State) (u : List ℕ) (admin : Bool) (rows : List RowChange)
     → ((x : User) → get t.users u ≡ Some x → x.name ≡ u) → users.set_admin t u admin ≡ Ok rows → PutsUser u rows
@@ -69,7 +70,7 @@ add_user_puts t u admin now rows e =
 puts_members : (change : List (List ℕ) → List (List ℕ)) (g : List ℕ) (kept : Option Group) → ((x : Group) → kept ≡ Some x → x.name ≡ g) → PutsGroup g (groups.with_members change kept)
 puts_members change g None own = tt
 puts_members change g (Some x) own =
-    elim (groups.same_names (change x.users) x.users) as (λ b. PutsGroup g (cond b [] (PutGroup (record x { users = change x.users }) ∷ []))) [ true ↦ tt | false ↦ own x refl ]
+    elim (groups.same_names (change x.users) x.users) as (λ b. PutsGroup g (cond b [] (Put (Row.Group (record x { users = change x.users })) ∷ []))) [ true ↦ tt | false ↦ own x refl ]
 
 members_put : (t : State) (g : List ℕ) (checks : List (Option RuleRefusal)) (change : List (List ℕ) → List (List ℕ)) (rows : List RowChange)
     → ((x : Group) → get t.groups g ≡ Some x → x.name ≡ g) → rules.by_rules checks (groups.with_members change (get t.groups g)) ≡ Ok rows → PutsGroup g rows
@@ -88,7 +89,7 @@ leave_group_puts t g names rows own e = members_put t g (groups.if_unknown_user 
 pub add_group_puts : (t : State) (g : List ℕ) (names : List (List ℕ)) (rows : List RowChange) → groups.add_group t g names ≡ Ok rows → PutsGroup g rows
 add_group_puts t g names rows e =
     let P : List RowChange → Type 0 = λ r. PutsGroup g r in
-    let made : List RowChange = PutGroup (record { name = g; users = in_order name_cmp names }) ∷ [] in
+    let made : List RowChange = Put (Row.Group (record { name = g; users = in_order name_cmp names })) ∷ [] in
     subst P (ruled (rules.if_so (contains_key t.groups g) (Exists g) ∷ groups.if_unknown_user t names ∷ rules.if_full 2 t.limits.groups (len t.groups) 1 ∷ []) made rows e) refl
 
 -- a new service changes nothing that its body shows
@@ -96,7 +97,7 @@ pub add_service_keeps : (may : Rights) (s : Hub) (v : List ℕ) (rows : List Row
     → services.add_service s.tables v ≡ Ok rows → service_body may s v ≡ service_body may (after_rows rows s) v
 add_service_keeps may s v rows e =
     let P : List RowChange → Type 0 = λ r. service_body may s v ≡ service_body may (after_rows r s) v in
-    let made : List RowChange = PutService (record { name = v }) ∷ [] in
+    let made : List RowChange = Put (Row.Service (record { name = v })) ∷ [] in
     subst P (ruled (rules.if_so (contains_key s.tables.services v) (Exists v) ∷ rules.if_full 3 s.tables.limits.services (len s.tables.services) 1 ∷ []) made rows e) refl
 
 -- what holds of the rows that an answer gives holds where a call says that answer

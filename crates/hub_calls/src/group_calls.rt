@@ -23,6 +23,7 @@ use hub_machine::answer::{Answer, gives};
 use hub_machine::machine::Machine;
 use hub_rows::changes::RowChange;
 use hub_rows::records::Group;
+use hub_rows::rows::Row;
 use hub_view::{Body, Listing, Page};
 use scope_filters::grant::Grant;
 use scope_filters::object::Object;
@@ -34,7 +35,7 @@ fn group_put(rows: &[RowChange]) -> Option<&Group>
     ensures { option_copied result ≡ group_put rows.now }
 {
     match rows {
-        [RowChange::PutGroup(group), ..] => Some(group),
+        [RowChange::Put(Row::Group(group)), ..] => Some(group),
         _ => None,
     }
 }

@@ -27,6 +27,7 @@ use hub_machine::answer::{Answer, gives};
 use hub_machine::machine::Machine;
 use hub_rows::changes::RowChange;
 use hub_rows::records::{Token, User};
+use hub_rows::rows::Row;
 use hub_view::{Body, Listing, Page, add_member, line, service_identity, user_identity};
 use scope_filters::grant::Grant;
 use scope_filters::holder::Owner;
@@ -54,7 +55,7 @@ fn user_put(rows: &[RowChange]) -> Option<&User>
     ensures { option_copied result ≡ user_put rows.now }
 {
     match rows {
-        [RowChange::PutUser(user), ..] => Some(user),
+        [RowChange::Put(Row::User(user)), ..] => Some(user),
         _ => None,
     }
 }
@@ -196,7 +197,7 @@ fn bodies_put(
 {
     let mut bodies = Vec::new(alloc);
     for row in rows {
-        if let RowChange::PutUser(user) = row {
+        if let RowChange::Put(Row::User(user)) = row {
             bodies.push(user_body(alloc, hub, rights, user)?)?;
         }
     }

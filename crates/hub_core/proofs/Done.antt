@@ -1,11 +1,13 @@
--- The change of an answer may be done: the history has room for it, and no row of it is found by a hash.
+-- The change of an answer may be done: the history has room for it, and each put of it fits, since no row of it is found by a hash.
 use Rattle.std.proofs.Common.{◌≡◌, ℕ, Bool, true, false, not, cond, List, [], ◌∷◌, map, length, Option, refl, sym, subst}
 use Rattle.std.specs.Prelude.{Some, None, Ok, Err}
 use Rattle.std.specs.FinMap.{get, contains_key, len}
 use Rattle.hub_kit.specs.KeyOrder.{name_cmp}
 use Rattle.keyed_rows.specs.Sorted.{in_order, with_keys, without_keys}
 use Rattle.hub_rows.specs.declared.changes.RowChange.{RowChange}
-use Rattle.hub_rows.specs.declared.changes.RowChange.TheVariants.{PutUser, PutGroup, PutService, PutRole, RemoveRole}
+use Rattle.hub_rows.specs.declared.changes.RowChange.TheVariants.{Put, Remove}
+use Rattle.hub_rows.specs.declared.rows.Row.TheVariants as Row
+use Rattle.hub_rows.specs.declared.rows.RowKey.TheVariants as RowKey
 use Rattle.hub_rows.specs.declared.records.User.{User}
 use Rattle.hub_rows.specs.declared.records.Group.{Group}
 use Rattle.hub_rows.specs.declared.records.Role.{Role}
@@ -19,7 +21,7 @@ use Rattle.admin_rules.specs.Groups as groups
 use Rattle.admin_rules.specs.Services as services
 use Rattle.admin_rules.specs.Roles as roles
 use Rattle.admin_rules.specs.Purges.{user_rows, group_rows, service_rows}
-use Rattle.admin_rules.proofs.Plain.{users_plain, user_plain, group_plain, service_plain}
+use Rattle.admin_rules.proofs.Plain.{users_plain, user_plain, group_plain, service_plain, plain_fit}
 use Rattle.hub_view.specs.Fields.{Rights}
 use Rattle.hub_machine.specs.State.{Hub, has_live_server}
 use Rattle.hub_machine.specs.Apply.{is_past_trail}
@@ -89,15 +91,15 @@ new_users t names admin now rows e =
 
 one_admin : (admin : Bool) (kept : Option User) → rules.ArePlain (users.with_admin admin kept)
 one_admin admin None = refl
-one_admin admin (Some x) = plain_unless (users.same_bool x.admin admin) (PutUser (record x { admin = admin }) ∷ []) refl
+one_admin admin (Some x) = plain_unless (users.same_bool x.admin admin) (Put (Row.User (record x { admin = admin })) ∷ []) refl
 
 one_group : (change : List (List ℕ) → List (List ℕ)) (kept : Option Group) → rules.ArePlain (groups.with_members change kept)
 one_group change None = refl
-one_group change (Some x) = plain_unless (groups.same_names (change x.users) x.users) (PutGroup (record x { users = change x.users }) ∷ []) refl
+one_group change (Some x) = plain_unless (groups.same_names (change x.users) x.users) (Put (Row.Group (record x { users = change x.users })) ∷ []) refl
 
 one_role : (r : Role) (kept : Option Role) → rules.ArePlain (roles.role_put r kept)
 one_role r None = refl
-one_role r (Some k) = plain_unless (roles.same_role r k) (PutRole r ∷ []) refl
+one_role r (Some k) = plain_unless (roles.same_role r k) (Put (Row.Role r) ∷ []) refl
 
 -- ---- each call
 
@@ -108,7 +110,7 @@ plain_row s may now k (PatchUser user admin) = plain_rules s (users.set_admin s.
 plain_row s may now k (DeleteUser user) = plain_rules s (users.delete_user s.tables user (has_live_server s.lives user)) _
     (λ rows e. plain_ruled (rules.if_so (has_live_server s.lives user) LiveServers ∷ []) _ rows (plain_if (contains_key s.tables.users user) (user_rows s.tables user) (user_plain s.tables user (user_rows s.tables user) refl)) e)
 plain_row s may now k (PostGroup group names) = plain_rules s (groups.add_group s.tables group names) _
-    (λ rows e. plain_ruled (rules.if_so (contains_key s.tables.groups group) (Exists group) ∷ groups.if_unknown_user s.tables names ∷ rules.if_full 2 s.tables.limits.groups (len s.tables.groups) 1 ∷ []) (PutGroup (record { name = group; users = in_order name_cmp names }) ∷ []) rows refl e)
+    (λ rows e. plain_ruled (rules.if_so (contains_key s.tables.groups group) (Exists group) ∷ groups.if_unknown_user s.tables names ∷ rules.if_full 2 s.tables.limits.groups (len s.tables.groups) 1 ∷ []) (Put (Row.Group (record { name = group; users = in_order name_cmp names })) ∷ []) rows refl e)
 plain_row s may now k (DeleteGroup group) = plain_rules s (groups.delete_group s.tables group) done
     (λ rows e. plain_ok _ rows (plain_if (contains_key s.tables.groups group) (group_rows s.tables group) (group_plain s.tables group (group_rows s.tables group) refl)) e)
 plain_row s may now k (JoinGroup group names) = plain_rules s (groups.join_group s.tables group names) _
@@ -116,7 +118,7 @@ plain_row s may now k (JoinGroup group names) = plain_rules s (groups.join_group
 plain_row s may now k (LeaveGroup group names) = plain_rules s (groups.leave_group s.tables group names) _
     (λ rows e. plain_ruled (groups.if_unknown_user s.tables names ∷ []) _ rows (one_group (without_keys name_cmp names) (get s.tables.groups group)) e)
 plain_row s may now k (PostService service) = plain_rules s (services.add_service s.tables service) _
-    (λ rows e. plain_ruled (rules.if_so (contains_key s.tables.services service) (Exists service) ∷ rules.if_full 3 s.tables.limits.services (len s.tables.services) 1 ∷ []) (PutService (record { name = service }) ∷ []) rows refl e)
+    (λ rows e. plain_ruled (rules.if_so (contains_key s.tables.services service) (Exists service) ∷ rules.if_full 3 s.tables.limits.services (len s.tables.services) 1 ∷ []) (Put (Row.Service (record { name = service })) ∷ []) rows refl e)
 plain_row s may now k (DeleteService service) = plain_rules s (services.delete_service s.tables service) done
     (λ rows e. plain_ok _ rows (plain_if (contains_key s.tables.services service) (service_rows s.tables service) (service_plain s.tables service (service_rows s.tables service) refl)) e)
 plain_row s may now k (PutRole role scopes us gs vs) =
@@ -125,7 +127,7 @@ plain_row s may now k (PutRole role scopes us gs vs) =
     (λ rows e. plain_ruled (rules.if_so (roles.is_fixed_role x.name) FixedRole ∷ roles.if_unknown_scope s.tables.scopes x.scopes ∷ roles.if_unknown_holder s.tables x
     ∷ rules.if_full 4 s.tables.limits.roles (len s.tables.roles) (cond (contains_key s.tables.roles x.name) 0 1) ∷ []) _ rows (one_role x (get s.tables.roles x.name)) e)
 plain_row s may now k (DeleteRole role) = plain_rules s (roles.delete_role s.tables role) _
-    (λ rows e. plain_ruled (rules.if_so (roles.is_fixed_role role) FixedRole ∷ []) _ rows (plain_if (contains_key s.tables.roles role) (RemoveRole role ∷ []) refl) e)
+    (λ rows e. plain_ruled (rules.if_so (roles.is_fixed_role role) FixedRole ∷ []) _ rows (plain_if (contains_key s.tables.roles role) (Remove (RowKey.Role role) ∷ []) refl) e)
 plain_row s may now k _ = tt
 
 -- ---- the frame
@@ -147,7 +149,7 @@ plain_call s j now call k false = tt
 may_if : (s : Hub) (rows : List RowChange) (g : Good) (b : Bool) → is_past_trail s (Rows rows) ≡ b → rules.ArePlain rows
     → MayBeDone s (cond b (refuses TrailFull) (changes (Rows rows) g))
 may_if s rows g true e h = tt
-may_if s rows g false e h = (e, h)
+may_if s rows g false e h = (e, plain_fit rows s.tables h)
 
 may_in_trail : (s : Hub) (r : Answer) → Plain r → MayBeDone s (in_trail s r)
 may_in_trail s (refuses x) h = tt

@@ -4,7 +4,7 @@ use Rattle.hub_devices.specs.Faults.{Rises}
 use Rattle.roles.specs.Looks.{Cache}
 use Rattle.hub_machine.specs.State.{Hub}
 use Rattle.hub_machine.specs.Apply.{apply, is_past_trail}
-use Rattle.hub_machine.specs.Carry.{NoneHashed}
+use Rattle.hub_machine.specs.Carry.{FitsIn}
 use Rattle.hub_machine.specs.Replies.{Answer, changes, answered, outcome_of, reply_of, refusal_reply}
 use Rattle.hub_machine.specs.Answers.{outcome_view, reply_view}
 use Rattle.hub_core.specs.History.{Answers, change_of, IsLegal, state_after}
@@ -120,9 +120,9 @@ VisitedAt start before after faults faults' now draw asked (Err e) = after ≡ b
 
 -- ---- an answer, carried out
 
--- the history has room for the change of an answer, and no row of it is found by a hash
+-- the history has room for the change of an answer, and each put of it fits
 abbrev pub MayBeDone : Hub → Answer → Type 0
-MayBeDone s (changes (Rows rows) g) = (is_past_trail s (Rows rows) ≡ false) × NoneHashed rows
+MayBeDone s (changes c g) = (is_past_trail s c ≡ false) × FitsIn s c
 MayBeDone s _ = Unit {0}
 
 abbrev pub long_after : Option Change → ℕ → ℕ

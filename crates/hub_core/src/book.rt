@@ -18,6 +18,7 @@ use hub_machine::answer::{Answer, Good, good_reply, refusal_reply};
 use hub_machine::call::Asked;
 use hub_machine::change::Change;
 use hub_machine::machine::Machine;
+use hub_machine::planned::Planned;
 use hub_machine::refusal::Refusal;
 use hub_machine::reply::{Outcome, Reply};
 use hub_opening::config::HubConfig;
@@ -93,7 +94,7 @@ fn carry_change<K: Keeper, T: Trail<Entry = Change>>(
     machine: &mut Machine,
     keeper: &mut K,
     trail: &mut T,
-    change: Change,
+    change: Planned,
     good: Good,
 ) -> Result<Reply, AllocError>
     requires { MayBeDone machine.old (changes change (good_view good)) }

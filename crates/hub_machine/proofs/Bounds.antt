@@ -2,25 +2,17 @@
 use Rattle.std.proofs.Common.{◌≡◌, ℕ, ◌+◌, ◌*◌, ◌^◌, ◌≤◌, Bool, true, false, nat_lt, List, [], ◌∷◌, refl, sym, ◌∙◌, arith}
 use Rattle.std.proofs.lemmas.Bool.Decides.{nat_tests}
 use Rattle.hub_rows.specs.declared.changes.RowChange.{RowChange}
-use Rattle.hub_rows.specs.declared.changes.RowChange.TheVariants.{PutUser}
-use Rattle.hub_tables.specs.Changes.{row_done, rows_done, puts_of, removals_of}
+use Rattle.hub_tables.specs.Changes.{rows_done, puts_of, removals_of}
 use Rattle.hub_tables.specs.State.{State}
+use Rattle.hub_tables.proofs.RowsAt.{rows_fixed}
 use Rattle.hub_machine.specs.State.{Hub, IsBounded, owed}
 use Rattle.hub_machine.specs.Apply.{apply, change_done, is_past_trail}
 use Rattle.hub_machine.specs.Batches.{batch_cost}
 use Rattle.hub_machine.specs.declared.change.Change.{Change}
 use Rattle.hub_machine.specs.declared.change.Change.TheVariants.{Rows}
 
-row_limits : (r : RowChange) (t : State) → (row_done r t).limits ≡ t.limits
-row_limits (PutUser row) t = refl
-row_limits _ t = refl
-
-rows_limits : (rows : List RowChange) (t : State) → (rows_done rows t).limits ≡ t.limits
-rows_limits [] t = refl
-rows_limits (r ∷ rest) t = rows_limits rest (row_done r t) ∙ row_limits r t
-
 pub change_limits : (rows : List RowChange) (t : State) → (change_done rows t).limits ≡ t.limits
-change_limits rows t = rows_limits (removals_of rows) (rows_done (puts_of rows) t) ∙ rows_limits (puts_of rows) t
+change_limits rows t = (rows_fixed (removals_of rows) (rows_done (puts_of rows) t)).0 ∙ (rows_fixed (puts_of rows) t).0
 
 not_past : (n m : ℕ) → nat_lt n m ≡ false → m ≤ n
 not_past n m h = grind (arith, nat_tests)

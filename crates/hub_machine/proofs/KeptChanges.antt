@@ -1,287 +1,99 @@
 -- The keeper has the rows of the tables after each change of them, if it had them before.
-use Rattle.std.proofs.Common.{◌≡◌, ℕ, ◌==◌, true, false, Bool, List, [], ◌∷◌, ◌++◌, map, Result, Ok, Err, All, refl, sym, subst, ◌∙◌, arith}
-use Rattle.std.specs.Prelude.{decimal}
-use Rattle.std.specs.Cmp.{nat_cmp_total}
-use Rattle.std.specs.Cmp.Lexicographic.{nat_list_cmp_total}
-use Rattle.std.specs.Ordering.{nat_cmp}
-use Rattle.std.specs.FinMap.{FinMap, nat_cmp-IsAntisymmetric}
-use Rattle.std.proofs.lemmas.Bool.Decides.{nat_tests}
+use Rattle.std.proofs.Common.{◌≡◌, ℕ, true, false, Bool, cond, List, [], ◌∷◌, ◌++◌, map, Option, Some, None, Result, Ok, Err, All, inl, inr, refl, sym, ap, subst, ◌∙◌}
+use Rattle.std.specs.Prelude.{option_map}
 use Rattle.std.proofs.lemmas.List.Elements.{All-head, All-tail}
-use Rattle.hub_kit.specs.KeyOrder.{name_cmp, key_cmp, key_exact}
-use Rattle.hub_kit.specs.contracts.names.ServerKeyOrd.TheImpl.Laws as servers
-use Rattle.hub_rows.specs.ShareOrder.{share_cmp, names_exact, share_exact}
-use Rattle.hub_rows.specs.contracts.keys.ShareKeyOrd.TheImpl.Laws as shares
+use Rattle.hub_rows.specs.RowKeys.{key_of}
 use Rattle.hub_rows.specs.declared.changes.RowChange.{RowChange}
-use Rattle.hub_rows.specs.declared.changes.RowChange.TheVariants.{PutUser, RemoveUser, PutGroup, RemoveGroup, PutService, RemoveService, PutRole, RemoveRole, PutToken, RemoveToken, PutServerRow, RemoveServerRow, PutLease, RemoveLease, PutShare, RemoveShare, PutShareCode, RemoveShareCode, PutOAuthClient, RemoveOAuthClient, PutOAuthCode, RemoveOAuthCode, PutNext, RemoveNext}
-use Rattle.hub_rows.specs.declared.records.Group.{Group}
-use Rattle.hub_rows.specs.declared.records.Lease.{Lease}
-use Rattle.hub_rows.specs.declared.records.Next.{Next}
-use Rattle.hub_rows.specs.declared.records.OAuthClient.{OAuthClient}
-use Rattle.hub_rows.specs.declared.records.OAuthCode.{OAuthCode}
-use Rattle.hub_rows.specs.declared.records.Role.{Role}
-use Rattle.hub_rows.specs.declared.records.ServerRow.{ServerRow}
-use Rattle.hub_rows.specs.declared.records.Service.{Service}
-use Rattle.hub_rows.specs.declared.records.Share.{Share}
-use Rattle.hub_rows.specs.declared.records.ShareCode.{ShareCode}
-use Rattle.hub_rows.specs.declared.records.Token.{Token}
-use Rattle.hub_rows.specs.declared.records.User.{User}
-use Rattle.hub_tables.specs.Changes.{row_done, rows_done, puts_of, removals_of}
+use Rattle.hub_rows.specs.declared.changes.RowChange.TheVariants.{Put, Remove}
+use Rattle.hub_rows.specs.declared.rows.Row.{Row}
+use Rattle.hub_rows.specs.declared.rows.RowKey.{RowKey}
+use Rattle.hub_tables.specs.Changes.{row_at, row_done, rows_done, puts_of, removals_of}
 use Rattle.hub_tables.specs.State.{State}
+use Rattle.hub_tables.proofs.RowsAt.{same_or_not, put_same, put_other, gone_same, gone_other}
 use Rattle.keeper.specs.declared.keeper.Item.{Item}
-use Rattle.keeper.specs.Rows.{Rows, AreSame, after_item, after_items}
-use Rattle.record_texts.specs.Fields.{IsWord}
-use Rattle.record_texts.specs.Items.{item_of, IsValid}
-use Rattle.record_texts.specs.KeyTexts.{server_text, share_text, IsServer, IsShareKey}
-use Rattle.record_texts.specs.People.{user_object, group_object, service_object, role_object}
-use Rattle.record_texts.specs.Servers.{server_object, lease_object, share_object, next_object}
-use Rattle.record_texts.specs.Tokens.{token_object, code_object, client_object, grant_code_object}
-use Rattle.record_texts.proofs.OneText.{one_decimal, one_server, one_share}
+use Rattle.keeper.specs.Rows.{Rows, AreSame, is_at, with_text, after_item, after_items}
+use Rattle.keeper.proofs.Places.{at_same, at_itself}
+use Rattle.record_texts.specs.Items.{item_of, kind_of, key_text, row_text, IsKey, IsValid}
+use Rattle.record_texts.proofs.KeyTexts.{one_key, valid_key}
 use Rattle.hub_machine.specs.Apply.{change_done}
 use Rattle.hub_machine.specs.Batches.{batch_of}
 use Rattle.hub_machine.specs.Carry.{RowsDone, RowsKept}
-use Rattle.hub_machine.specs.KeptRows.{KeepsKind, Keeps, itself, IsAny, is_kind}
-use Rattle.hub_machine.proofs.KeptKinds.{IsAside, text_aside, kept_same, kept_put, kept_removed}
+use Rattle.hub_machine.specs.KeptRows.{HasText, Keeps}
 
-one_name : (a b : List ℕ) → IsAny a → IsAny b → itself a ≡ itself b → a ≡ b
-one_name a b p q e = e
+none_some : {X : Type 0} (x : X) → None ≡ Some x → ⊥
+none_some x h = cc
 
-not_kind : (kind other : ℕ) → is_kind kind ≡ true → is_kind other ≡ false → (kind == other) ≡ false
-not_kind kind other p q = grind (arith, nat_tests)
+some_one : {X : Type 0} (x y : X) → Some x ≡ Some y → x ≡ y
+some_one x y h = cc
 
--- ---- the rows of one kind are others, and its texts with them
+not_true : (b : Bool) → (b ≡ true → ⊥) → b ≡ false
+not_true true h = absurd (h refl)
+not_true false h = refl
 
-module _ (before after : Rows) (t : State) where
-  users_set : (rows : FinMap name_cmp User) → IsAside 1 before after → KeepsKind 1 itself IsAny user_object after rows → Keeps before t → Keeps after (record t { users = rows })
-  users_set rows same new h = record {
-    users = new;
-    groups = kept_same before after t.groups (λ name. same 2 name refl) h.groups;
-    services = kept_same before after t.services (λ name. same 3 name refl) h.services;
-    roles = kept_same before after t.roles (λ name. same 4 name refl) h.roles;
-    tokens = kept_same before after t.tokens (λ name. same 5 name refl) h.tokens;
-    servers = kept_same before after t.servers (λ name. same 6 name refl) h.servers;
-    leases = kept_same before after t.leases (λ name. same 7 name refl) h.leases;
-    shares = kept_same before after t.shares (λ name. same 8 name refl) h.shares;
-    codes = kept_same before after t.codes (λ name. same 9 name refl) h.codes;
-    clients = kept_same before after t.clients (λ name. same 10 name refl) h.clients;
-    grant_codes = kept_same before after t.grant_codes (λ name. same 11 name refl) h.grant_codes;
-    nexts = kept_same before after t.nexts (λ name. same 12 name refl) h.nexts;
-    none = λ kind name other. same kind name (not_kind 1 kind refl other) ∙ h.none kind name other;
+false_true : (b : Bool) → b ≡ false → b ≡ true → ⊥
+false_true b h k = cc
+
+-- ---- what stands under one key is another, and its text with it
+
+module _ (kept : Rows) (t u : State) (key : RowKey) (at : Option Row) (good : IsKey key) (here : row_at u key ≡ at) (others : (q : RowKey) → (q ≡ key → ⊥) → row_at u q ≡ row_at t q) (h : Keeps kept t) where
+  abbrev is_its : ℕ → List ℕ → Bool
+  is_its kind name = is_at (kind_of key) (key_text key) kind name
+
+  abbrev after : Rows
+  after = with_text (kind_of key) (key_text key) (option_map row_text at) kept
+
+  -- a row of the tables before and after
+  stays : (q : RowKey) (row : Row) → (q ≡ key → ⊥) → row_at u q ≡ Some row → row_at t q ≡ Some row
+  stays q row apart there = sym (others q apart) ∙ there
+
+  key_after : (q : RowKey) (row : Row) → row_at u q ≡ Some row → IsKey q
+  key_after q row there = elim (same_or_not q key) as (λ _. IsKey q) [
+    | inl same ↦ subst IsKey (sym same) good
+    | inr apart ↦ h.keys q row (stays q row apart there)
+  ]
+
+  not_its : (q : RowKey) → IsKey q → (q ≡ key → ⊥) → is_its (kind_of q) (key_text q) ≡ false
+  not_its q valid apart = not_true (is_its (kind_of q) (key_text q)) (λ e. let p = at_same (kind_of key) (key_text key) (kind_of q) (key_text q) e in apart (one_key q key valid good (sym p.0) (sym p.1)))
+
+  -- the text of each row is kept
+  text_after : (q : RowKey) (row : Row) → row_at u q ≡ Some row → after (kind_of q) (key_text q) ≡ Some (row_text row)
+  text_after q row there = elim (same_or_not q key) as (λ _. after (kind_of q) (key_text q) ≡ Some (row_text row)) [
+    | inl same ↦ ap (λ (k : RowKey). after (kind_of k) (key_text k)) same ∙ ap (λ b. cond b (option_map row_text at) (kept (kind_of key) (key_text key))) (at_itself (kind_of key) (key_text key))
+        ∙ ap (option_map row_text) (sym here ∙ ap (row_at u) (sym same) ∙ there)
+    | inr apart ↦ ap (λ b. cond b (option_map row_text at) (kept (kind_of q) (key_text q))) (not_its q (key_after q row there) apart)
+        ∙ (h.exactly (kind_of q) (key_text q) (row_text row)).1 (record { key = q; row = row; there = stays q row apart there; kind = refl; named = refl; says = refl })
+  ]
+
+  row_here : (x : Option Row) (kind : ℕ) (name text : List ℕ) → row_at u key ≡ x → (kind_of key ≡ kind) × (key_text key ≡ name) → option_map row_text x ≡ Some text → HasText u kind name text
+  row_here None kind name text there same is = absurd (none_some text is)
+  row_here (Some row) kind name text there same is = record { key = key; row = row; there = there; kind = same.0; named = same.1; says = some_one (row_text row) text is }
+
+  row_elsewhere : (kind : ℕ) (name text : List ℕ) → is_its kind name ≡ false → HasText t kind name text → HasText u kind name text
+  row_elsewhere kind name text e x = record {
+    key = x.key;
+    row = x.row;
+    there = others x.key (λ same. false_true (is_its kind name) e (sym (λ i. is_its (x.kind i) (x.named i)) ∙ ap (λ (k : RowKey). is_its (kind_of k) (key_text k)) same ∙ at_itself (kind_of key) (key_text key))) ∙ x.there;
+    kind = x.kind;
+    named = x.named;
+    says = x.says;
   }
 
-  groups_set : (rows : FinMap name_cmp Group) → IsAside 2 before after → KeepsKind 2 itself IsAny group_object after rows → Keeps before t → Keeps after (record t { groups = rows })
-  groups_set rows same new h = record {
-    users = kept_same before after t.users (λ name. same 1 name refl) h.users;
-    groups = new;
-    services = kept_same before after t.services (λ name. same 3 name refl) h.services;
-    roles = kept_same before after t.roles (λ name. same 4 name refl) h.roles;
-    tokens = kept_same before after t.tokens (λ name. same 5 name refl) h.tokens;
-    servers = kept_same before after t.servers (λ name. same 6 name refl) h.servers;
-    leases = kept_same before after t.leases (λ name. same 7 name refl) h.leases;
-    shares = kept_same before after t.shares (λ name. same 8 name refl) h.shares;
-    codes = kept_same before after t.codes (λ name. same 9 name refl) h.codes;
-    clients = kept_same before after t.clients (λ name. same 10 name refl) h.clients;
-    grant_codes = kept_same before after t.grant_codes (λ name. same 11 name refl) h.grant_codes;
-    nexts = kept_same before after t.nexts (λ name. same 12 name refl) h.nexts;
-    none = λ kind name other. same kind name (not_kind 2 kind refl other) ∙ h.none kind name other;
-  }
+  -- and nothing else
+  row_of_text : (kind : ℕ) (name text : List ℕ) → after kind name ≡ Some text → HasText u kind name text
+  row_of_text kind name text is = elim (is_its kind name) as (λ b. is_its kind name ≡ b → cond b (option_map row_text at) (kept kind name) ≡ Some text → HasText u kind name text) [
+    | true ↦ λ e f. row_here at kind name text here (at_same (kind_of key) (key_text key) kind name e) f
+    | false ↦ λ e f. row_elsewhere kind name text e ((h.exactly kind name text).0 f)
+  ] refl is
 
-  services_set : (rows : FinMap name_cmp Service) → IsAside 3 before after → KeepsKind 3 itself IsAny service_object after rows → Keeps before t → Keeps after (record t { services = rows })
-  services_set rows same new h = record {
-    users = kept_same before after t.users (λ name. same 1 name refl) h.users;
-    groups = kept_same before after t.groups (λ name. same 2 name refl) h.groups;
-    services = new;
-    roles = kept_same before after t.roles (λ name. same 4 name refl) h.roles;
-    tokens = kept_same before after t.tokens (λ name. same 5 name refl) h.tokens;
-    servers = kept_same before after t.servers (λ name. same 6 name refl) h.servers;
-    leases = kept_same before after t.leases (λ name. same 7 name refl) h.leases;
-    shares = kept_same before after t.shares (λ name. same 8 name refl) h.shares;
-    codes = kept_same before after t.codes (λ name. same 9 name refl) h.codes;
-    clients = kept_same before after t.clients (λ name. same 10 name refl) h.clients;
-    grant_codes = kept_same before after t.grant_codes (λ name. same 11 name refl) h.grant_codes;
-    nexts = kept_same before after t.nexts (λ name. same 12 name refl) h.nexts;
-    none = λ kind name other. same kind name (not_kind 3 kind refl other) ∙ h.none kind name other;
+  pub set_kept : Keeps after u
+  set_kept = record {
+    exactly = λ kind name text. (row_of_text kind name text, λ x. sym (λ i. after (x.kind i) (x.named i)) ∙ text_after x.key x.row x.there ∙ ap Some x.says);
+    keys = key_after;
   }
-
-  roles_set : (rows : FinMap name_cmp Role) → IsAside 4 before after → KeepsKind 4 itself IsAny role_object after rows → Keeps before t → Keeps after (record t { roles = rows })
-  roles_set rows same new h = record {
-    users = kept_same before after t.users (λ name. same 1 name refl) h.users;
-    groups = kept_same before after t.groups (λ name. same 2 name refl) h.groups;
-    services = kept_same before after t.services (λ name. same 3 name refl) h.services;
-    roles = new;
-    tokens = kept_same before after t.tokens (λ name. same 5 name refl) h.tokens;
-    servers = kept_same before after t.servers (λ name. same 6 name refl) h.servers;
-    leases = kept_same before after t.leases (λ name. same 7 name refl) h.leases;
-    shares = kept_same before after t.shares (λ name. same 8 name refl) h.shares;
-    codes = kept_same before after t.codes (λ name. same 9 name refl) h.codes;
-    clients = kept_same before after t.clients (λ name. same 10 name refl) h.clients;
-    grant_codes = kept_same before after t.grant_codes (λ name. same 11 name refl) h.grant_codes;
-    nexts = kept_same before after t.nexts (λ name. same 12 name refl) h.nexts;
-    none = λ kind name other. same kind name (not_kind 4 kind refl other) ∙ h.none kind name other;
-  }
-
-  tokens_set : (rows : FinMap nat_cmp Token) → IsAside 5 before after → KeepsKind 5 decimal IsWord token_object after rows → Keeps before t → Keeps after (record t { tokens = rows })
-  tokens_set rows same new h = record {
-    users = kept_same before after t.users (λ name. same 1 name refl) h.users;
-    groups = kept_same before after t.groups (λ name. same 2 name refl) h.groups;
-    services = kept_same before after t.services (λ name. same 3 name refl) h.services;
-    roles = kept_same before after t.roles (λ name. same 4 name refl) h.roles;
-    tokens = new;
-    servers = kept_same before after t.servers (λ name. same 6 name refl) h.servers;
-    leases = kept_same before after t.leases (λ name. same 7 name refl) h.leases;
-    shares = kept_same before after t.shares (λ name. same 8 name refl) h.shares;
-    codes = kept_same before after t.codes (λ name. same 9 name refl) h.codes;
-    clients = kept_same before after t.clients (λ name. same 10 name refl) h.clients;
-    grant_codes = kept_same before after t.grant_codes (λ name. same 11 name refl) h.grant_codes;
-    nexts = kept_same before after t.nexts (λ name. same 12 name refl) h.nexts;
-    none = λ kind name other. same kind name (not_kind 5 kind refl other) ∙ h.none kind name other;
-  }
-
-  servers_set : (rows : FinMap key_cmp ServerRow) → IsAside 6 before after → KeepsKind 6 server_text IsServer server_object after rows → Keeps before t → Keeps after (record t { servers = rows })
-  servers_set rows same new h = record {
-    users = kept_same before after t.users (λ name. same 1 name refl) h.users;
-    groups = kept_same before after t.groups (λ name. same 2 name refl) h.groups;
-    services = kept_same before after t.services (λ name. same 3 name refl) h.services;
-    roles = kept_same before after t.roles (λ name. same 4 name refl) h.roles;
-    tokens = kept_same before after t.tokens (λ name. same 5 name refl) h.tokens;
-    servers = new;
-    leases = kept_same before after t.leases (λ name. same 7 name refl) h.leases;
-    shares = kept_same before after t.shares (λ name. same 8 name refl) h.shares;
-    codes = kept_same before after t.codes (λ name. same 9 name refl) h.codes;
-    clients = kept_same before after t.clients (λ name. same 10 name refl) h.clients;
-    grant_codes = kept_same before after t.grant_codes (λ name. same 11 name refl) h.grant_codes;
-    nexts = kept_same before after t.nexts (λ name. same 12 name refl) h.nexts;
-    none = λ kind name other. same kind name (not_kind 6 kind refl other) ∙ h.none kind name other;
-  }
-
-  leases_set : (rows : FinMap name_cmp Lease) → IsAside 7 before after → KeepsKind 7 itself IsAny lease_object after rows → Keeps before t → Keeps after (record t { leases = rows })
-  leases_set rows same new h = record {
-    users = kept_same before after t.users (λ name. same 1 name refl) h.users;
-    groups = kept_same before after t.groups (λ name. same 2 name refl) h.groups;
-    services = kept_same before after t.services (λ name. same 3 name refl) h.services;
-    roles = kept_same before after t.roles (λ name. same 4 name refl) h.roles;
-    tokens = kept_same before after t.tokens (λ name. same 5 name refl) h.tokens;
-    servers = kept_same before after t.servers (λ name. same 6 name refl) h.servers;
-    leases = new;
-    shares = kept_same before after t.shares (λ name. same 8 name refl) h.shares;
-    codes = kept_same before after t.codes (λ name. same 9 name refl) h.codes;
-    clients = kept_same before after t.clients (λ name. same 10 name refl) h.clients;
-    grant_codes = kept_same before after t.grant_codes (λ name. same 11 name refl) h.grant_codes;
-    nexts = kept_same before after t.nexts (λ name. same 12 name refl) h.nexts;
-    none = λ kind name other. same kind name (not_kind 7 kind refl other) ∙ h.none kind name other;
-  }
-
-  shares_set : (rows : FinMap share_cmp Share) → IsAside 8 before after → KeepsKind 8 share_text IsShareKey share_object after rows → Keeps before t → Keeps after (record t { shares = rows })
-  shares_set rows same new h = record {
-    users = kept_same before after t.users (λ name. same 1 name refl) h.users;
-    groups = kept_same before after t.groups (λ name. same 2 name refl) h.groups;
-    services = kept_same before after t.services (λ name. same 3 name refl) h.services;
-    roles = kept_same before after t.roles (λ name. same 4 name refl) h.roles;
-    tokens = kept_same before after t.tokens (λ name. same 5 name refl) h.tokens;
-    servers = kept_same before after t.servers (λ name. same 6 name refl) h.servers;
-    leases = kept_same before after t.leases (λ name. same 7 name refl) h.leases;
-    shares = new;
-    codes = kept_same before after t.codes (λ name. same 9 name refl) h.codes;
-    clients = kept_same before after t.clients (λ name. same 10 name refl) h.clients;
-    grant_codes = kept_same before after t.grant_codes (λ name. same 11 name refl) h.grant_codes;
-    nexts = kept_same before after t.nexts (λ name. same 12 name refl) h.nexts;
-    none = λ kind name other. same kind name (not_kind 8 kind refl other) ∙ h.none kind name other;
-  }
-
-  codes_set : (rows : FinMap nat_cmp ShareCode) → IsAside 9 before after → KeepsKind 9 decimal IsWord code_object after rows → Keeps before t → Keeps after (record t { codes = rows })
-  codes_set rows same new h = record {
-    users = kept_same before after t.users (λ name. same 1 name refl) h.users;
-    groups = kept_same before after t.groups (λ name. same 2 name refl) h.groups;
-    services = kept_same before after t.services (λ name. same 3 name refl) h.services;
-    roles = kept_same before after t.roles (λ name. same 4 name refl) h.roles;
-    tokens = kept_same before after t.tokens (λ name. same 5 name refl) h.tokens;
-    servers = kept_same before after t.servers (λ name. same 6 name refl) h.servers;
-    leases = kept_same before after t.leases (λ name. same 7 name refl) h.leases;
-    shares = kept_same before after t.shares (λ name. same 8 name refl) h.shares;
-    codes = new;
-    clients = kept_same before after t.clients (λ name. same 10 name refl) h.clients;
-    grant_codes = kept_same before after t.grant_codes (λ name. same 11 name refl) h.grant_codes;
-    nexts = kept_same before after t.nexts (λ name. same 12 name refl) h.nexts;
-    none = λ kind name other. same kind name (not_kind 9 kind refl other) ∙ h.none kind name other;
-  }
-
-  clients_set : (rows : FinMap name_cmp OAuthClient) → IsAside 10 before after → KeepsKind 10 itself IsAny client_object after rows → Keeps before t → Keeps after (record t { clients = rows })
-  clients_set rows same new h = record {
-    users = kept_same before after t.users (λ name. same 1 name refl) h.users;
-    groups = kept_same before after t.groups (λ name. same 2 name refl) h.groups;
-    services = kept_same before after t.services (λ name. same 3 name refl) h.services;
-    roles = kept_same before after t.roles (λ name. same 4 name refl) h.roles;
-    tokens = kept_same before after t.tokens (λ name. same 5 name refl) h.tokens;
-    servers = kept_same before after t.servers (λ name. same 6 name refl) h.servers;
-    leases = kept_same before after t.leases (λ name. same 7 name refl) h.leases;
-    shares = kept_same before after t.shares (λ name. same 8 name refl) h.shares;
-    codes = kept_same before after t.codes (λ name. same 9 name refl) h.codes;
-    clients = new;
-    grant_codes = kept_same before after t.grant_codes (λ name. same 11 name refl) h.grant_codes;
-    nexts = kept_same before after t.nexts (λ name. same 12 name refl) h.nexts;
-    none = λ kind name other. same kind name (not_kind 10 kind refl other) ∙ h.none kind name other;
-  }
-
-  grant_codes_set : (rows : FinMap name_cmp OAuthCode) → IsAside 11 before after → KeepsKind 11 itself IsAny grant_code_object after rows → Keeps before t → Keeps after (record t { grant_codes = rows })
-  grant_codes_set rows same new h = record {
-    users = kept_same before after t.users (λ name. same 1 name refl) h.users;
-    groups = kept_same before after t.groups (λ name. same 2 name refl) h.groups;
-    services = kept_same before after t.services (λ name. same 3 name refl) h.services;
-    roles = kept_same before after t.roles (λ name. same 4 name refl) h.roles;
-    tokens = kept_same before after t.tokens (λ name. same 5 name refl) h.tokens;
-    servers = kept_same before after t.servers (λ name. same 6 name refl) h.servers;
-    leases = kept_same before after t.leases (λ name. same 7 name refl) h.leases;
-    shares = kept_same before after t.shares (λ name. same 8 name refl) h.shares;
-    codes = kept_same before after t.codes (λ name. same 9 name refl) h.codes;
-    clients = kept_same before after t.clients (λ name. same 10 name refl) h.clients;
-    grant_codes = new;
-    nexts = kept_same before after t.nexts (λ name. same 12 name refl) h.nexts;
-    none = λ kind name other. same kind name (not_kind 11 kind refl other) ∙ h.none kind name other;
-  }
-
-  nexts_set : (rows : FinMap name_cmp Next) → IsAside 12 before after → KeepsKind 12 itself IsAny next_object after rows → Keeps before t → Keeps after (record t { nexts = rows })
-  nexts_set rows same new h = record {
-    users = kept_same before after t.users (λ name. same 1 name refl) h.users;
-    groups = kept_same before after t.groups (λ name. same 2 name refl) h.groups;
-    services = kept_same before after t.services (λ name. same 3 name refl) h.services;
-    roles = kept_same before after t.roles (λ name. same 4 name refl) h.roles;
-    tokens = kept_same before after t.tokens (λ name. same 5 name refl) h.tokens;
-    servers = kept_same before after t.servers (λ name. same 6 name refl) h.servers;
-    leases = kept_same before after t.leases (λ name. same 7 name refl) h.leases;
-    shares = kept_same before after t.shares (λ name. same 8 name refl) h.shares;
-    codes = kept_same before after t.codes (λ name. same 9 name refl) h.codes;
-    clients = kept_same before after t.clients (λ name. same 10 name refl) h.clients;
-    grant_codes = kept_same before after t.grant_codes (λ name. same 11 name refl) h.grant_codes;
-    nexts = new;
-    none = λ kind name other. same kind name (not_kind 12 kind refl other) ∙ h.none kind name other;
-  }
-
--- ---- a row is put or removed
 
 pub row_kept : (r : RowChange) (rows : Rows) (t : State) → IsValid r → Keeps rows t → Keeps (after_item (item_of r) rows) (row_done r t)
-row_kept (PutUser row) rows t good h = users_set rows _ t _ (text_aside 1 row.name _ rows) (kept_put nat_list_cmp_total names_exact one_name rows t.users row.name tt row h.users) h
-row_kept (RemoveUser key) rows t good h = users_set rows _ t _ (text_aside 1 key _ rows) (kept_removed nat_list_cmp_total names_exact one_name rows t.users key tt h.users) h
-row_kept (PutGroup row) rows t good h = groups_set rows _ t _ (text_aside 2 row.name _ rows) (kept_put nat_list_cmp_total names_exact one_name rows t.groups row.name tt row h.groups) h
-row_kept (RemoveGroup key) rows t good h = groups_set rows _ t _ (text_aside 2 key _ rows) (kept_removed nat_list_cmp_total names_exact one_name rows t.groups key tt h.groups) h
-row_kept (PutService row) rows t good h = services_set rows _ t _ (text_aside 3 row.name _ rows) (kept_put nat_list_cmp_total names_exact one_name rows t.services row.name tt row h.services) h
-row_kept (RemoveService key) rows t good h = services_set rows _ t _ (text_aside 3 key _ rows) (kept_removed nat_list_cmp_total names_exact one_name rows t.services key tt h.services) h
-row_kept (PutRole row) rows t good h = roles_set rows _ t _ (text_aside 4 row.name _ rows) (kept_put nat_list_cmp_total names_exact one_name rows t.roles row.name tt row h.roles) h
-row_kept (RemoveRole key) rows t good h = roles_set rows _ t _ (text_aside 4 key _ rows) (kept_removed nat_list_cmp_total names_exact one_name rows t.roles key tt h.roles) h
-row_kept (PutToken row) rows t good h = tokens_set rows _ t _ (text_aside 5 (decimal row.id) _ rows) (kept_put nat_cmp_total nat_cmp-IsAntisymmetric one_decimal rows t.tokens row.id good.id row h.tokens) h
-row_kept (RemoveToken key) rows t good h = tokens_set rows _ t _ (text_aside 5 (decimal key) _ rows) (kept_removed nat_cmp_total nat_cmp-IsAntisymmetric one_decimal rows t.tokens key good h.tokens) h
-row_kept (PutServerRow row) rows t good h = servers_set rows _ t _ (text_aside 6 (server_text row.key) _ rows) (kept_put servers.total-law key_exact one_server rows t.servers row.key good.key row h.servers) h
-row_kept (RemoveServerRow key) rows t good h = servers_set rows _ t _ (text_aside 6 (server_text key) _ rows) (kept_removed servers.total-law key_exact one_server rows t.servers key good h.servers) h
-row_kept (PutLease row) rows t good h = leases_set rows _ t _ (text_aside 7 row.target _ rows) (kept_put nat_list_cmp_total names_exact one_name rows t.leases row.target tt row h.leases) h
-row_kept (RemoveLease key) rows t good h = leases_set rows _ t _ (text_aside 7 key _ rows) (kept_removed nat_list_cmp_total names_exact one_name rows t.leases key tt h.leases) h
-row_kept (PutShare row) rows t good h = shares_set rows _ t _ (text_aside 8 (share_text row.key) _ rows) (kept_put shares.total-law share_exact one_share rows t.shares row.key good.key row h.shares) h
-row_kept (RemoveShare key) rows t good h = shares_set rows _ t _ (text_aside 8 (share_text key) _ rows) (kept_removed shares.total-law share_exact one_share rows t.shares key good h.shares) h
-row_kept (PutShareCode row) rows t good h = codes_set rows _ t _ (text_aside 9 (decimal row.id) _ rows) (kept_put nat_cmp_total nat_cmp-IsAntisymmetric one_decimal rows t.codes row.id good.id row h.codes) h
-row_kept (RemoveShareCode key) rows t good h = codes_set rows _ t _ (text_aside 9 (decimal key) _ rows) (kept_removed nat_cmp_total nat_cmp-IsAntisymmetric one_decimal rows t.codes key good h.codes) h
-row_kept (PutOAuthClient row) rows t good h = clients_set rows _ t _ (text_aside 10 row.id _ rows) (kept_put nat_list_cmp_total names_exact one_name rows t.clients row.id tt row h.clients) h
-row_kept (RemoveOAuthClient key) rows t good h = clients_set rows _ t _ (text_aside 10 key _ rows) (kept_removed nat_list_cmp_total names_exact one_name rows t.clients key tt h.clients) h
-row_kept (PutOAuthCode row) rows t good h = grant_codes_set rows _ t _ (text_aside 11 row.hash _ rows) (kept_put nat_list_cmp_total names_exact one_name rows t.grant_codes row.hash tt row h.grant_codes) h
-row_kept (RemoveOAuthCode key) rows t good h = grant_codes_set rows _ t _ (text_aside 11 key _ rows) (kept_removed nat_list_cmp_total names_exact one_name rows t.grant_codes key tt h.grant_codes) h
-row_kept (PutNext row) rows t good h = nexts_set rows _ t _ (text_aside 12 row.name _ rows) (kept_put nat_list_cmp_total names_exact one_name rows t.nexts row.name tt row h.nexts) h
-row_kept (RemoveNext key) rows t good h = nexts_set rows _ t _ (text_aside 12 key _ rows) (kept_removed nat_list_cmp_total names_exact one_name rows t.nexts key tt h.nexts) h
+row_kept (Put row) rows t good h = set_kept rows t (row_done (Put row) t) (key_of row) (Some row) (valid_key row good) (put_same t row) (put_other t row) h
+row_kept (Remove key) rows t good h = set_kept rows t (row_done (Remove key) t) key None good (gone_same t key) (gone_other t key) h
 
 -- ---- the rows of a change, one after the other
 
@@ -303,19 +115,8 @@ change_kept rs rows t puts removals h =
 -- the same rows
 pub same_kept : (before after : Rows) (t : State) → AreSame after before → Keeps before t → Keeps after t
 same_kept before after t same h = record {
-  users = kept_same before after t.users (same 1) h.users;
-  groups = kept_same before after t.groups (same 2) h.groups;
-  services = kept_same before after t.services (same 3) h.services;
-  roles = kept_same before after t.roles (same 4) h.roles;
-  tokens = kept_same before after t.tokens (same 5) h.tokens;
-  servers = kept_same before after t.servers (same 6) h.servers;
-  leases = kept_same before after t.leases (same 7) h.leases;
-  shares = kept_same before after t.shares (same 8) h.shares;
-  codes = kept_same before after t.codes (same 9) h.codes;
-  clients = kept_same before after t.clients (same 10) h.clients;
-  grant_codes = kept_same before after t.grant_codes (same 11) h.grant_codes;
-  nexts = kept_same before after t.nexts (same 12) h.nexts;
-  none = λ kind name other. same kind name ∙ h.none kind name other;
+  exactly = λ kind name text. (λ is. (h.exactly kind name text).0 (sym (same kind name) ∙ is), λ x. same kind name ∙ (h.exactly kind name text).1 x);
+  keys = h.keys;
 }
 
 done_kept : (rows : List RowChange) (kept kept' : Rows) (t t' : State) → All IsValid (puts_of rows) → All IsValid (removals_of rows)

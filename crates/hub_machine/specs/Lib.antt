@@ -4,5 +4,6 @@ pub mod Apply
 pub mod Replies
 pub mod Answers
 pub mod Carry
+pub mod Written
 pub mod Trails
 pub mod KeptRows

@@ -4,10 +4,9 @@ ghost use Rattle.hub_view.specs.Body.{body_tokens};
 ghost use Rattle.hub_machine.specs.Answers.{answer_view, good_view, reply_view};
 ghost use Rattle.hub_machine.specs.Replies as spec;
 
-use crate::change::Change;
+use crate::planned::Planned;
 use crate::refusal::Refusal;
 use crate::reply::Reply;
-use hub_kit::list::List;
 use hub_kit::text::Text;
 use hub_rows::changes::RowChange;
 use hub_view::Body;
@@ -27,7 +26,7 @@ pub struct Good {
 pub enum Answer {
     Refuses(Refusal),
     Gives(Good),
-    Changes { change: Change, good: Good },
+    Changes { change: Planned, good: Good },
 }
 
 /// The Ok with this status and body, and nothing else.
@@ -57,9 +56,7 @@ pub fn rows_then(rows: Vec<RowChange>, good: Good) -> Answer
         return Answer::Gives(good);
     }
     Answer::Changes {
-        change: Change::Rows {
-            rows: List::from_vec(rows),
-        },
+        change: Planned::of_rows(rows),
         good,
     }
 }

@@ -23,27 +23,6 @@ pub fn batch_of(alloc: Global, rows: &[RowChange]) -> Result<Batch, AllocError>
     Ok(List::from_vec(items))
 }
 
-/// Whether a row is put, and not removed.
-pub fn is_put(row: &RowChange) -> bool
-    ensures { result ≡ changes.is_put row.now }
-{
-    match row {
-        RowChange::RemoveUser(_)
-        | RowChange::RemoveGroup(_)
-        | RowChange::RemoveService(_)
-        | RowChange::RemoveRole(_)
-        | RowChange::RemoveToken(_)
-        | RowChange::RemoveServerRow(_)
-        | RowChange::RemoveLease(_)
-        | RowChange::RemoveShare(_)
-        | RowChange::RemoveShareCode(_)
-        | RowChange::RemoveOAuthClient(_)
-        | RowChange::RemoveOAuthCode(_)
-        | RowChange::RemoveNext(_) => false,
-        _ => true,
-    }
-}
-
 /// Adds the item of a row.
 fn push_item(alloc: Global, items: &mut Vec<Item>, row: &RowChange) -> Result<(), AllocError>
     ensures items { OnOk result (items.new.items ≡ items.old.items ++ record_item row.now ∷ []) }
@@ -59,7 +38,7 @@ fn push_puts(alloc: Global, items: &mut Vec<Item>, rows: &[RowChange]) -> Result
     ensures valid { OnOk result (All IsValid (changes.puts_of rows.now)) }
 {
     for row in rows {
-        if is_put(row) {
+        if row.is_put() {
             push_item(alloc, items, row)?;
         }
     }
@@ -72,7 +51,7 @@ fn push_removals(alloc: Global, items: &mut Vec<Item>, rows: &[RowChange]) -> Re
     ensures valid { OnOk result (All IsValid (changes.removals_of rows.now)) }
 {
     for row in rows {
-        if !is_put(row) {
+        if !row.is_put() {
             push_item(alloc, items, row)?;
         }
     }
@@ -104,12 +83,4 @@ pub fn items_cost(items: &[Item]) -> Result<u64, AllocError>
         cost = sum;
     }
     Ok(cost)
-}
-
-/// What the batch of a change costs.
-pub fn batch_cost(alloc: Global, rows: &[RowChange]) -> Result<u64, AllocError>
-    ensures { IfOk result (λ cost. cost ≡ spec.batch_cost rows.now) }
-{
-    let batch = batch_of(alloc, rows)?;
-    items_cost(batch.as_slice())
 }

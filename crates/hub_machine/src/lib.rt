@@ -10,5 +10,6 @@ mod carry;
 pub mod change;
 pub mod lives;
 pub mod machine;
+pub mod planned;
 pub mod refusal;
 pub mod reply;

@@ -1,21 +1,27 @@
 -- The keeper has the rows of the tables that a book is opened with.
 use Rattle.std.proofs.Common.{◌≡◌, ℕ, Bool, true, false, cond, ◌&&◌, not, T, List, [], ◌∷◌, ◌++◌, map, Option, Some, None, refl, sym, ap, subst, ◌∙◌, All}
-use Rattle.std.specs.Prelude.{fold}
+use Rattle.std.specs.Prelude.{fold, option_map}
 use Rattle.std.proofs.lemmas.List.Elements.{filter-append}
 use Rattle.std.specs.Cmp.{IsTotalOrder, nat_cmp_total, tied_itself}
 use Rattle.std.specs.Cmp.Lexicographic.{nat_list_cmp_total}
-use Rattle.std.specs.Ordering.{eq_by_cmp, is_eq, is_lt}
+use Rattle.std.specs.Ordering.{eq_by_cmp, is_eq, is_lt, nat_cmp}
 use Rattle.std.specs.declared.cmp.Ordering.{Ordering}
 use Rattle.std.specs.declared.cmp.Ordering.TheVariants.{Less, Equal, Greater}
 use Rattle.std.specs.FinMap.{FinMap, empty, get, insert, entries, entries_sorted, values, get-entries, get-insert, get-empty, same_map, IsAntisymmetric, nat_cmp-IsAntisymmetric}
 use Rattle.std.specs.FinMap.Entries.{find, is_sorted, below_all}
-use Rattle.serde_json.specs.Data.{Data}
-use Rattle.hub_rows.specs.ShareOrder.{names_exact}
+use Rattle.hub_kit.specs.KeyOrder.{name_cmp, key_cmp}
+use Rattle.hub_rows.specs.ShareOrder.{names_exact, share_cmp}
 use Rattle.hub_rows.specs.declared.changes.RowChange.{RowChange}
-use Rattle.hub_rows.specs.declared.changes.RowChange.TheVariants.{PutUser, PutGroup, PutService, PutRole, PutToken, PutOAuthClient, PutNext}
+use Rattle.hub_rows.specs.declared.changes.RowChange.TheVariants.{Put}
+use Rattle.hub_rows.specs.declared.rows.Row.{Row}
+use Rattle.hub_rows.specs.declared.rows.Row.TheVariants as Row
+use Rattle.hub_rows.specs.declared.rows.RowKey.{RowKey}
+use Rattle.hub_rows.specs.declared.rows.RowKey.TheVariants as RowKey
 use Rattle.hub_rows.specs.declared.limits.Limits.{Limits}
-use Rattle.hub_tables.specs.Changes.{row_done, rows_done, is_put, puts_of, removals_of}
+use Rattle.hub_rows.specs.RowKeys.{is_put}
+use Rattle.hub_tables.specs.Changes.{row_at, row_done, rows_done, puts_of, removals_of}
 use Rattle.hub_tables.specs.Own.{AreOwn}
+use Rattle.hub_tables.proofs.RowsAt.{own_users, own_groups, own_services, own_roles, own_tokens, own_clients, own_nexts}
 use Rattle.hub_tables.specs.State.{State}
 use Rattle.keyed_rows.specs.Rows.{OwnKeys}
 use Rattle.keyed_rows.proofs.Finite.{tied}
@@ -24,7 +30,7 @@ use Rattle.keeper.specs.declared.keeper.Item.{Item}
 use Rattle.record_texts.specs.Items.{IsValid}
 use Rattle.hub_machine.specs.Apply.{change_done}
 use Rattle.hub_machine.specs.Batches.{batch_of}
-use Rattle.hub_machine.specs.KeptRows.{Keeps, KeepsKind}
+use Rattle.hub_machine.specs.KeptRows.{Keeps}
 use Rattle.hub_machine.proofs.KeptChanges.{change_kept, same_kept}
 use Rattle.hub_opening.specs.Opening.{with_user, with_group, with_service, with_role, added, no_tables, opened_tables, rows_in}
 use Rattle.hub_opening.proofs.Opened.{opened_keeps}
@@ -138,12 +144,12 @@ puts_both xs ys p q = record {
 
 puts_in : (t : State) → ArePuts (rows_in t)
 puts_in t =
-    puts_both _ _ (puts_kind PutUser (λ x. refl) (values t.users))
-    (puts_both _ _ (puts_kind PutGroup (λ x. refl) (values t.groups))
-    (puts_both _ _ (puts_kind PutService (λ x. refl) (values t.services))
-    (puts_both _ _ (puts_kind PutRole (λ x. refl) (values t.roles))
-    (puts_both _ _ (puts_kind PutToken (λ x. refl) (values t.tokens))
-    (puts_both _ _ (puts_kind PutOAuthClient (λ x. refl) (values t.clients)) (puts_kind PutNext (λ x. refl) (values t.nexts)))))))
+    puts_both _ _ (puts_kind (λ row. Put (Row.User row)) (λ x. refl) (values t.users))
+    (puts_both _ _ (puts_kind (λ row. Put (Row.Group row)) (λ x. refl) (values t.groups))
+    (puts_both _ _ (puts_kind (λ row. Put (Row.Service row)) (λ x. refl) (values t.services))
+    (puts_both _ _ (puts_kind (λ row. Put (Row.Role row)) (λ x. refl) (values t.roles))
+    (puts_both _ _ (puts_kind (λ row. Put (Row.Token row)) (λ x. refl) (values t.tokens))
+    (puts_both _ _ (puts_kind (λ row. Put (Row.OAuthClient row)) (λ x. refl) (values t.clients)) (puts_kind (λ row. Put (Row.Next row)) (λ x. refl) (values t.nexts)))))))
 
 -- ---- they make the tables
 
@@ -161,12 +167,12 @@ set_up limits t = record (no_tables limits) {
 
 all_done : (limits : Limits) (t : State) → AreOwn t → rows_done (rows_in t) (no_tables limits) ≡ set_up limits t
 all_done limits t own =
-    let nexts = map PutNext (values t.nexts) in
-    let clients = map PutOAuthClient (values t.clients) ++ nexts in
-    let tokens = map PutToken (values t.tokens) ++ clients in
-    let roles = map PutRole (values t.roles) ++ tokens in
-    let services = map PutService (values t.services) ++ roles in
-    let groups = map PutGroup (values t.groups) ++ services in
+    let nexts = map (λ row. Put (Row.Next row)) (values t.nexts) in
+    let clients = map (λ row. Put (Row.OAuthClient row)) (values t.clients) ++ nexts in
+    let tokens = map (λ row. Put (Row.Token row)) (values t.tokens) ++ clients in
+    let roles = map (λ row. Put (Row.Role row)) (values t.roles) ++ tokens in
+    let services = map (λ row. Put (Row.Service row)) (values t.services) ++ roles in
+    let groups = map (λ row. Put (Row.Group row)) (values t.groups) ++ services in
     let s0 = no_tables limits in
     let s1 = record s0 { users = t.users } in
     let s2 = record s1 { groups = t.groups } in
@@ -175,14 +181,14 @@ all_done limits t own =
     let s5 = record s4 { tokens = t.tokens } in
     let s6 = record s5 { clients = t.clients } in
     let all = set_up limits t in
-    kind_done nat_list_cmp_total names_exact (λ u. u.name) PutUser (λ m. record s0 { users = m }) (λ m x. refl) t.users own.users groups all
-    (kind_done nat_list_cmp_total names_exact (λ g. g.name) PutGroup (λ m. record s1 { groups = m }) (λ m x. refl) t.groups own.groups services all
-    (kind_done nat_list_cmp_total names_exact (λ s. s.name) PutService (λ m. record s2 { services = m }) (λ m x. refl) t.services own.services roles all
-    (kind_done nat_list_cmp_total names_exact (λ r. r.name) PutRole (λ m. record s3 { roles = m }) (λ m x. refl) t.roles own.roles tokens all
-    (kind_done nat_cmp_total nat_cmp-IsAntisymmetric (λ k. k.id) PutToken (λ m. record s4 { tokens = m }) (λ m x. refl) t.tokens own.tokens clients all
-    (kind_done nat_list_cmp_total names_exact (λ k. k.id) PutOAuthClient (λ m. record s5 { clients = m }) (λ m x. refl) t.clients own.clients nexts all
-    (puts_done nat_list_cmp_total names_exact (λ n. n.name) PutNext (λ m. record s6 { nexts = m }) (λ m x. refl) (values t.nexts) empty
-    ∙ ap (λ m. record s6 { nexts = m }) (all_put nat_list_cmp_total names_exact (λ n. n.name) t.nexts own.nexts)))))))
+    kind_done nat_list_cmp_total names_exact (λ u. u.name) (λ row. Put (Row.User row)) (λ m. record s0 { users = m }) (λ m x. refl) t.users (own_users t own) groups all
+    (kind_done nat_list_cmp_total names_exact (λ g. g.name) (λ row. Put (Row.Group row)) (λ m. record s1 { groups = m }) (λ m x. refl) t.groups (own_groups t own) services all
+    (kind_done nat_list_cmp_total names_exact (λ s. s.name) (λ row. Put (Row.Service row)) (λ m. record s2 { services = m }) (λ m x. refl) t.services (own_services t own) roles all
+    (kind_done nat_list_cmp_total names_exact (λ r. r.name) (λ row. Put (Row.Role row)) (λ m. record s3 { roles = m }) (λ m x. refl) t.roles (own_roles t own) tokens all
+    (kind_done nat_cmp_total nat_cmp-IsAntisymmetric (λ k. k.id) (λ row. Put (Row.Token row)) (λ m. record s4 { tokens = m }) (λ m x. refl) t.tokens (own_tokens t own) clients all
+    (kind_done nat_list_cmp_total names_exact (λ k. k.id) (λ row. Put (Row.OAuthClient row)) (λ m. record s5 { clients = m }) (λ m x. refl) t.clients (own_clients t own) nexts all
+    (puts_done nat_list_cmp_total names_exact (λ n. n.name) (λ row. Put (Row.Next row)) (λ m. record s6 { nexts = m }) (λ m x. refl) (values t.nexts) empty
+    ∙ ap (λ m. record s6 { nexts = m }) (all_put nat_list_cmp_total names_exact (λ n. n.name) t.nexts (own_nexts t own))))))))
 
 change_makes : (limits : Limits) (t : State) → AreOwn t → change_done (rows_in t) (no_tables limits) ≡ set_up limits t
 change_makes limits t own =
@@ -214,29 +220,27 @@ commit_kept rows batch before after t made puts removals same h =
 
 -- ---- a keeper without rows
 
-nothing_there : {K X : Type 0} {R : K → K → Ordering} {kind : ℕ} {text_of : K → List ℕ} {IsKey : K → Type 0} {object_of : X → Data}
-    → KeepsKind {R = R} kind text_of IsKey object_of no_rows empty
-nothing_there {R = R} = record {
-  each = λ key row at. absurd (none_some row (sym (get-empty R key) ∙ at));
-  only = λ name text at. absurd (none_some text at);
-  keys = λ key row at. absurd (none_some row (sym (get-empty R key) ∙ at));
-}
+nothing_there : (limits : Limits) (key : RowKey) → row_at (no_tables limits) key ≡ None
+nothing_there limits (RowKey.User key) = ap (option_map Row.User) (get-empty name_cmp key)
+nothing_there limits (RowKey.Group key) = ap (option_map Row.Group) (get-empty name_cmp key)
+nothing_there limits (RowKey.Service key) = ap (option_map Row.Service) (get-empty name_cmp key)
+nothing_there limits (RowKey.Role key) = ap (option_map Row.Role) (get-empty name_cmp key)
+nothing_there limits (RowKey.Token key) = ap (option_map Row.Token) (get-empty nat_cmp key)
+nothing_there limits (RowKey.ServerRow key) = ap (option_map Row.ServerRow) (get-empty key_cmp key)
+nothing_there limits (RowKey.Lease key) = ap (option_map Row.Lease) (get-empty name_cmp key)
+nothing_there limits (RowKey.Share key) = ap (option_map Row.Share) (get-empty share_cmp key)
+nothing_there limits (RowKey.ShareCode key) = ap (option_map Row.ShareCode) (get-empty nat_cmp key)
+nothing_there limits (RowKey.OAuthClient key) = ap (option_map Row.OAuthClient) (get-empty name_cmp key)
+nothing_there limits (RowKey.OAuthCode key) = ap (option_map Row.OAuthCode) (get-empty name_cmp key)
+nothing_there limits (RowKey.Next key) = ap (option_map Row.Next) (get-empty name_cmp key)
+
+no_row : (limits : Limits) (key : RowKey) (row : Row) → row_at (no_tables limits) key ≡ Some row → ⊥
+no_row limits key row there = none_some row (sym (nothing_there limits key) ∙ there)
 
 nothing_kept : (limits : Limits) → Keeps no_rows (no_tables limits)
 nothing_kept limits = record {
-  users = nothing_there;
-  groups = nothing_there;
-  services = nothing_there;
-  roles = nothing_there;
-  tokens = nothing_there;
-  servers = nothing_there;
-  leases = nothing_there;
-  shares = nothing_there;
-  codes = nothing_there;
-  clients = nothing_there;
-  grant_codes = nothing_there;
-  nexts = nothing_there;
-  none = λ kind name other. refl;
+  exactly = λ kind name text. (λ is. absurd (none_some text is), λ x. absurd (no_row limits x.key x.row x.there));
+  keys = λ key row there. absurd (no_row limits key row there);
 }
 
 -- a keeper without rows has those of tables without rows

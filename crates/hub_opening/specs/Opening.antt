@@ -9,7 +9,8 @@ use Rattle.hub_kit.specs.KeyOrder.{name_cmp}
 use Rattle.scope_filters.specs.declared.holder.Owner.{Owner}
 use Rattle.scope_filters.specs.declared.holder.Owner.TheVariants.{User as OfUser, Service as OfService}
 use Rattle.hub_rows.specs.declared.changes.RowChange.{RowChange}
-use Rattle.hub_rows.specs.declared.changes.RowChange.TheVariants.{PutUser, PutGroup, PutService, PutRole, PutToken, PutOAuthClient, PutNext}
+use Rattle.hub_rows.specs.declared.changes.RowChange.TheVariants.{Put}
+use Rattle.hub_rows.specs.declared.rows.Row.TheVariants as Row
 use Rattle.hub_rows.specs.declared.limits.Limits.{Limits}
 use Rattle.hub_rows.specs.declared.records.User.{User}
 use Rattle.hub_rows.specs.declared.records.Group.{Group}
@@ -144,13 +145,13 @@ opened c now =
 -- the rows of such tables, kind by kind
 abbrev pub rows_in : State → List RowChange
 rows_in t =
-    map PutUser (values t.users)
-    ++ (map PutGroup (values t.groups)
-    ++ (map PutService (values t.services)
-    ++ (map PutRole (values t.roles)
-    ++ (map PutToken (values t.tokens)
-    ++ (map PutOAuthClient (values t.clients)
-    ++ map PutNext (values t.nexts))))))
+    map (λ row. Put (Row.User row)) (values t.users)
+    ++ (map (λ row. Put (Row.Group row)) (values t.groups)
+    ++ (map (λ row. Put (Row.Service row)) (values t.services)
+    ++ (map (λ row. Put (Row.Role row)) (values t.roles)
+    ++ (map (λ row. Put (Row.Token row)) (values t.tokens)
+    ++ (map (λ row. Put (Row.OAuthClient row)) (values t.clients)
+    ++ map (λ row. Put (Row.Next row)) (values t.nexts))))))
 
 -- the kind with its limit, where it has more rows
 abbrev pub past_limit : (kind limit rows : ℕ) → Option (ℕ × ℕ) → Option (ℕ × ℕ)

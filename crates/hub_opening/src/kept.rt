@@ -1,91 +1,25 @@
 //! The rows of tables, as the changes that put them.
 ghost use Rattle.std.specs.Prelude.{◌≡◌, ◌++◌, map, IfOk, OnOk};
-ghost use Rattle.hub_rows.specs.declared.changes.RowChange.{RowChange};
-ghost use Rattle.hub_rows.specs.declared.changes.RowChange.TheVariants as To;
+ghost use Rattle.hub_rows.specs.declared.changes.RowChange.TheVariants.{Put};
 ghost use Rattle.hub_tables.specs.Own.{AreOwn};
 ghost use Rattle.hub_opening.specs.Opening as spec;
 
 use hub_rows::changes::RowChange;
-use hub_rows::records::{Group, Next, OAuthClient, Role, Service, Token, User};
+use hub_rows::kinds::OfKind;
 use hub_tables::tables::Tables;
 use std::alloc::{AllocError, Global};
 use std::collections::btree_map::Values;
 
-/// A row of the tables.
-trait Kept: Sized {
-    /// The change that puts it.
-    ghost put: { Self → RowChange };
-
-    fn put(&self, alloc: Global) -> Result<RowChange, AllocError>
-        ensures { IfOk result (λ change. change ≡ put self.now) };
-}
-
-impl Kept for User {
-    ghost put = { To.PutUser };
-
-    fn put(&self, _: Global) -> Result<RowChange, AllocError> {
-        Ok(RowChange::PutUser(*self))
-    }
-}
-
-impl Kept for Group {
-    ghost put = { To.PutGroup };
-
-    fn put(&self, alloc: Global) -> Result<RowChange, AllocError> {
-        Ok(RowChange::PutGroup(self.copy(alloc)?))
-    }
-}
-
-impl Kept for Service {
-    ghost put = { To.PutService };
-
-    fn put(&self, _: Global) -> Result<RowChange, AllocError> {
-        Ok(RowChange::PutService(*self))
-    }
-}
-
-impl Kept for Role {
-    ghost put = { To.PutRole };
-
-    fn put(&self, alloc: Global) -> Result<RowChange, AllocError> {
-        Ok(RowChange::PutRole(self.copy(alloc)?))
-    }
-}
-
-impl Kept for Token {
-    ghost put = { To.PutToken };
-
-    fn put(&self, alloc: Global) -> Result<RowChange, AllocError> {
-        Ok(RowChange::PutToken(self.copy(alloc)?))
-    }
-}
-
-impl Kept for OAuthClient {
-    ghost put = { To.PutOAuthClient };
-
-    fn put(&self, alloc: Global) -> Result<RowChange, AllocError> {
-        Ok(RowChange::PutOAuthClient(self.copy(alloc)?))
-    }
-}
-
-impl Kept for Next {
-    ghost put = { To.PutNext };
-
-    fn put(&self, alloc: Global) -> Result<RowChange, AllocError> {
-        Ok(RowChange::PutNext(self.copy(alloc)?))
-    }
-}
-
 /// Adds the changes that put these rows.
-fn push_puts<K, R: Kept>(
+fn push_puts<K, R: OfKind>(
     alloc: Global,
     changes: &mut Vec<RowChange>,
     rows: Values<'_, K, R>,
 ) -> Result<(), AllocError>
-    ensures { OnOk result (changes.new.items ≡ changes.old.items ++ map R.put rows.entry) }
+    ensures { OnOk result (changes.new.items ≡ changes.old.items ++ map (λ row. Put (R.row_of row)) rows.entry) }
 {
     for row in rows {
-        changes.push(row.put(alloc)?)?;
+        changes.push(RowChange::Put(row.copy_row(alloc)?))?;
     }
     Ok(())
 }

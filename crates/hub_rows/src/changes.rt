@@ -22,6 +22,15 @@ impl RowChange {
         }
     }
 
+    pub fn copy(&self, alloc: Global) -> Result<RowChange, AllocError>
+        ensures { IfOk result (λ copy. copy ≡ self.now) }
+    {
+        match self {
+            RowChange::Put(row) => Ok(RowChange::Put(row.copy(alloc)?)),
+            RowChange::Remove(key) => Ok(RowChange::Remove(key.copy(alloc)?)),
+        }
+    }
+
     /// What is changed: the key of the row that is put, or of the one that goes.
     pub fn key(&self, alloc: Global) -> Result<RowKey, AllocError>
         ensures { IfOk result (λ key. key ≡ spec.key_in self.now) }

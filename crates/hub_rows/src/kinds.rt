@@ -30,7 +30,7 @@ impl OfKind for Group {
     ghost row_of = { Row.Group };
 
     fn copy_row(&self, alloc: Global) -> Result<Row, AllocError> {
-        self.copy(alloc).map(Row::Group)
+        Ok(Row::Group(self.copy(alloc)?))
     }
 }
 
@@ -46,7 +46,7 @@ impl OfKind for Role {
     ghost row_of = { Row.Role };
 
     fn copy_row(&self, alloc: Global) -> Result<Row, AllocError> {
-        self.copy(alloc).map(Row::Role)
+        Ok(Row::Role(self.copy(alloc)?))
     }
 }
 
@@ -54,7 +54,7 @@ impl OfKind for Token {
     ghost row_of = { Row.Token };
 
     fn copy_row(&self, alloc: Global) -> Result<Row, AllocError> {
-        self.copy(alloc).map(Row::Token)
+        Ok(Row::Token(self.copy(alloc)?))
     }
 }
 
@@ -70,7 +70,7 @@ impl OfKind for Lease {
     ghost row_of = { Row.Lease };
 
     fn copy_row(&self, alloc: Global) -> Result<Row, AllocError> {
-        self.copy(alloc).map(Row::Lease)
+        Ok(Row::Lease(self.copy(alloc)?))
     }
 }
 
@@ -78,7 +78,7 @@ impl OfKind for Share {
     ghost row_of = { Row.Share };
 
     fn copy_row(&self, alloc: Global) -> Result<Row, AllocError> {
-        self.copy(alloc).map(Row::Share)
+        Ok(Row::Share(self.copy(alloc)?))
     }
 }
 
@@ -86,7 +86,7 @@ impl OfKind for ShareCode {
     ghost row_of = { Row.ShareCode };
 
     fn copy_row(&self, alloc: Global) -> Result<Row, AllocError> {
-        self.copy(alloc).map(Row::ShareCode)
+        Ok(Row::ShareCode(self.copy(alloc)?))
     }
 }
 
@@ -94,7 +94,7 @@ impl OfKind for OAuthClient {
     ghost row_of = { Row.OAuthClient };
 
     fn copy_row(&self, alloc: Global) -> Result<Row, AllocError> {
-        self.copy(alloc).map(Row::OAuthClient)
+        Ok(Row::OAuthClient(self.copy(alloc)?))
     }
 }
 
@@ -102,7 +102,7 @@ impl OfKind for OAuthCode {
     ghost row_of = { Row.OAuthCode };
 
     fn copy_row(&self, alloc: Global) -> Result<Row, AllocError> {
-        self.copy(alloc).map(Row::OAuthCode)
+        Ok(Row::OAuthCode(self.copy(alloc)?))
     }
 }
 
@@ -110,6 +110,6 @@ impl OfKind for Next {
     ghost row_of = { Row.Next };
 
     fn copy_row(&self, alloc: Global) -> Result<Row, AllocError> {
-        self.copy(alloc).map(Row::Next)
+        Ok(Row::Next(self.copy(alloc)?))
     }
 }

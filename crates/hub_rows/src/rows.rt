@@ -78,12 +78,12 @@ impl Row {
             Row::Role(row) => Ok(RowKey::Role(row.name)),
             Row::Token(row) => Ok(RowKey::Token(row.id)),
             Row::ServerRow(row) => Ok(RowKey::ServerRow(row.key)),
-            Row::Lease(row) => row.target.copy(alloc).map(RowKey::Lease),
+            Row::Lease(row) => Ok(RowKey::Lease(row.target.copy(alloc)?)),
             Row::Share(row) => Ok(RowKey::Share(row.key)),
             Row::ShareCode(row) => Ok(RowKey::ShareCode(row.id)),
-            Row::OAuthClient(row) => row.id.copy(alloc).map(RowKey::OAuthClient),
-            Row::OAuthCode(row) => row.hash.copy(alloc).map(RowKey::OAuthCode),
-            Row::Next(row) => row.name.copy(alloc).map(RowKey::Next),
+            Row::OAuthClient(row) => Ok(RowKey::OAuthClient(row.id.copy(alloc)?)),
+            Row::OAuthCode(row) => Ok(RowKey::OAuthCode(row.hash.copy(alloc)?)),
+            Row::Next(row) => Ok(RowKey::Next(row.name.copy(alloc)?)),
         }
     }
 }
@@ -99,12 +99,12 @@ impl RowKey {
             RowKey::Role(name) => Ok(RowKey::Role(*name)),
             RowKey::Token(id) => Ok(RowKey::Token(*id)),
             RowKey::ServerRow(key) => Ok(RowKey::ServerRow(*key)),
-            RowKey::Lease(target) => target.copy(alloc).map(RowKey::Lease),
+            RowKey::Lease(target) => Ok(RowKey::Lease(target.copy(alloc)?)),
             RowKey::Share(key) => Ok(RowKey::Share(*key)),
             RowKey::ShareCode(id) => Ok(RowKey::ShareCode(*id)),
-            RowKey::OAuthClient(id) => id.copy(alloc).map(RowKey::OAuthClient),
-            RowKey::OAuthCode(hash) => hash.copy(alloc).map(RowKey::OAuthCode),
-            RowKey::Next(name) => name.copy(alloc).map(RowKey::Next),
+            RowKey::OAuthClient(id) => Ok(RowKey::OAuthClient(id.copy(alloc)?)),
+            RowKey::OAuthCode(hash) => Ok(RowKey::OAuthCode(hash.copy(alloc)?)),
+            RowKey::Next(name) => Ok(RowKey::Next(name.copy(alloc)?)),
         }
     }
 }

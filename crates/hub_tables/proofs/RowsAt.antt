@@ -1,5 +1,5 @@
 -- Look-ups of rows after a row is put or removed, whatever its kind.
-use Rattle.std.proofs.Common.{◌≡◌, ℕ, List, Option, Some, None, sym, ap, ◌∙◌, refl, inl, inr}
+use Rattle.std.proofs.Common.{◌≡◌, List, [], ◌∷◌, Option, Some, None, ◌⊎◌, inl, inr, sym, ap, ◌∙◌, refl}
 use Rattle.std.specs.Prelude.{option_map}
 use Rattle.std.specs.declared.cmp.Ordering.{Ordering}
 use Rattle.std.specs.Cmp.{IsTotalOrder, nat_cmp_total}
@@ -9,14 +9,23 @@ use Rattle.hub_kit.specs.KeyOrder.{key_exact}
 use Rattle.hub_kit.specs.contracts.names.ServerKeyOrd.TheImpl.Laws as server_key
 use Rattle.keyed_rows.specs.Rows.{OwnKeys}
 use Rattle.keyed_rows.proofs.Finite.{insert_same, insert_other, remove_other, remove_cases, same_or_apart}
-use Rattle.hub_rows.specs.RowKeys.{key_of}
+use Rattle.hub_rows.specs.RowKeys.{key_of, key_in}
 use Rattle.hub_rows.specs.ShareOrder.{names_exact, share_exact}
 use Rattle.hub_rows.specs.contracts.keys.ShareKeyOrd.TheImpl.Laws as share_key
+use Rattle.hub_rows.specs.declared.changes.RowChange.{RowChange}
+use Rattle.hub_rows.specs.declared.changes.RowChange.TheVariants.{Put, Remove}
+use Rattle.hub_rows.specs.declared.records.User.{User}
+use Rattle.hub_rows.specs.declared.records.Group.{Group}
+use Rattle.hub_rows.specs.declared.records.Service.{Service}
+use Rattle.hub_rows.specs.declared.records.Role.{Role}
+use Rattle.hub_rows.specs.declared.records.Token.{Token}
+use Rattle.hub_rows.specs.declared.records.OAuthClient.{OAuthClient}
+use Rattle.hub_rows.specs.declared.records.Next.{Next}
 use Rattle.hub_rows.specs.declared.rows.Row.{Row}
 use Rattle.hub_rows.specs.declared.rows.Row.TheVariants as Row
 use Rattle.hub_rows.specs.declared.rows.RowKey.{RowKey}
 use Rattle.hub_rows.specs.declared.rows.RowKey.TheVariants as RowKey
-use Rattle.hub_tables.specs.Changes.{row_at, with_row, without_row}
+use Rattle.hub_tables.specs.Changes.{row_at, with_row, without_row, row_done, rows_done, put_or_remove}
 use Rattle.hub_tables.specs.Own.{AreOwn}
 use Rattle.hub_tables.specs.State.{State}
 
@@ -226,3 +235,67 @@ module _ {K X : Type 0} {R : K → K → Ordering} (m : FinMap R X) (s : State) 
 
   pub all_own : OwnKeys key m → (q : K) (row : Row) → row_at s (of_key q) ≡ Some row → key_of row ≡ of_key q
   all_own h q row is = kept_own h q (get m q) refl row (sym (at q) ∙ is)
+
+-- ---- changes
+
+pub done_other : (c : RowChange) (s : State) (key : RowKey) → (key ≡ key_in c → ⊥) → row_at (row_done c s) key ≡ row_at s key
+done_other (Put row) s key apart = put_other s row key apart
+done_other (Remove gone) s key apart = gone_other s gone key apart
+
+pub done_fixed : (c : RowChange) (s : State) → IsFixedIn s (row_done c s)
+done_fixed (Put row) s = put_fixed row s
+done_fixed (Remove key) s = gone_fixed key s
+
+pub rows_fixed : (rows : List RowChange) (s : State) → IsFixedIn s (rows_done rows s)
+rows_fixed [] s = (refl, refl)
+rows_fixed (c ∷ rest) s = let after = rows_fixed rest (row_done c s) in let here = done_fixed c s in (after.0 ∙ here.0, after.1 ∙ here.1)
+
+-- a change that sets the row of a key: it is of that key, and then this row stands under it
+module _ (key : RowKey) where
+  pub set_key : (at : Option Row) → ((row : Row) → at ≡ Some row → key_of row ≡ key) → key_in (put_or_remove key at) ≡ key
+  set_key None own = refl
+  set_key (Some row) own = own row refl
+
+  pub set_same : (at : Option Row) (s : State) → ((row : Row) → at ≡ Some row → key_of row ≡ key) → row_at (row_done (put_or_remove key at) s) key ≡ at
+  set_same None s own = gone_same s key
+  set_same (Some row) s own = ap (row_at (with_row row s)) (sym (own row refl)) ∙ put_same s row
+
+-- ---- rows stay under their own keys
+
+own_after : (c : RowChange) (s : State) → AreOwn s → AreOwn (row_done c s)
+own_after (Put row) s own key x there = elim (same_or_not key (key_of row)) as (λ _. key_of x ≡ key) [
+  | inl here ↦ ap key_of (sym (some_one row x (sym (put_same s row) ∙ ap (row_at (with_row row s)) (sym here) ∙ there))) ∙ sym here
+  | inr apart ↦ own key x (sym (put_other s row key apart) ∙ there)
+]
+own_after (Remove gone) s own key x there = elim (same_or_not key gone) as (λ _. key_of x ≡ key) [
+  | inl here ↦ absurd (none_some x (sym (gone_same s gone) ∙ ap (row_at (without_row gone s)) (sym here) ∙ there))
+  | inr apart ↦ own key x (sym (gone_other s gone key apart) ∙ there)
+]
+
+pub rows_own : (rows : List RowChange) (s : State) → AreOwn s → AreOwn (rows_done rows s)
+rows_own [] s own = own
+rows_own (c ∷ rest) s own = rows_own rest (row_done c s) (own_after c s own)
+
+-- ---- the rows of one kind
+
+module _ (s : State) (own : AreOwn s) where
+  pub own_users : OwnKeys (λ (row : User). row.name) s.users
+  own_users = own_kind s.users s RowKey.User Row.User (λ row. row.name) (λ q. refl) (λ row. refl) (λ a b e. cc) own
+
+  pub own_groups : OwnKeys (λ (row : Group). row.name) s.groups
+  own_groups = own_kind s.groups s RowKey.Group Row.Group (λ row. row.name) (λ q. refl) (λ row. refl) (λ a b e. cc) own
+
+  pub own_services : OwnKeys (λ (row : Service). row.name) s.services
+  own_services = own_kind s.services s RowKey.Service Row.Service (λ row. row.name) (λ q. refl) (λ row. refl) (λ a b e. cc) own
+
+  pub own_roles : OwnKeys (λ (row : Role). row.name) s.roles
+  own_roles = own_kind s.roles s RowKey.Role Row.Role (λ row. row.name) (λ q. refl) (λ row. refl) (λ a b e. cc) own
+
+  pub own_tokens : OwnKeys (λ (row : Token). row.id) s.tokens
+  own_tokens = own_kind s.tokens s RowKey.Token Row.Token (λ row. row.id) (λ q. refl) (λ row. refl) (λ a b e. cc) own
+
+  pub own_clients : OwnKeys (λ (row : OAuthClient). row.id) s.clients
+  own_clients = own_kind s.clients s RowKey.OAuthClient Row.OAuthClient (λ row. row.id) (λ q. refl) (λ row. refl) (λ a b e. cc) own
+
+  pub own_nexts : OwnKeys (λ (row : Next). row.name) s.nexts
+  own_nexts = own_kind s.nexts s RowKey.Next Row.Next (λ row. row.name) (λ q. refl) (λ row. refl) (λ a b e. cc) own

@@ -17,6 +17,7 @@ use Rattle.hub_rows.specs.declared.records.Service.{Service}
 use Rattle.hub_rows.specs.declared.records.Token.{Token}
 use Rattle.hub_rows.specs.declared.records.User.{User}
 use Rattle.hub_tables.specs.Own.{AreOwn}
+use Rattle.hub_tables.proofs.RowsAt.{own_users, own_groups, own_services}
 use Rattle.hub_view.specs.Json.{Json, whole, pairs, line}
 use Rattle.hub_view.specs.Fields as view
 use Rattle.hub_view.specs.Pages.{paged_list}
@@ -126,22 +127,22 @@ module _ (k : Token) (s t : Hub) (seen : SeesSame k s t) where
     user_known server u (Some x) None n n' both = absurd both
 
     same_identity : (server : Option ServerKey) (w : Owner) → k.owner ≡ w → identity may s k server w ≡ identity may t k server w
-    same_identity server (Own.User u) is = user_known server u (get s.tables.users u) (get t.tables.users u) (own.users u) (own'.users u) (seen.users u (inl is))
+    same_identity server (Own.User u) is = user_known server u (get s.tables.users u) (get t.tables.users u) (own_users s.tables own u) (own_users t.tables own' u) (seen.users u (inl is))
     same_identity server (Own.Service v) is =
         let members = same_service_members k s t may can own own' v true (seen.services v (inl is)) in
         λ i. pairs (view.access_member may server ++ members i ++ view.scopes_member k.scopes)
 
     same_users : users_shown may s (values s.tables.users) ≡ users_shown may t (values t.tables.users)
     same_users = same_list (λ (x : User). x.name) (λ u. may A.ListUsers (Ob.User u)) (user_body may s) (user_body may t) (SameUser k s t)
-        s.tables.users t.tables.users own.users own'.users (user_same k s t may can own own') (λ u m. seen.users u (inr (inl (can A.ListUsers (Ob.User u) m))))
+        s.tables.users t.tables.users (own_users s.tables own) (own_users t.tables own') (user_same k s t may can own own') (λ u m. seen.users u (inr (inl (can A.ListUsers (Ob.User u) m))))
 
     same_groups : groups_shown may s (values s.tables.groups) ≡ groups_shown may t (values t.tables.groups)
     same_groups = same_list (λ (x : Group). x.name) (λ g. may A.ListGroups (Ob.Group g)) (group_body may s) (group_body may t) (SameGroup k s t)
-        s.tables.groups t.tables.groups own.groups own'.groups (group_same k s t may can own own') (λ g m. seen.groups g (inl (can A.ListGroups (Ob.Group g) m)))
+        s.tables.groups t.tables.groups (own_groups s.tables own) (own_groups t.tables own') (group_same k s t may can own own') (λ g m. seen.groups g (inl (can A.ListGroups (Ob.Group g) m)))
 
     same_services : services_shown may s (values s.tables.services) ≡ services_shown may t (values t.tables.services)
     same_services = same_list (λ (x : Service). x.name) (λ v. may A.ListServices (Ob.Service v)) (λ x. service_body may s x.name) (λ x. service_body may t x.name)
-        (λ v x y. SameService k s t v) s.tables.services t.tables.services own.services own'.services
+        (λ v x y. SameService k s t v) s.tables.services t.tables.services (own_services s.tables own) (own_services t.tables own')
         (λ v x y n n' same. ap (service_body may s) n ∙ same_service v same ∙ ap (service_body may t) (sym n'))
         (λ v m. let same = seen.services v (inr (inl (can A.ListServices (Ob.Service v) m))) in
         in_both (SameService k s t v) (get s.tables.services v) (get t.tables.services v) same.there same)
@@ -165,11 +166,11 @@ module _ (k : Token) (s t : Hub) (seen : SeesSame k s t) where
 
     one_user : (user : List ℕ) → Same (GetUser user)
     one_user u can = on_object j.is_held (j.may A.ReadUsersName (Ob.User u)) (Needs A.ReadUsersName) _ _ (λ m.
-        user_found own own' j.may can u (get s.tables.users u) (get t.tables.users u) (own.users u) (own'.users u) (seen.users u (inr (inr (can A.ReadUsersName (Ob.User u) m)))))
+        user_found own own' j.may can u (get s.tables.users u) (get t.tables.users u) (own_users s.tables own u) (own_users t.tables own' u) (seen.users u (inr (inr (can A.ReadUsersName (Ob.User u) m)))))
 
     one_group : (group : List ℕ) → Same (GetGroup group)
     one_group g can = on_object j.is_held (j.may A.ReadGroupsName (Ob.Group g)) (Needs A.ReadGroupsName) _ _ (λ m.
-        group_found own own' j.may can g (get s.tables.groups g) (get t.tables.groups g) (own.groups g) (own'.groups g) (seen.groups g (inr (can A.ReadGroupsName (Ob.Group g) m))))
+        group_found own own' j.may can g (get s.tables.groups g) (get t.tables.groups g) (own_groups s.tables own g) (own_groups t.tables own' g) (seen.groups g (inr (can A.ReadGroupsName (Ob.Group g) m))))
 
     one_service : (service : List ℕ) → Same (GetService service)
     one_service v can = on_object j.is_held (j.may A.ReadServicesName (Ob.Service v)) (Needs A.ReadServicesName) _ _ (λ m.

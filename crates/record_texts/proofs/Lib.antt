@@ -4,3 +4,4 @@ pub mod Results
 pub mod ShareTexts
 pub mod Leases
 pub mod OneText
+pub mod KeyTexts

@@ -1,5 +1,6 @@
 //! The items of a batch.
 ghost use Rattle.std.specs.Prelude.{◌≡◌, IfOk, OnOk};
+ghost use Rattle.hub_rows.specs.RowKeys.{key_of};
 ghost use Rattle.keeper.specs.declared.keeper.Item.TheVariants as Item;
 ghost use Rattle.record_texts.specs.Items as spec;
 ghost use Rattle.record_texts.specs.Rows.{row_with};
@@ -7,6 +8,7 @@ ghost use Rattle.record_texts.specs.Rows.{row_with};
 use crate::record::{Record, row_of};
 use crate::textual::Textual;
 use hub_rows::changes::RowChange;
+use hub_rows::rows::{Row, RowKey};
 use keeper::keeper::Item;
 use std::alloc::{AllocError, Global};
 
@@ -16,30 +18,50 @@ pub fn item_of(alloc: Global, change: &RowChange) -> Result<Item, AllocError>
     ensures valid { OnOk result (spec.IsValid change.now) }
 {
     match change {
-        RowChange::PutUser(user) => put(alloc, user),
-        RowChange::RemoveUser(name) => delete(alloc, 1, name),
-        RowChange::PutGroup(group) => put(alloc, group),
-        RowChange::RemoveGroup(name) => delete(alloc, 2, name),
-        RowChange::PutService(service) => put(alloc, service),
-        RowChange::RemoveService(name) => delete(alloc, 3, name),
-        RowChange::PutRole(role) => put(alloc, role),
-        RowChange::RemoveRole(name) => delete(alloc, 4, name),
-        RowChange::PutToken(token) => put(alloc, token),
-        RowChange::RemoveToken(id) => delete(alloc, 5, id),
-        RowChange::PutServerRow(row) => put(alloc, row),
-        RowChange::RemoveServerRow(key) => delete(alloc, 6, key),
-        RowChange::PutLease(lease) => put(alloc, lease),
-        RowChange::RemoveLease(target) => delete(alloc, 7, target),
-        RowChange::PutShare(share) => put(alloc, share),
-        RowChange::RemoveShare(key) => delete(alloc, 8, key),
-        RowChange::PutShareCode(code) => put(alloc, code),
-        RowChange::RemoveShareCode(id) => delete(alloc, 9, id),
-        RowChange::PutOAuthClient(client) => put(alloc, client),
-        RowChange::RemoveOAuthClient(id) => delete(alloc, 10, id),
-        RowChange::PutOAuthCode(code) => put(alloc, code),
-        RowChange::RemoveOAuthCode(hash) => delete(alloc, 11, hash),
-        RowChange::PutNext(next) => put(alloc, next),
-        RowChange::RemoveNext(name) => delete(alloc, 12, name),
+        RowChange::Put(row) => put_of(alloc, row),
+        RowChange::Remove(key) => delete_of(alloc, key),
+    }
+}
+
+/// The item that puts a row.
+fn put_of(alloc: Global, row: &Row) -> Result<Item, AllocError>
+    ensures item { IfOk result (λ item. item ≡ Item.Put (row_with (spec.kind_of (key_of row.now)) (spec.key_text (key_of row.now)) (spec.object_of row.now))) }
+    ensures valid { OnOk result (spec.IsRow row.now) }
+{
+    match row {
+        Row::User(user) => put(alloc, user),
+        Row::Group(group) => put(alloc, group),
+        Row::Service(service) => put(alloc, service),
+        Row::Role(role) => put(alloc, role),
+        Row::Token(token) => put(alloc, token),
+        Row::ServerRow(server) => put(alloc, server),
+        Row::Lease(lease) => put(alloc, lease),
+        Row::Share(share) => put(alloc, share),
+        Row::ShareCode(code) => put(alloc, code),
+        Row::OAuthClient(client) => put(alloc, client),
+        Row::OAuthCode(code) => put(alloc, code),
+        Row::Next(next) => put(alloc, next),
+    }
+}
+
+/// The item that removes the row of a key.
+fn delete_of(alloc: Global, key: &RowKey) -> Result<Item, AllocError>
+    ensures item { IfOk result (λ item. item ≡ Item.Delete (spec.kind_of key.now) (spec.key_text key.now)) }
+    ensures valid { OnOk result (spec.IsKey key.now) }
+{
+    match key {
+        RowKey::User(name) => delete(alloc, 1, name),
+        RowKey::Group(name) => delete(alloc, 2, name),
+        RowKey::Service(name) => delete(alloc, 3, name),
+        RowKey::Role(name) => delete(alloc, 4, name),
+        RowKey::Token(id) => delete(alloc, 5, id),
+        RowKey::ServerRow(key) => delete(alloc, 6, key),
+        RowKey::Lease(target) => delete(alloc, 7, target),
+        RowKey::Share(key) => delete(alloc, 8, key),
+        RowKey::ShareCode(id) => delete(alloc, 9, id),
+        RowKey::OAuthClient(id) => delete(alloc, 10, id),
+        RowKey::OAuthCode(hash) => delete(alloc, 11, hash),
+        RowKey::Next(name) => delete(alloc, 12, name),
     }
 }
 

@@ -1,2 +1,3 @@
-pub mod Asked
-pub mod Undone
+mod Asked
+mod LeadsBack
+mod WithWayBack

@@ -1,32 +1,32 @@
 //! A change, carried out.
-ghost use Rattle.std.specs.Prelude.{◌≡◌, ◌≤◌, ◌+◌, false, if◌then◌else◌, IfOk, OnOk, OnErr, Ok};
+ghost use Rattle.std.specs.Prelude.{◌≡◌, ◌≤◌, false, if◌then◌else◌, IfOk, OnOk, OnErr, Ok};
 ghost use Rattle.hub_devices.specs.Faults.{Rises};
-ghost use Rattle.keeper.specs.Costs.{batch_cost};
-ghost use Rattle.hub_machine.specs.Apply.{apply, is_past_trail};
-ghost use Rattle.hub_machine.specs.Carry.{Entered, Kept, IsPlain};
+ghost use Rattle.hub_machine.specs.Apply.{apply, cost_of, is_past_trail};
+ghost use Rattle.hub_machine.specs.Carry.{Entered, Kept, FitsIn};
 ghost use Rattle.hub_machine.specs.KeptRows.{Keeps};
 ghost use Rattle.hub_machine.specs.State.{owed};
+ghost use Rattle.hub_machine.specs.Written.{IsWritten};
 
-use crate::batch::{batch_of, items_cost};
 use crate::carry::carry_out;
 use crate::change::Change;
 use crate::machine::Machine;
-use keeper::keeper::{Item, Keeper};
+use crate::planned::{Planned, Written};
+use keeper::keeper::Keeper;
 use keeper::trail::Trail;
 use std::alloc::{AllocError, Global};
 
 impl Machine {
-    /// What an entry with this batch costs: 64 bytes, and those of its keys and texts.
-    fn entry_cost(&self, batch: &[Item]) -> Result<u64, AllocError>
-        ensures { IfOk result (λ cost. cost ≡ (if self.now.no_trail then 0 else (64 + batch_cost batch.now))) }
+    /// What the entry of a change costs: 64 bytes, and those of its keys and texts.
+    fn entry_cost(&self, change: &Change, written: &Written) -> u64
+        requires room { is_past_trail self.now change.now ≡ false }
+        requires written { IsWritten change.now written.now }
+        ensures { result ≡ cost_of self.now change.now }
     {
+        let _of = change;
         if self.no_trail {
-            return Ok(0);
+            return 0;
         }
-        match items_cost(batch)?.checked_add(64) {
-            Some(cost) => Ok(cost),
-            None => Err(AllocError),
-        }
+        64 + written.cost
     }
 
     /// Carries a change out: its puts, the commit, and its removals. The length and the cost of the history are those with its
@@ -37,9 +37,11 @@ impl Machine {
         alloc: Global,
         keeper: &mut K,
         change: &Change,
+        written: &Written,
     ) -> Result<bool, AllocError>
         requires room { is_past_trail self.old change.now ≡ false }
-        requires plain { IsPlain change.now }
+        requires written { IsWritten change.now written.now }
+        requires fits { FitsIn self.old change.now }
         ensures carried { IfOk result (λ done. self.new ≡ (if done then apply change.now self.old else self.old)) }
         ensures err { OnErr result (self.new ≡ self.old) }
         ensures told { K.Tells keeper.new → K.Tells keeper.old }
@@ -49,9 +51,14 @@ impl Machine {
         ensures cause { result ≡ Ok false → Rises (K.faults keeper.old) (K.faults keeper.new) }
     {
         let Change::Rows { rows } = change;
-        let batch = batch_of(alloc, rows.as_slice())?;
-        let cost = self.entry_cost(batch.as_slice())?;
-        if !carry_out(alloc, &mut self.tables, keeper, rows.as_slice(), &batch)? {
+        let cost = self.entry_cost(change, written);
+        if !carry_out(
+            alloc,
+            &mut self.tables,
+            keeper,
+            rows.as_slice(),
+            &written.batch,
+        )? {
             return Ok(false);
         }
         self.length += 1;
@@ -66,10 +73,10 @@ impl Machine {
         alloc: Global,
         keeper: &mut K,
         trail: &mut T,
-        change: Change,
+        change: Planned,
     ) -> Result<bool, AllocError>
         requires room { is_past_trail self.old change ≡ false }
-        requires plain { IsPlain change }
+        requires fits { FitsIn self.old change }
         ensures entered { Entered change result self.old self.new (T.told trail.old) (T.told trail.new) (T.long trail.old) (T.long trail.new) }
         ensures told { K.Tells keeper.new → K.Tells keeper.old }
         ensures kept { K.Tells keeper.new → Kept change result (K.rows keeper.old) (K.rows keeper.new) }
@@ -81,10 +88,11 @@ impl Machine {
     {
         let owed = self.lives.owed() as u64;
         trail.reserve(owed + 1)?;
-        if !self.carry(alloc, keeper, &change)? {
+        let (entry, written) = change.write(alloc)?;
+        if !self.carry(alloc, keeper, &entry, &written)? {
             return Ok(false);
         }
-        trail.note(change);
+        trail.note(entry);
         Ok(true)
     }
 }

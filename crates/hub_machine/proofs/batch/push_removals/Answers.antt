@@ -1,6 +1,6 @@
 use Rattle.std.proofs.Common.{◌≡◌, true, false, not, sym, ◌∙◌, ap}
 use Rattle.hub_rows.specs.declared.changes.RowChange.{RowChange}
-use Rattle.hub_tables.specs.Changes.{is_put}
+use Rattle.hub_rows.specs.RowKeys.{is_put}
 use Rattle.record_texts.specs.Items.{item_of, IsValid}
 use Rattle.hub_machine.proofs.Passed.{made_taken, made_left, good_taken, good_left, made_all, good_all}
 use Rattle.hub_machine.proofs.batch.push_removals.Goals as goal

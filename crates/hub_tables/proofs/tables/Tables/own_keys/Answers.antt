@@ -11,7 +11,7 @@ use Rattle.hub_tables.proofs.RowsAt.{all_own}
 use Rattle.hub_tables.proofs.tables.Tables.own_keys.Goals as goal
 
 module _ (t : Trees) (limits : Limits) (scopes : List CustomRow) (kept : (kind : Kind) → IsKept t kind) where
-  s : State
+  abbrev s : State
   s = state_of t limits scopes
 
   own_in : AreOwn s

@@ -1,22 +1,13 @@
 -- Puts with a way back.
-use Rattle.std.proofs.Common.{◌≡◌, ℕ, ◌+◌, ◌<◌, Bool, true, false, ◌||◌, List, [], ◌∷◌, ◌++◌, length, get_or, drop, take, reverse, refl, sym, ◌∙◌, ap, subst}
-use Rattle.std.specs.List.{list_any}
+use Rattle.std.proofs.Common.{◌≡◌, ℕ, ◌+◌, ◌<◌, Bool, true, false, cond, not, List, [], ◌∷◌, ◌++◌, length, get_or, drop, take, filter, reverse, sym, ◌∙◌, ap, subst}
 use Rattle.std.proofs.lemmas.List.{reverse-append, drop_more, take_at}
+use Rattle.hub_rows.specs.RowKeys.{is_put}
 use Rattle.hub_rows.specs.declared.changes.RowChange.{RowChange}
-use Rattle.hub_rows.specs.declared.changes.RowChange.TheVariants.{PutToken, PutShareCode}
-use Rattle.hub_tables.specs.Changes.{row_done, rows_done, is_put, puts_of, puts_hashed, FitsRow}
+use Rattle.hub_rows.specs.declared.changes.RowChange.TheVariants.{Put, Remove}
+use Rattle.hub_tables.specs.Changes.{row_done, rows_done, puts_of, FitsRow, FitAll}
 use Rattle.hub_tables.specs.State.{State}
-use Rattle.hub_machine.specs.Carry.{NoneHashed, IsFree, AreFree, LeadsBack, OneMore}
-use Rattle.hub_machine.proofs.Passed.{taken, left}
-
-not_false : true ≡ false → ⊥
-not_false e = cc
-
--- a row that isn't found by a hash may stand anywhere
-pub plain_fits : (t : State) (r : RowChange) → puts_hashed r ≡ false → FitsRow t r
-plain_fits t (PutToken x) h = absurd (not_false h)
-plain_fits t (PutShareCode x) h = absurd (not_false h)
-plain_fits t _ h = tt
+use Rattle.table_changes.specs.Staged.{IsFree, AreFree, LeadsBack}
+use Rattle.table_changes.specs.Steps.{OneMore}
 
 -- ---- the way back
 
@@ -53,32 +44,40 @@ module _ (log rest : List RowChange) (back : RowChange) (t u : State) (last : lo
 pub taken_back : (before after : State) (log log' : List RowChange) (n : ℕ) → n ≡ length log → OneMore before after log log' → take n log' ≡ log
 taken_back before after log log' n e more = ap (take n) more.logged ∙ take_at log (more.step ∷ []) n (sym e)
 
--- ---- the rows from here on, of which none is found by a hash
+-- ---- the rows from here on
 
-or_left : (a b : Bool) → (a || b) ≡ false → a ≡ false
-or_left true b e = absurd (not_false e)
-or_left false b e = refl
+fit_put : (row : RowChange) (rest : List RowChange) (t : State) → is_put row ≡ true → FitAll (row ∷ rest) t → FitsRow t row × FitAll rest (row_done row t)
+fit_put (Put row) rest t e h = h
+fit_put (Remove key) rest t e h = cc
 
-or_right : (a b : Bool) → (a || b) ≡ false → b ≡ false
-or_right true b e = absurd (not_false e)
-or_right false b e = e
+fit_none : (row : RowChange) (rest : List RowChange) (t : State) → is_put row ≡ false → FitAll (row ∷ rest) t → FitAll rest t
+fit_none (Put row) rest t e h = cc
+fit_none (Remove key) rest t e h = h
 
 module _ (rows : List RowChange) (i : ℕ) (row : RowChange) (within : i < length rows) (at : row ≡ get_or rows i row) where
   -- this row, and those after it
   here : drop i rows ≡ row ∷ drop (i + 1) rows
   here = drop_more rows i row within ∙ ap (λ x. x ∷ drop (i + 1) rows) (sym at)
 
-  pub unhashed_here : NoneHashed (drop i rows) → puts_hashed row ≡ false
-  unhashed_here h = or_left (puts_hashed row) (list_any puts_hashed (drop (i + 1) rows)) (subst NoneHashed here h)
+  fits_from : (t : State) → FitAll (drop i rows) t → FitAll (row ∷ drop (i + 1) rows) t
+  fits_from t h = subst (λ (l : List RowChange). FitAll l t) here h
 
-  pub unhashed_after : NoneHashed (drop i rows) → NoneHashed (drop (i + 1) rows)
-  unhashed_after h = or_right (puts_hashed row) (list_any puts_hashed (drop (i + 1) rows)) (subst NoneHashed here h)
+  pub fits_here : (t : State) → is_put row ≡ true → FitAll (drop i rows) t → FitsRow t row
+  fits_here t e h = (fit_put row (drop (i + 1) rows) t e (fits_from t h)).0
+
+  pub fits_after : (t u : State) → is_put row ≡ true → u ≡ row_done row t → FitAll (drop i rows) t → FitAll (drop (i + 1) rows) u
+  fits_after t u e done h = subst (FitAll (drop (i + 1) rows)) (sym done) (fit_put row (drop (i + 1) rows) t e (fits_from t h)).1
+
+  pub fits_past : (t u : State) → is_put row ≡ false → u ≡ t → FitAll (drop i rows) t → FitAll (drop (i + 1) rows) u
+  fits_past t u e same h = subst (FitAll (drop (i + 1) rows)) (sym same) (fit_none row (drop (i + 1) rows) t e (fits_from t h))
+
+  puts_here : (b : Bool) → is_put row ≡ b → puts_of (drop i rows) ≡ cond b (row ∷ puts_of (drop (i + 1) rows)) (puts_of (drop (i + 1) rows))
+  puts_here b e = ap puts_of here ∙ ap (λ b. cond b (row ∷ puts_of (drop (i + 1) rows)) (puts_of (drop (i + 1) rows))) e
 
   -- the puts that are left, after this one is done
   pub put_here : (t u whole : State) → is_put row ≡ true → u ≡ row_done row t → rows_done (puts_of (drop i rows)) t ≡ whole → rows_done (puts_of (drop (i + 1) rows)) u ≡ whole
-  put_here t u whole e done h =
-      ap (rows_done (puts_of (drop (i + 1) rows))) done ∙ ap (λ (l : List RowChange). rows_done l t) (sym (taken is_put rows i row within at e)) ∙ h
+  put_here t u whole e done h = ap (rows_done (puts_of (drop (i + 1) rows))) done ∙ ap (λ (l : List RowChange). rows_done l t) (sym (puts_here true e)) ∙ h
 
   -- and where it is none
   pub none_here : (t u whole : State) → is_put row ≡ false → u ≡ t → rows_done (puts_of (drop i rows)) t ≡ whole → rows_done (puts_of (drop (i + 1) rows)) u ≡ whole
-  none_here t u whole e same h = ap (rows_done (puts_of (drop (i + 1) rows))) same ∙ ap (λ (l : List RowChange). rows_done l t) (sym (left is_put rows i row within at e)) ∙ h
+  none_here t u whole e same h = ap (rows_done (puts_of (drop (i + 1) rows))) same ∙ ap (λ (l : List RowChange). rows_done l t) (sym (puts_here false e)) ∙ h

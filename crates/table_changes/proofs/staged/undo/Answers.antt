@@ -1,7 +1,7 @@
 use Rattle.std.proofs.Common.{reverse}
 use Rattle.hub_tables.specs.Changes.{rows_done}
-use Rattle.hub_machine.proofs.Carrying.{last_free, free_then, back_then}
-use Rattle.hub_machine.proofs.carry.undo.Goals as goal
+use Rattle.table_changes.proofs.WithWayBack.{last_free, free_then, back_then}
+use Rattle.table_changes.proofs.staged.undo.Goals as goal
 
 pub go_back-requires : goal.go_back-requires
 go_back-requires c = last_free c.loop-back.log.items c.pop.new.self.items c.in-Some.back c.loop-back.tables c.in-Some.ensures.items c.loop-back.invariant.free

@@ -1,7 +1,7 @@
 use Rattle.std.proofs.Common.{◌≡◌, reverse}
 use Rattle.hub_tables.specs.Changes.{rows_done}
-use Rattle.hub_machine.specs.Carry.{AreFree}
-use Rattle.hub_machine.proofs.carry.undo.Given as goal
+use Rattle.table_changes.specs.Staged.{AreFree}
+use Rattle.table_changes.proofs.staged.undo.Given as goal
 
 abbrev pub invariant-loop-back : goal.invariant-loop-back
 invariant-loop-back l = record {

@@ -1,13 +1,13 @@
 use Rattle.std.proofs.Common.{rules, ◌≡◌, ◌∙◌, sym, subst}
 use Rattle.hub_tables.specs.Changes.{row_done}
 use Rattle.hub_tables.specs.State.{State}
-use Rattle.hub_machine.specs.Carry.{OneMore}
-use Rattle.hub_machine.proofs.Carrying.{taken_back}
-use Rattle.hub_machine.proofs.carry.put_logged.Goals as goal
+use Rattle.table_changes.specs.Steps.{OneMore}
+use Rattle.table_changes.proofs.WithWayBack.{taken_back}
+use Rattle.table_changes.proofs.staged.put_logged.Goals as goal
 
 pub returns-in-Ok-clause-ok : goal.returns-in-Ok-clause-ok
 returns-in-Ok-clause-ok c =
-    let done : c.put.new.tables ≡ row_done c.args.row.now c.args.tables.now = c.in-Ok.ensures.ok in (
+    let done : c.change_by_copy.new.tables ≡ row_done c.args.row.now c.args.tables.now = c.in-Ok.ensures.ok in (
       done,
       subst (λ (t : State). OneMore c.args.tables.now t c.args.log.now.items c.log_back.new.log.items) (sym done) c.in_ok-log_back.ensures.ok,
     )

@@ -1,6 +1,5 @@
 use Rattle.std.proofs.Common.{rules}
-use Rattle.hub_machine.proofs.Carrying.{plain_fits}
-use Rattle.hub_machine.proofs.carry.log_back.Goals as goal
+use Rattle.table_changes.proofs.staged.log_back.Goals as goal
 
 pub returns-clause-ok : goal.returns-clause-ok
 returns-clause-ok c =
@@ -8,7 +7,7 @@ returns-clause-ok c =
       step = c.in_ok-back.back;
       logged = search rules;
       free = record {
-        fits = c.in_ok-back.ensures.fits c.requires.put (plain_fits c.args.tables.now c.args.row.now c.requires.unhashed);
+        fits = c.in_ok-back.ensures.fits c.requires.put c.requires.fits;
         there = λ p. c.in_ok-back.ensures.kept c.requires.put p;
       };
       back = c.in_ok-back.ensures.undoes;
