@@ -40,3 +40,14 @@ bounded s rows false e t h =
 
 pub bounded_after : (s : Hub) (c : Change) → IsBounded s → is_past_trail s c ≡ false → IsBounded (apply c s)
 bounded_after s (Rows rows) t h = bounded s rows s.no_trail refl t h
+
+-- an entry for which there is room costs no more than the limit
+cost_within : (s : Hub) (rows : List RowChange) (b : Bool) → s.no_trail ≡ b → b ≡ false → IsBounded s → is_past_trail s (Rows rows) ≡ false → 64 + batch_cost rows ≤ 2 ^ 62
+cost_within s rows true e f t h = absurd (true_false f)
+cost_within s rows false e f t h =
+    let within : s.cost + (64 + batch_cost rows) + 64 * owed s.lives ≤ s.tables.limits.trail_bytes = not_past _ _ (rw e at h) in
+    let top : s.tables.limits.trail_bytes ≤ 2 ^ 62 = t.limit in
+    omega arith
+
+pub cost_fits : (s : Hub) (rows : List RowChange) → s.no_trail ≡ false → IsBounded s → is_past_trail s (Rows rows) ≡ false → 64 + batch_cost rows ≤ 2 ^ 62
+cost_fits s rows e t h = cost_within s rows s.no_trail refl e t h

@@ -19,6 +19,8 @@ use Rattle.hub_machine.specs.Apply.{change_done}
 use Rattle.hub_machine.specs.Batches.{batch_of}
 use Rattle.hub_machine.specs.Carry.{RowsDone, RowsKept}
 use Rattle.hub_machine.specs.KeptRows.{HasText, Keeps}
+use Rattle.hub_machine.specs.Written.{IsOfRows}
+use Rattle.hub_machine.specs.declared.planned.Written.{Written}
 
 none_some : {X : Type 0} (x : X) → None ≡ Some x → ⊥
 none_some x h = cc
@@ -134,9 +136,8 @@ carried_kept rows (Ok true) kept kept' t t' puts removals done same h = done_kep
 carried_kept rows (Ok false) kept kept' t t' puts removals done same h = stays_kept kept kept' t t' done same h
 carried_kept rows (Err e) kept kept' t t' puts removals done same h = stays_kept kept kept' t t' done same h
 
--- the same, where the batch and the rows were read apart
-pub entered_kept : {E : Type 0} (rows told : List RowChange) (batch : List Item) (r : Result Bool E) (kept kept' : Rows) (t t' : State) → told ≡ rows → batch ≡ batch_of told
-    → All IsValid (puts_of told) → All IsValid (removals_of told) → RowsDone rows r t t' → RowsKept batch r kept kept' → Keeps kept t → Keeps kept' t'
-entered_kept rows told batch r kept kept' t t' same is puts removals done items h =
-    carried_kept rows r kept kept' t t' (subst (λ (l : List RowChange). All IsValid (puts_of l)) same puts) (subst (λ (l : List RowChange). All IsValid (removals_of l)) same removals) done
-    (subst (λ (l : List RowChange). RowsKept (batch_of l) r kept kept') same (subst (λ (b : List Item). RowsKept b r kept kept') is items)) h
+-- the same of a batch that was written
+pub written_kept : {E : Type 0} (rows told : List RowChange) (w : Written) (r : Result Bool E) (kept kept' : Rows) (t t' : State) → told ≡ rows → IsOfRows rows w
+    → RowsDone told r t t' → RowsKept w.batch r kept kept' → Keeps kept t → Keeps kept' t'
+written_kept rows told w r kept kept' t t' same h done items keeps =
+    carried_kept rows r kept kept' t t' h.puts h.removals (subst (λ (l : List RowChange). RowsDone l r t t') same done) (subst (λ (b : List Item). RowsKept b r kept kept') h.batch items) keeps
