@@ -3,6 +3,7 @@ pub mod Exact
 pub mod Fresh
 pub mod GrantMeets
 pub mod Least
+pub mod Named
 pub mod NamesMet
 pub mod Rows
 pub mod Steps

@@ -1,4 +1,6 @@
+pub mod Admitted
 pub mod Containment
+pub mod FilterNames
 pub mod FilterTexts
 pub mod Meets
 pub mod Named

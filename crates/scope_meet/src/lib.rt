@@ -3,6 +3,7 @@
 //! grant that another doesn't hold whole. The decisions of the hub stand on it.
 #![tactic(auto)]
 
+pub mod admitted;
 pub mod asks;
 pub mod groups;
 pub mod inside;
