@@ -3,7 +3,8 @@ ghost use Rattle.std.specs.Prelude.{◌≡◌, false, OnOk, OnErr, IfSome};
 ghost use Rattle.std.specs.Option.{option_copied};
 ghost use Rattle.std.specs.FinMap as map;
 ghost use Rattle.std.specs.Map.Iter.{ShowsInOrder, deref};
-ghost use Rattle.keyed_rows.specs.Rows.{OwnKeys};
+ghost use Rattle.hub_kit.specs.KeyOrder.{name_cmp};
+ghost use Rattle.keyed_rows.specs.Rows.{map_of, OwnKeys};
 ghost use Rattle.keyed_rows.specs.Puts.{IsAnswer};
 
 use crate::memberships;
@@ -13,6 +14,7 @@ use hub_kit::names::{GroupName, RoleName, ServiceName, UserName};
 use hub_rows::records::{Group, Role, Service, User};
 use keyed_rows::{PutError, Room, keyed};
 use std::alloc::AllocError;
+use std::collections::BTreeMap;
 use std::collections::btree_map::Values;
 
 impl Tables {
@@ -64,6 +66,13 @@ impl Tables {
         ensures after { self.new ≡ record self.old { users = map.remove self.old.users key.now } }
     {
         keyed_rows::remove_row(&mut self.trees.users, key)
+    }
+
+    /// The rows of users under their names.
+    pub fn users_by_name(&self) -> &BTreeMap<UserName, User>
+        ensures { map_of name_cmp result.now ≡ self.now.users }
+    {
+        &self.trees.users
     }
 
     /// The rows of users, in the order of names.
@@ -138,6 +147,13 @@ impl Tables {
         )
     }
 
+    /// The rows of groups under their names.
+    pub fn groups_by_name(&self) -> &BTreeMap<GroupName, Group>
+        ensures { map_of name_cmp result.now ≡ self.now.groups }
+    {
+        &self.trees.groups
+    }
+
     /// The rows of groups, in the order of names.
     pub fn groups(&self) -> Values<'_, GroupName, Group>
         ensures rows { result ≡ map.values self.now.groups }
@@ -191,6 +207,13 @@ impl Tables {
         ensures after { self.new ≡ record self.old { services = map.remove self.old.services key.now } }
     {
         keyed_rows::remove_row(&mut self.trees.services, key)
+    }
+
+    /// The rows of services under their names.
+    pub fn services_by_name(&self) -> &BTreeMap<ServiceName, Service>
+        ensures { map_of name_cmp result.now ≡ self.now.services }
+    {
+        &self.trees.services
     }
 
     /// The rows of services, in the order of names.
@@ -263,6 +286,13 @@ impl Tables {
             &mut self.trees.role_indexes,
             key,
         )
+    }
+
+    /// The rows of roles under their names.
+    pub fn roles_by_name(&self) -> &BTreeMap<RoleName, Role>
+        ensures { map_of name_cmp result.now ≡ self.now.roles }
+    {
+        &self.trees.roles
     }
 
     /// The rows of roles, in the order of names.
