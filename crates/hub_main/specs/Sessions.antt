@@ -30,7 +30,7 @@ abbrev pub Served : Hub → View → Option (List ℕ) → Option (List ℕ) →
 Served start x left held left' held' status =
     (y : View) × (end : Result served.Served SessionFault) × ConnectionEnds start x left held y left' held' end × (status ≡ status_of end)
 
--- the hub of a session has the user of the words, and a token of this user that holds all that the user holds and has no end
+-- the hub of a session has the user of the words, and a token of this user that holds all that the user holds
 abbrev pub config_of : SessionWords → HubConfig
 config_of words = record {
   pool = [];
@@ -41,7 +41,7 @@ config_of words = record {
   groups = [];
   services = [];
   roles = [];
-  tokens = record { text = words.token; owner = Own.User words.user; scopes = Inherit ∷ []; expires_at = None } ∷ [];
+  tokens = record { text = words.token; owner = Own.User words.user; scopes = Inherit ∷ [] } ∷ [];
 }
 
 -- its book is opened at NOW

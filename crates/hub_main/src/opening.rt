@@ -18,7 +18,7 @@ use std::alloc::{AllocError, Global};
 /// The book of a session.
 pub(crate) type SessionBook = Book<MemKeeper, ListTrail<Change>>;
 
-/// One user, and one token of this user that holds all that the user holds and has no end.
+/// One user, and one token of this user that holds all that the user holds.
 fn config_of(alloc: Global, words: SessionWords) -> Result<HubConfig, AllocError>
     ensures { IfOk result (λ config. config ≡ spec.config_of words) }
 {
@@ -27,7 +27,6 @@ fn config_of(alloc: Global, words: SessionWords) -> Result<HubConfig, AllocError
         text: words.token,
         owner: Owner::User(words.user),
         scopes: List::from_vec(scopes),
-        expires_at: None,
     };
     let tokens = vec![in alloc; token]?;
     let owner = ConfigUser {

@@ -1,3 +1,4 @@
+pub mod KeptNames
 pub mod Opened
 pub mod OpenedRows
 pub mod Reading

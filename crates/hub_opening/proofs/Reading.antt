@@ -1,6 +1,6 @@
 -- Why a book isn't opened, from why its rows aren't kept.
 use Rattle.std.proofs.Common.{ℕ, ◌<◌, ◌≤◌, ◌-◌, ◌^◌, arith, inl, inr}
-use Rattle.std.specs.Prelude.{Result, Ok, Err, IfErr, OnOk}
+use Rattle.std.specs.Prelude.{Result, Ok, Err, IfErr, OnOk, OnErr}
 use Rattle.std.specs.Result.{result_and}
 use Rattle.std.proofs.lemmas.Bool.{cases_lt}
 use Rattle.hub_devices.specs.Faults.{Rises}
@@ -34,3 +34,7 @@ ok_then (Err e) b P Q S f p q = tt
 pub err_then : {A B E : Type 0} (r : Result A E) (b : B) (P Q : E → Type 0) → ((e : E) → P e → Q e) → IfErr r P → IfErr (let s : Result B E = Ok b in result_and r s) Q
 err_then (Ok a) b P Q f p = tt
 err_then (Err e) b P Q f p = f e p
+
+pub refused_then : {A B E : Type 0} (r : Result A E) (b : B) (P Q : Type 0) → (P → Q) → OnErr r P → OnErr (let s : Result B E = Ok b in result_and r s) Q
+refused_then (Ok a) b P Q f p = tt
+refused_then (Err e) b P Q f p = f p

@@ -1,5 +1,6 @@
 -- The state that a book begins with: exactly the rows of its configuration, and a history without entries.
 use Rattle.std.specs.Prelude.{◌≡◌, ℕ, ◌+◌, Bool, not, ◌||◌, ◌&&◌, nat_lt, List, [], ◌∷◌, ◌++◌, map, fold, codes, Option, Some, None, Result, Ok, Err, if◌then◌else◌}
+use Rattle.std.specs.List.{filter}
 use Rattle.std.specs.Option.{is_some}
 use Rattle.std.specs.FinMap.{FinMap, empty, get, contains_key, insert, len, values}
 use Rattle.std.specs.declared.cmp.Ordering.{Ordering}
@@ -19,6 +20,7 @@ use Rattle.hub_rows.specs.declared.records.Token.{Token}
 use Rattle.hub_rows.specs.declared.records.OAuthClient.{OAuthClient}
 use Rattle.hub_rows.specs.declared.records.Next.{Next}
 use Rattle.hub_tables.specs.Hashes.{row_with}
+use Rattle.hub_tables.specs.Lookups.{next_of}
 use Rattle.hub_tables.specs.State.{State}
 use Rattle.keeper.specs.declared.keeper.KeeperError.{KeeperError}
 use Rattle.keeper.specs.declared.keeper.KeeperError.TheVariants.{Failed, Memory as Wanting}
@@ -69,8 +71,13 @@ with_user now t u = record t { users = insert t.users u.name (user_row now u (ge
 abbrev pub put_new : {K X : Type 0} {R : K → K → Ordering} → K → X → FinMap R X → FinMap R X
 put_new key row rows = if contains_key rows key then rows else insert rows key row
 
+-- those of these names whose rows are there
+abbrev pub kept_names : {X : Type 0} → FinMap name_cmp X → List (List ℕ) → List (List ℕ)
+kept_names rows names = filter (contains_key rows) names
+
+-- where none of its name is there, with those of its users that are
 abbrev pub with_group : State → Group → State
-with_group t g = record t { groups = put_new g.name g t.groups }
+with_group t g = record t { groups = put_new g.name (record { name = g.name; users = kept_names t.users g.users }) t.groups }
 
 -- the client of a service, by its name, its redirect URI and its secret
 abbrev pub client_with : List ℕ → Option (List ℕ) → Option (List ℕ) → Option OAuthClient
@@ -89,9 +96,19 @@ with_client (Some client) rows = insert rows client.id client
 abbrev pub with_service : State → ConfigService → State
 with_service t s = record t { services = put_new s.name (record { name = s.name }) t.services; clients = with_client (client_of s) t.clients }
 
+-- it names those of its holders that are there
+abbrev pub role_row : State → Role → Role
+role_row t r = record {
+  name = r.name;
+  groups = kept_names t.groups r.groups;
+  scopes = r.scopes;
+  services = kept_names t.services r.services;
+  users = kept_names t.users r.users;
+}
+
 -- in place of the one of its name
 abbrev pub with_role : State → Role → State
-with_role t r = record t { roles = insert t.roles r.name r }
+with_role t r = record t { roles = insert t.roles r.name (role_row t r) }
 
 -- ---- tokens
 
@@ -99,17 +116,12 @@ abbrev pub has_owner : State → Owner → Bool
 has_owner t (OfUser u) = contains_key t.users u
 has_owner t (OfService v) = contains_key t.services v
 
--- tokens are numbered from 1
-abbrev pub next_in : Option Next → ℕ
-next_in None = 1
-next_in (Some row) = row.next
-
 abbrev pub next_token : State → ℕ
-next_token t = next_in (get t.nexts (codes "token"))
+next_token t = next_of t (codes "token")
 
 abbrev pub row_of_hash : ℕ → ℕ → List ℕ → ConfigToken → Token
 row_of_hash id now hash k =
-    record { id = id; client = None; created = now; expires_at = k.expires_at; hash = hash; issued_for = None; note = []; owner = k.owner; scopes = k.scopes }
+    record { id = id; client = None; created = now; expires_at = None; hash = hash; issued_for = None; note = []; owner = k.owner; scopes = k.scopes }
 
 abbrev pub token_row : ℕ → ℕ → ConfigToken → Token
 token_row id now k = row_of_hash id now (hash_text k.text) k

@@ -3,7 +3,6 @@ ghost use Rattle.std.specs.Prelude.{◌≡◌};
 ghost use Rattle.hub_opening.specs.Opening as spec;
 
 use hub_kit::list::List;
-use hub_kit::moment::Moment;
 use hub_kit::names::{ServiceName, UserName};
 use hub_kit::target::Target;
 use hub_kit::text::Text;
@@ -29,15 +28,13 @@ pub struct ConfigService {
     pub secret: Option<Text>,
 }
 
-/// A token that is there from the opening on, if its owner is.
+/// A token that is there from the opening on, if its owner is. It has no end.
 #[derive(Drop)]
 pub struct ConfigToken {
     pub text: Text,
     pub owner: Owner,
     /// At most 64.
     pub scopes: List<RawScope>,
-    /// The first moment at which the token is no longer good.
-    pub expires_at: Option<Moment>,
 }
 
 /// What a hub is set up with.
@@ -51,12 +48,12 @@ pub struct HubConfig {
     /// Whether the entries of the history cost nothing, so that its length alone is limited.
     pub no_trail: bool,
     pub users: List<ConfigUser>,
-    /// The first of a name counts, and no group that is there is replaced.
+    /// The first of a name counts, and no group that is there is replaced. A user that isn't there is left out of it.
     pub groups: List<Group>,
     /// A service that is there stays. The client of one replaces that of its name, so that the last counts.
     pub services: List<ConfigService>,
-    /// Each replaces the one of its name, so that the last counts. None is named `user` or `admin`: these every hub has, and to
-    /// set one up is a mistake that the reader of the configuration refuses.
+    /// Each replaces the one of its name, so that the last counts. A user, a group or a service that isn't there is left out of it.
+    /// None is named `user` or `admin`: these every hub has, and to set one up is a mistake that the reader of the configuration refuses.
     pub roles: List<Role>,
     pub tokens: List<ConfigToken>,
 }

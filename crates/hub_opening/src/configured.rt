@@ -1,19 +1,23 @@
 //! The rows of a configuration, put into tables.
-ghost use Rattle.std.specs.Prelude.{◌≡◌, ◌++◌, ℕ, fold, codes, IfOk, OnOk};
+ghost use Rattle.std.specs.Prelude.{◌≡◌, ◌++◌, ℕ, Bool, fold, codes, IfOk, OnOk};
+ghost use Rattle.std.specs.FinMap.{contains_key};
+ghost use Rattle.std.specs.List.{filter};
 ghost use Rattle.std.specs.Option.{option_copied};
-ghost use Rattle.std.specs.FinMap as finite;
 ghost use Rattle.hub_tables.specs.Hashes.{FitsToken};
+ghost use Rattle.hub_tables.specs.Lookups.{next_of};
 ghost use Rattle.hub_tables.specs.State.{State};
 ghost use Rattle.hub_opening.specs.Opening as spec;
 
 use crate::config::{ConfigService, ConfigToken, ConfigUser, HubConfig};
 use hub_kit::hashes::hash_of;
+use hub_kit::key::Key;
 use hub_kit::list::List;
 use hub_kit::moment::Moment;
-use hub_kit::names::ServiceName;
+use hub_kit::names::{GroupName, ServiceName, UserName};
 use hub_kit::text::Text;
 use hub_rows::records::{Group, Next, OAuthClient, Role, Service, Token, User};
 use hub_tables::tables::Tables;
+use keyed_rows::sorted::Sorted;
 use scope_filters::holder::Owner;
 use scope_filters::scope::RawScope;
 use std::alloc::{AllocError, Global};
@@ -39,12 +43,16 @@ impl Configured for ConfigUser {
 impl Configured for Group {
     ghost put = { λ now. spec.with_group };
 
-    /// Puts it where none of its name is there.
+    /// Puts it where none of its name is there, with those of its users that are.
     fn put(&self, alloc: Global, tables: &mut Tables, _: Moment) -> Result<(), AllocError> {
         if tables.group(&self.name).is_some() {
             return Ok(());
         }
-        tables.set_group(self.copy(alloc)?)
+        let users = kept_names(alloc, tables, &self.users)?;
+        tables.set_group(Group {
+            name: self.name,
+            users,
+        })
     }
 }
 
@@ -60,9 +68,10 @@ impl Configured for ConfigService {
 impl Configured for Role {
     ghost put = { λ now. spec.with_role };
 
-    /// Puts it in place of the one of its name.
+    /// Puts it in place of the one of its name, with those of its holders that are there.
     fn put(&self, alloc: Global, tables: &mut Tables, _: Moment) -> Result<(), AllocError> {
-        tables.set_role(self.copy(alloc)?)
+        let row = role_row(alloc, tables, self)?;
+        tables.set_role(row)
     }
 }
 
@@ -97,6 +106,69 @@ fn put_all<C: Configured>(
         row.put(alloc, tables, now)?;
     }
     Ok(())
+}
+
+/// A name whose row may be there.
+trait Named: Key + Copy {
+    /// Whether it is, in these tables.
+    ghost is_in: { State → Self → Bool };
+
+    fn is_there(&self, tables: &Tables) -> bool
+        ensures { result ≡ is_in tables.now self.now };
+}
+
+impl Named for UserName {
+    ghost is_in = { λ tables name. contains_key tables.users name };
+
+    fn is_there(&self, tables: &Tables) -> bool {
+        tables.user(self).is_some()
+    }
+}
+
+impl Named for GroupName {
+    ghost is_in = { λ tables name. contains_key tables.groups name };
+
+    fn is_there(&self, tables: &Tables) -> bool {
+        tables.group(self).is_some()
+    }
+}
+
+impl Named for ServiceName {
+    ghost is_in = { λ tables name. contains_key tables.services name };
+
+    fn is_there(&self, tables: &Tables) -> bool {
+        tables.service(self).is_some()
+    }
+}
+
+/// Those of these names whose rows are there.
+fn kept_names<N: Named>(
+    alloc: Global,
+    tables: &Tables,
+    names: &Sorted<N>,
+) -> Result<Sorted<N>, AllocError>
+    ensures { IfOk result (λ kept. kept ≡ filter (N.is_in tables.now) names.now) }
+{
+    let mut kept = Vec::new(alloc);
+    for name in names.as_slice() {
+        if name.is_there(tables) {
+            kept.push(*name)?;
+        }
+    }
+    Ok(Sorted::from_vec(kept))
+}
+
+/// The row of a configured role: it names those of its holders that are there.
+fn role_row(alloc: Global, tables: &Tables, role: &Role) -> Result<Role, AllocError>
+    ensures { IfOk result (λ row. row ≡ spec.role_row tables.now role.now) }
+{
+    Ok(Role {
+        name: role.name,
+        groups: kept_names(alloc, tables, &role.groups)?,
+        scopes: copy_scopes(alloc, &role.scopes)?,
+        services: kept_names(alloc, tables, &role.services)?,
+        users: kept_names(alloc, tables, &role.users)?,
+    })
 }
 
 /// The row of a configured user, in place of the kept one, if there is one.
@@ -169,14 +241,14 @@ fn has_owner(tables: &Tables, owner: &Owner) -> bool
     ensures { result ≡ spec.has_owner tables.now owner.now }
 {
     match owner {
-        Owner::User(user) => tables.user(user).is_some(),
-        Owner::Service(service) => tables.service(service).is_some(),
+        Owner::User(user) => user.is_there(tables),
+        Owner::Service(service) => service.is_there(tables),
     }
 }
 
 /// The number of the next token.
 fn next_token(tables: &Tables, name: &Text) -> u64
-    ensures { result ≡ spec.next_in (finite.get tables.now.nexts name.now) }
+    ensures { result ≡ next_of tables.now name.now }
 {
     match tables.next_of(name) {
         Some(row) => row.next,
@@ -206,7 +278,7 @@ fn token_row(
         id,
         client: None,
         created: now,
-        expires_at: token.expires_at,
+        expires_at: None,
         hash,
         issued_for: None,
         note: Text::new(alloc),

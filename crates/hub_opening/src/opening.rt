@@ -1,5 +1,5 @@
 //! The machine that a book begins with, and the keeper's rows then.
-ghost use Rattle.std.specs.Prelude.{◌≡◌, ◌≤◌, ◌^◌, IfOk, IfErr, OnOk};
+ghost use Rattle.std.specs.Prelude.{◌≡◌, ◌≤◌, ◌^◌, IfOk, IfErr, OnOk, OnErr};
 ghost use Rattle.keeper.specs.Rows.{AreSame, no_rows};
 ghost use Rattle.hub_machine.specs.Apply.{change_done};
 ghost use Rattle.hub_machine.specs.KeptRows.{Keeps};
@@ -160,6 +160,7 @@ fn machine_within_limits(
 fn commit<K: Keeper>(alloc: Global, keeper: &mut K, rows: &[RowChange]) -> Result<(), OpenError>
     ensures keeps { OnOk result (K.Tells keeper.new → (tables : State) → Keeps (K.rows keeper.old) tables → Keeps (K.rows keeper.new) (change_done rows.now tables)) }
     ensures err { IfErr result (spec.IsUnkept (K.faults keeper.old) (K.faults keeper.new)) }
+    ensures stays { OnErr result (K.Tells keeper.new → AreSame (K.rows keeper.new) (K.rows keeper.old)) }
     ensures told { K.Tells keeper.new → K.Tells keeper.old }
     ensures counted { K.faults keeper.old ≤ K.faults keeper.new }
 {
@@ -180,6 +181,7 @@ fn keep_rows<K: Keeper>(alloc: Global, keeper: &mut K, tables: &Tables) -> Resul
     ensures keeps { OnOk result (K.Tells keeper.new → (before : State) → Keeps (K.rows keeper.old) before → Keeps (K.rows keeper.new) (change_done (spec.rows_in tables.now) before)) }
     ensures own { OnOk result (AreOwn tables.now) }
     ensures err { IfErr result (spec.IsUnkept (K.faults keeper.old) (K.faults keeper.new)) }
+    ensures stays { OnErr result (K.Tells keeper.new → AreSame (K.rows keeper.new) (K.rows keeper.old)) }
     ensures told { K.Tells keeper.new → K.Tells keeper.old }
     ensures counted { K.faults keeper.old ≤ K.faults keeper.new }
 {
@@ -191,7 +193,7 @@ fn keep_rows<K: Keeper>(alloc: Global, keeper: &mut K, tables: &Tables) -> Resul
 
 /// The machine that a configuration opens at NOW, whose rows are all that the keeper keeps from now on. `KeeperFault` where the keeper's
 /// count of faults rose, `BadRow` where it has rows, `Full` where the configuration has more rows of a kind than its limits allow, and
-/// `Memory`.
+/// `Memory`. A refusal leaves the keeper's rows as they were.
 pub fn open_machine<K: Keeper>(
     alloc: Global,
     keeper: &mut K,
@@ -201,6 +203,7 @@ pub fn open_machine<K: Keeper>(
     requires { config.now.limits.trail_bytes ≤ 2 ^ 62 }
     ensures ok { IfOk result (λ hub. spec.IsSetUp config.now now hub) }
     ensures err { IfErr result (spec.IsRefused config.now now (K.Tells keeper.new) (K.rows keeper.old) (K.faults keeper.old) (K.faults keeper.new)) }
+    ensures stays { OnErr result (K.Tells keeper.new → K.Tells keeper.old × AreSame (K.rows keeper.new) (K.rows keeper.old)) }
     ensures none { OnOk result (K.Tells keeper.new → AreSame (K.rows keeper.old) no_rows) }
     ensures keeps { OnOk result (K.Tells keeper.new → Keeps (K.rows keeper.new) (spec.opened_tables config.now now)) }
     ensures counted { K.faults keeper.old ≤ K.faults keeper.new }

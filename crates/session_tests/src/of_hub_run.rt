@@ -364,14 +364,13 @@ fn helper(rt: &impl Abort, alloc: Global) -> Role {
     }
 }
 
-/// A token of this owner that holds all that the owner holds, and has no end.
+/// A token of this owner that holds all that the owner holds.
 fn token(rt: &impl Abort, alloc: Global, text: &str, owner: Owner) -> ConfigToken {
     let scopes = vec![in alloc; RawScope::Inherit];
     ConfigToken {
         text: Text::from_str(alloc, text).expect(rt, "there is memory"),
         owner,
         scopes: List::from_vec(scopes.expect(rt, "there is memory")),
-        expires_at: None,
     }
 }
 

@@ -6,7 +6,7 @@ use Rattle.hub_main.proofs.opening.config_of.Goals as goal
 
 pub returns : goal.returns
 returns c =
-    let token : List RawScope → ConfigToken = λ scopes. record { text = c.args.words.token; owner = Own.User c.args.words.user; scopes = scopes; expires_at = None } in
+    let token : List RawScope → ConfigToken = λ scopes. record { text = c.args.words.token; owner = Own.User c.args.words.user; scopes = scopes } in
     let scopes = c.from_vec.ensures ∙ c.in_ok-scopes.ensures.items in
     let users = c.from_vec-2.ensures ∙ c.in_ok-users.ensures.items in
     let tokens = c.from_vec-3.ensures ∙ (c.in_ok-tokens.ensures.items ∙ ap (λ (s : List RawScope). token s ∷ []) scopes) in

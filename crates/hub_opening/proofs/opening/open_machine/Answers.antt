@@ -2,7 +2,7 @@ use Rattle.std.proofs.Common.{◌∙◌, ap}
 use Rattle.hub_machine.specs.State.{Hub}
 use Rattle.hub_opening.specs.Opening.{IsRefused, no_tables}
 use Rattle.hub_opening.proofs.OpenedRows.{begins_kept, opened_kept}
-use Rattle.hub_opening.proofs.Reading.{refused_later, ok_then, err_then}
+use Rattle.hub_opening.proofs.Reading.{refused_later, ok_then, err_then, refused_then}
 use Rattle.hub_opening.proofs.opening.open_machine.Goals as goal
 
 pub returns-clause-err : goal.returns-clause-err
@@ -26,3 +26,11 @@ returns-clause-keeps g c = rw c.and.ensures
     (keeps told (no_tables limits)
     (begins_kept (g.K.Keeper.rows c.read_rows.new.keeper) limits (λ kind key. kept.1 kind key ∙ c.in_ok-read_rows.ensures.ok before kind key))))
     c.keep_rows.ensures.own c.keep_rows.ensures.keeps)
+
+pub returns-clause-stays : goal.returns-clause-stays
+returns-clause-stays g c = rw c.and.ensures
+    (refused_then c.keep_rows.result c.in_ok-machine.machine _ _
+    (λ stays told.
+    let kept = c.read_rows.ensures.kept (c.keep_rows.ensures.told told) in
+    (kept.0, λ kind key. stays told kind key ∙ kept.1 kind key))
+    c.keep_rows.ensures.stays)
