@@ -1,3 +1,4 @@
 pub mod Additions
 pub mod Distinct
-pub mod Rows
+pub mod PathsOf
+pub mod Routers

@@ -1,14 +1,16 @@
--- The call that a request asks: the row of its path, then the method, and then the call's own reading.
-use Rattle.std.specs.Prelude.{ℕ, ◌==◌, List, bytes_eq, codes, if◌then◌else◌, Option, Some, None, Result, Ok, Err}
+-- The call that a request asks: its path, then the method, and then the call's own reading.
+use Rattle.std.specs.Prelude.{ℕ, List, bytes_eq, codes, if◌then◌else◌, Option, Some, None, Result, Ok, Err}
 use Rattle.http_wire.specs.declared.request.Request.{Request}
 use Rattle.hub_machine.specs.declared.call.Asked.{Asked}
 use Rattle.hub_machine.specs.declared.call.Call.{Call}
 use Rattle.hub_machine.specs.declared.call.Call.TheVariants.{GetVersion, GetInfo}
 use Rattle.request_parts.specs.Steps.{◌>>=◌}
 use Rattle.hub_api.specs.Readings as calls
-use Rattle.hub_api.specs.Paths.{row_of}
+use Rattle.hub_api.specs.Paths.{path_of}
 use Rattle.hub_api.specs.declared.method.Method.{Method}
 use Rattle.hub_api.specs.declared.method.Method.TheVariants.{Get, Post, Put, Patch, Delete, Other}
+use Rattle.hub_api.specs.declared.paths.Path.{Path}
+use Rattle.hub_api.specs.declared.paths.Path.TheVariants.{Bare, Version, Info, Identity, Users, User, Groups, Group, Members, Services, Service, Roles, Role}
 use Rattle.hub_api.specs.declared.refusal.ApiRefusal.{ApiRefusal}
 use Rattle.hub_api.specs.declared.refusal.ApiRefusal.TheVariants.{NoPath, NoMethod}
 
@@ -22,9 +24,9 @@ method_of text =
 
 -- ---- the paths with their methods
 
-abbrev pub root : Method → Result Call ApiRefusal
-root Get = Ok GetVersion
-root method = Err NoMethod
+abbrev pub version : Method → Result Call ApiRefusal
+version Get = Ok GetVersion
+version method = Err NoMethod
 
 abbrev pub info : Method → Result Call ApiRefusal
 info Get = Ok GetInfo
@@ -81,26 +83,27 @@ role Put q = calls.put_role q
 role Delete q = calls.delete_role q
 role method q = Err NoMethod
 
--- the paths in the order of their rows; /hub/api and /hub/api/ are the same
-unfoldable pub at_row : ℕ → Method → Request → Result Call ApiRefusal
-at_row row method q =
-    if row == 2 then info method
-    else (if row == 3 then identity method q
-    else (if row == 4 then users method q
-    else (if row == 5 then user method q
-    else (if row == 6 then groups method q
-    else (if row == 7 then group method q
-    else (if row == 8 then members method q
-    else (if row == 9 then services method q
-    else (if row == 10 then service method q
-    else (if row == 11 then roles method q
-    else (if row == 12 then role method q else root method))))))))))
+-- /hub/api and /hub/api/ are the same
+abbrev pub at_path : Path → Method → Request → Result Call ApiRefusal
+at_path Bare method q = version method
+at_path Version method q = version method
+at_path Info method q = info method
+at_path Identity method q = identity method q
+at_path Users method q = users method q
+at_path User method q = user method q
+at_path Groups method q = groups method q
+at_path Group method q = group method q
+at_path Members method q = members method q
+at_path Services method q = services method q
+at_path Service method q = service method q
+at_path Roles method q = roles method q
+at_path Role method q = role method q
 
 -- ---- the request
 
-abbrev pub call_of : Option ℕ → Request → Result Call ApiRefusal
+abbrev pub call_of : Option Path → Request → Result Call ApiRefusal
 call_of None q = Err NoPath
-call_of (Some row) q = at_row row (method_of q.method) q
+call_of (Some path) q = at_path path (method_of q.method) q
 
 -- the call with the token and the revision that the request brings
 abbrev pub asked : Request → Call → Asked
@@ -109,5 +112,5 @@ asked q call = record { token = q.token; seen = q.seen; call = call }
 -- what a request asks, or the first refusal: of its path, its method, its names, its query, its body, its scopes
 unfoldable pub call_read : Request → Result Asked ApiRefusal
 call_read q = do
-  call ← call_of (row_of q.path) q
+  call ← call_of (path_of q.path) q
   Ok (asked q call)

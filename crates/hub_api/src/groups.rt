@@ -5,6 +5,7 @@ ghost use Rattle.hub_api.specs.Calls as paths;
 
 use crate::method::Method;
 use crate::parts::{body_of, list, name_at, page_of, some_names};
+use crate::paths::Path;
 use crate::refusal::ApiRefusal;
 use http_wire::request::Request;
 use hub_kit::list::List;
@@ -18,10 +19,15 @@ pub(crate) fn groups(alloc: Global, method: Method, request: &Request) -> Result
 {
     match method {
         Method::Get => get_groups(alloc, request),
-        Method::Post | Method::Put | Method::Patch | Method::Delete | Method::Other => {
-            Err(ApiRefusal::NoMethod)
-        }
+        _ => Err(ApiRefusal::NoMethod),
     }
+}
+
+/// The group that the path names.
+fn group_at(alloc: Global, request: &Request) -> Result<GroupName, ApiRefusal>
+    ensures { Gives result (spec.group_at request.now) }
+{
+    name_at(alloc, request, Path::Group, "{group}")
 }
 
 /// `/groups/{group}`, by its methods.
@@ -29,10 +35,14 @@ pub(crate) fn group(alloc: Global, method: Method, request: &Request) -> Result<
     ensures { Gives result (paths.group method request.now) }
 {
     match method {
-        Method::Get => get_group(alloc, request),
+        Method::Get => Ok(Call::GetGroup {
+            group: group_at(alloc, request)?,
+        }),
         Method::Post => post_group(alloc, request),
-        Method::Delete => delete_group(alloc, request),
-        Method::Put | Method::Patch | Method::Other => Err(ApiRefusal::NoMethod),
+        Method::Delete => Ok(Call::DeleteGroup {
+            group: group_at(alloc, request)?,
+        }),
+        _ => Err(ApiRefusal::NoMethod),
     }
 }
 
@@ -43,7 +53,7 @@ pub(crate) fn members(alloc: Global, method: Method, request: &Request) -> Resul
     match method {
         Method::Post => join_group(alloc, request),
         Method::Delete => leave_group(alloc, request),
-        Method::Get | Method::Put | Method::Patch | Method::Other => Err(ApiRefusal::NoMethod),
+        _ => Err(ApiRefusal::NoMethod),
     }
 }
 
@@ -55,23 +65,15 @@ fn get_groups(alloc: Global, request: &Request) -> Result<Call, ApiRefusal>
     Ok(Call::GetGroups {
         offset: page.offset,
         limit: page.limit,
-        paged: request.paged,
+        paged: page.paged,
     })
-}
-
-#[tactic(auto, unfolding(crate::specs::Readings::get_group))]
-fn get_group(alloc: Global, request: &Request) -> Result<Call, ApiRefusal>
-    ensures { Gives result (spec.get_group request.now) }
-{
-    let group: GroupName = name_at(alloc, request, 4)?;
-    Ok(Call::GetGroup { group })
 }
 
 #[tactic(auto, unfolding(crate::specs::Readings::post_group))]
 fn post_group(alloc: Global, request: &Request) -> Result<Call, ApiRefusal>
     ensures { Gives result (spec.post_group request.now) }
 {
-    let group: GroupName = name_at(alloc, request, 4)?;
+    let group = group_at(alloc, request)?;
     let body = body_of(alloc, request)?;
     let users: Result<List<UserName>, ApiRefusal> = list(alloc, &body, "users");
     drop(body);
@@ -81,38 +83,28 @@ fn post_group(alloc: Global, request: &Request) -> Result<Call, ApiRefusal>
     })
 }
 
-#[tactic(auto, unfolding(crate::specs::Readings::delete_group))]
-fn delete_group(alloc: Global, request: &Request) -> Result<Call, ApiRefusal>
-    ensures { Gives result (spec.delete_group request.now) }
+/// The group that the path names, and the users that the body names.
+#[tactic(auto, unfolding(crate::specs::Readings::members_at))]
+fn members_at(alloc: Global, request: &Request) -> Result<(GroupName, List<UserName>), ApiRefusal>
+    ensures { Gives result (spec.members_at request.now) }
 {
-    let group: GroupName = name_at(alloc, request, 4)?;
-    Ok(Call::DeleteGroup { group })
+    let group: GroupName = name_at(alloc, request, Path::Members, "{group}")?;
+    let body = body_of(alloc, request)?;
+    let users = some_names(alloc, &body, "users");
+    drop(body);
+    Ok((group, users?))
 }
 
-#[tactic(auto, unfolding(crate::specs::Readings::join_group))]
 fn join_group(alloc: Global, request: &Request) -> Result<Call, ApiRefusal>
     ensures { Gives result (spec.join_group request.now) }
 {
-    let group: GroupName = name_at(alloc, request, 4)?;
-    let body = body_of(alloc, request)?;
-    let users = some_names(alloc, &body, "users");
-    drop(body);
-    Ok(Call::JoinGroup {
-        group,
-        users: users?,
-    })
+    let (group, users) = members_at(alloc, request)?;
+    Ok(Call::JoinGroup { group, users })
 }
 
-#[tactic(auto, unfolding(crate::specs::Readings::leave_group))]
 fn leave_group(alloc: Global, request: &Request) -> Result<Call, ApiRefusal>
     ensures { Gives result (spec.leave_group request.now) }
 {
-    let group: GroupName = name_at(alloc, request, 4)?;
-    let body = body_of(alloc, request)?;
-    let users = some_names(alloc, &body, "users");
-    drop(body);
-    Ok(Call::LeaveGroup {
-        group,
-        users: users?,
-    })
+    let (group, users) = members_at(alloc, request)?;
+    Ok(Call::LeaveGroup { group, users })
 }

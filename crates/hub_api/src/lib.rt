@@ -19,7 +19,7 @@ pub use laws::{
     a_named_user_is_asked, a_user_is_asked, a_version_is_asked, no_name_is_no_path,
     users_are_needed,
 };
-pub use paths::{ApiRouter, new_router};
+pub use paths::{ApiRouter, Path, new_router};
 pub use reading::{draws, read_call};
 pub use refusal::{ApiRefusal, refusal_reply, wire_refusal_reply};
 pub use replies::{NO_MEMORY, no_memory, reply_text};

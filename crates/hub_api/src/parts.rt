@@ -7,44 +7,40 @@ ghost use Rattle.hub_api.specs.Names.{read_at};
 ghost use Rattle.hub_api.specs.Queries as spec_queries;
 ghost use Rattle.hub_api.specs.Bodies as spec;
 
+use crate::paths::Path;
 use crate::refusal::ApiRefusal;
 use http_wire::request::Request;
 use hub_kit::list::List;
 use hub_kit::names::{ServerKey, UserName, read_key};
 use hub_kit::text::Text;
+use hub_view::Page;
 use request_parts::body::{body_object, list_at, truth_at, truth_or};
 use request_parts::from_text::FromText;
-use request_parts::path::read_in_path;
+use request_parts::path::{read_in_path, segment_number};
 use request_parts::query::{query_number, query_value};
 use request_parts::scopes::read_scopes;
 use scope_filters::scope::RawScope;
 use serde_json::Value;
 use std::alloc::Global;
 
-/// A part of a list.
-#[derive(Clone, Copy)]
-pub(crate) struct Page {
-    pub(crate) offset: u64,
-    /// How many objects at most, of which there is one at least.
-    pub(crate) limit: u64,
-}
-
-/// What segment n of the path is. `BadName` has that number where it isn't of the form.
+/// What the segment is that stands where a name stands in the text of a path. `BadName` has its number where it isn't of the form.
 #[tactic(auto, unfolding(crate::specs::Names::read_at))]
 pub(crate) fn name_at<N: FromText>(
     alloc: Global,
     request: &Request,
-    n: usize,
+    path: Path,
+    name: &str,
 ) -> Result<N, ApiRefusal>
-    ensures { Gives result (read_at N.reads n request.now) }
+    ensures { Gives result (read_at N.reads path name.now request.now) }
 {
+    let n = segment_number(path.text(), name);
     match read_in_path(alloc, request.path.as_str(), n)? {
         Some(name) => Ok(name),
         None => Err(ApiRefusal::BadName(n)),
     }
 }
 
-/// The part of a list that the query asks.
+/// The part of a list that the query asks, which has one object at least, and whether it is told as a page.
 #[tactic(auto, unfolding(crate::specs::Queries::page_of))]
 pub(crate) fn page_of(alloc: Global, request: &Request) -> Result<Page, ApiRefusal>
     ensures { Gives result (spec_queries.page_of request.now) }
@@ -54,7 +50,11 @@ pub(crate) fn page_of(alloc: Global, request: &Request) -> Result<Page, ApiRefus
     if limit == 0 {
         return Err(ApiRefusal::BadQuery);
     }
-    Ok(Page { offset, limit })
+    Ok(Page {
+        offset,
+        limit,
+        paged: request.paged,
+    })
 }
 
 /// A number of the query, or a default where its key is absent.

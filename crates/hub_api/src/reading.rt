@@ -1,6 +1,6 @@
 //! The call that a request asks.
 ghost use Rattle.std.specs.Prelude.{◌≡◌, false};
-ghost use Rattle.hub_api.specs.Paths.{hub_rows};
+ghost use Rattle.hub_api.specs.Paths.{IsRouter};
 ghost use Rattle.hub_api.specs.Refusals.{Gives};
 ghost use Rattle.hub_api.specs.Calls as spec;
 ghost use Rattle.hub_api.specs.Readings as calls;
@@ -8,7 +8,7 @@ ghost use Rattle.hub_api.specs.Readings as calls;
 use crate::groups::{group, groups, members};
 use crate::method::{Method, method_of};
 use crate::parts::server_of;
-use crate::paths::{ApiRouter, row_of};
+use crate::paths::{ApiRouter, Path, path_of};
 use crate::refusal::ApiRefusal;
 use crate::roles::{role, roles};
 use crate::services::{service, services};
@@ -18,14 +18,12 @@ use hub_machine::call::{Asked, Call};
 use std::alloc::Global;
 
 /// `/`, by its methods.
-fn root(method: Method) -> Result<Call, ApiRefusal>
-    ensures { result ≡ spec.root method }
+fn version(method: Method) -> Result<Call, ApiRefusal>
+    ensures { result ≡ spec.version method }
 {
     match method {
         Method::Get => Ok(Call::GetVersion),
-        Method::Post | Method::Put | Method::Patch | Method::Delete | Method::Other => {
-            Err(ApiRefusal::NoMethod)
-        }
+        _ => Err(ApiRefusal::NoMethod),
     }
 }
 
@@ -35,9 +33,7 @@ fn info(method: Method) -> Result<Call, ApiRefusal>
 {
     match method {
         Method::Get => Ok(Call::GetInfo),
-        Method::Post | Method::Put | Method::Patch | Method::Delete | Method::Other => {
-            Err(ApiRefusal::NoMethod)
-        }
+        _ => Err(ApiRefusal::NoMethod),
     }
 }
 
@@ -47,9 +43,7 @@ fn identity(alloc: Global, method: Method, request: &Request) -> Result<Call, Ap
 {
     match method {
         Method::Get => get_identity(alloc, request),
-        Method::Post | Method::Put | Method::Patch | Method::Delete | Method::Other => {
-            Err(ApiRefusal::NoMethod)
-        }
+        _ => Err(ApiRefusal::NoMethod),
     }
 }
 
@@ -61,32 +55,31 @@ fn get_identity(alloc: Global, request: &Request) -> Result<Call, ApiRefusal>
     Ok(Call::GetIdentity { for_server })
 }
 
-/// The call of a row of the table of paths.
-#[tactic(auto, unfolding(crate::specs::Calls::at_row))]
-fn at_row(alloc: Global, row: usize, method: Method, request: &Request) -> Result<Call, ApiRefusal>
-    ensures { Gives result (spec.at_row row method request.now) }
+/// The call of a path.
+fn at_path(alloc: Global, path: Path, method: Method, request: &Request) -> Result<Call, ApiRefusal>
+    ensures { Gives result (spec.at_path path method request.now) }
 {
-    match row {
-        2 => info(method),
-        3 => identity(alloc, method, request),
-        4 => users(alloc, method, request),
-        5 => user(alloc, method, request),
-        6 => groups(alloc, method, request),
-        7 => group(alloc, method, request),
-        8 => members(alloc, method, request),
-        9 => services(alloc, method, request),
-        10 => service(alloc, method, request),
-        11 => roles(alloc, method, request),
-        12 => role(alloc, method, request),
-        _ => root(method),
+    match path {
+        Path::Bare | Path::Version => version(method),
+        Path::Info => info(method),
+        Path::Identity => identity(alloc, method, request),
+        Path::Users => users(alloc, method, request),
+        Path::User => user(alloc, method, request),
+        Path::Groups => groups(alloc, method, request),
+        Path::Group => group(alloc, method, request),
+        Path::Members => members(alloc, method, request),
+        Path::Services => services(alloc, method, request),
+        Path::Service => service(alloc, method, request),
+        Path::Roles => roles(alloc, method, request),
+        Path::Role => role(alloc, method, request),
     }
 }
 
-fn call_of(alloc: Global, row: Option<usize>, request: &Request) -> Result<Call, ApiRefusal>
-    ensures { Gives result (spec.call_of row request.now) }
+fn call_of(alloc: Global, path: Option<Path>, request: &Request) -> Result<Call, ApiRefusal>
+    ensures { Gives result (spec.call_of path request.now) }
 {
-    match row {
-        Some(row) => at_row(alloc, row, method_of(request.method.as_str()), request),
+    match path {
+        Some(path) => at_path(alloc, path, method_of(request.method.as_str()), request),
         None => Err(ApiRefusal::NoPath),
     }
 }
@@ -96,11 +89,11 @@ fn call_of(alloc: Global, row: Option<usize>, request: &Request) -> Result<Call,
 /// alone that it has.
 #[tactic(auto, unfolding(crate::specs::Calls::call_read))]
 pub fn read_call(alloc: Global, router: &ApiRouter, request: Request) -> Result<Asked, ApiRefusal>
-    requires { router.now ≡ hub_rows }
+    requires { IsRouter router.now }
     ensures { Gives result (spec.call_read request) }
 {
-    let row = row_of(router, request.path.as_str());
-    match call_of(alloc, row, &request) {
+    let path = path_of(router, request.path.as_str());
+    match call_of(alloc, path, &request) {
         Ok(call) => Ok(Asked {
             token: request.token,
             seen: request.seen,

@@ -3,13 +3,13 @@ ghost use Rattle.std.specs.Prelude.{◌≡◌, Ok};
 ghost use Rattle.http_wire.specs.declared.request.Request.{Request};
 ghost use Rattle.serde_json.specs.View.{view};
 ghost use Rattle.hub_api.specs.Bodies.{body_of};
-ghost use Rattle.hub_api.specs.Names.{name_at};
 ghost use Rattle.hub_api.specs.Refusals.{Gives};
 ghost use Rattle.hub_api.specs.Readings as spec;
 ghost use Rattle.hub_api.specs.Calls as paths;
 
 use crate::method::Method;
 use crate::parts::{body_of, list, name_at, page_of, scope_texts, scopes};
+use crate::paths::Path;
 use crate::refusal::ApiRefusal;
 use http_wire::request::Request;
 use hub_kit::list::List;
@@ -24,10 +24,15 @@ pub(crate) fn roles(alloc: Global, method: Method, request: &Request) -> Result<
 {
     match method {
         Method::Get => get_roles(alloc, request),
-        Method::Post | Method::Put | Method::Patch | Method::Delete | Method::Other => {
-            Err(ApiRefusal::NoMethod)
-        }
+        _ => Err(ApiRefusal::NoMethod),
     }
+}
+
+/// The role that the path names.
+fn role_at(alloc: Global, request: &Request) -> Result<RoleName, ApiRefusal>
+    ensures { Gives result (spec.role_at request.now) }
+{
+    name_at(alloc, request, Path::Role, "{role}")
 }
 
 /// `/roles/{role}`, by its methods.
@@ -35,10 +40,14 @@ pub(crate) fn role(alloc: Global, method: Method, request: &Request) -> Result<C
     ensures { Gives result (paths.role method request.now) }
 {
     match method {
-        Method::Get => get_role(alloc, request),
+        Method::Get => Ok(Call::GetRole {
+            role: role_at(alloc, request)?,
+        }),
         Method::Put => put_role(alloc, request),
-        Method::Delete => delete_role(alloc, request),
-        Method::Post | Method::Patch | Method::Other => Err(ApiRefusal::NoMethod),
+        Method::Delete => Ok(Call::DeleteRole {
+            role: role_at(alloc, request)?,
+        }),
+        _ => Err(ApiRefusal::NoMethod),
     }
 }
 
@@ -50,23 +59,15 @@ fn get_roles(alloc: Global, request: &Request) -> Result<Call, ApiRefusal>
     Ok(Call::GetRoles {
         offset: page.offset,
         limit: page.limit,
-        paged: request.paged,
+        paged: page.paged,
     })
-}
-
-#[tactic(auto, unfolding(crate::specs::Readings::get_role))]
-fn get_role(alloc: Global, request: &Request) -> Result<Call, ApiRefusal>
-    ensures { Gives result (spec.get_role request.now) }
-{
-    let role: RoleName = name_at(alloc, request, 4)?;
-    Ok(Call::GetRole { role })
 }
 
 #[tactic(auto, unfolding(crate::specs::Readings::put_role))]
 fn put_role(alloc: Global, request: &Request) -> Result<Call, ApiRefusal>
     ensures { Gives result (spec.put_role request.now) }
 {
-    let role: RoleName = name_at(alloc, request, 4)?;
+    let role = role_at(alloc, request)?;
     let body = body_of(alloc, request)?;
     let call = put_role_of(alloc, role, &body);
     drop(body);
@@ -75,8 +76,8 @@ fn put_role(alloc: Global, request: &Request) -> Result<Call, ApiRefusal>
 
 /// The call that puts a role, by its name and its body. The body is read whole before its scopes are.
 #[tactic(auto, unfolding(crate::specs::Readings::put_role))]
-fn put_role_of(alloc: Global, r: RoleName, body: &Value) -> Result<Call, ApiRefusal>
-    ensures { (q : Request) → name_at 4 q ≡ Ok r → body_of q ≡ Ok (view body.now) → Gives result (spec.put_role q) }
+fn put_role_of(alloc: Global, role: RoleName, body: &Value) -> Result<Call, ApiRefusal>
+    ensures { (q : Request) → spec.role_at q ≡ Ok role → body_of q ≡ Ok (view body.now) → Gives result (spec.put_role q) }
 {
     let texts = scope_texts(alloc, body)?;
     let users: List<UserName> = list(alloc, body, "users")?;
@@ -90,12 +91,4 @@ fn put_role_of(alloc: Global, r: RoleName, body: &Value) -> Result<Call, ApiRefu
         groups,
         services,
     })
-}
-
-#[tactic(auto, unfolding(crate::specs::Readings::delete_role))]
-fn delete_role(alloc: Global, request: &Request) -> Result<Call, ApiRefusal>
-    ensures { Gives result (spec.delete_role request.now) }
-{
-    let role: RoleName = name_at(alloc, request, 4)?;
-    Ok(Call::DeleteRole { role })
 }

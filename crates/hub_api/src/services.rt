@@ -5,6 +5,7 @@ ghost use Rattle.hub_api.specs.Calls as paths;
 
 use crate::method::Method;
 use crate::parts::{name_at, page_of};
+use crate::paths::Path;
 use crate::refusal::ApiRefusal;
 use http_wire::request::Request;
 use hub_kit::names::ServiceName;
@@ -17,10 +18,15 @@ pub(crate) fn services(alloc: Global, method: Method, request: &Request) -> Resu
 {
     match method {
         Method::Get => get_services(alloc, request),
-        Method::Post | Method::Put | Method::Patch | Method::Delete | Method::Other => {
-            Err(ApiRefusal::NoMethod)
-        }
+        _ => Err(ApiRefusal::NoMethod),
     }
+}
+
+/// The service that the path names.
+fn service_at(alloc: Global, request: &Request) -> Result<ServiceName, ApiRefusal>
+    ensures { Gives result (spec.service_at request.now) }
+{
+    name_at(alloc, request, Path::Service, "{service}")
 }
 
 /// `/services/{service}`, by its methods.
@@ -28,10 +34,16 @@ pub(crate) fn service(alloc: Global, method: Method, request: &Request) -> Resul
     ensures { Gives result (paths.service method request.now) }
 {
     match method {
-        Method::Get => get_service(alloc, request),
-        Method::Post => post_service(alloc, request),
-        Method::Delete => delete_service(alloc, request),
-        Method::Put | Method::Patch | Method::Other => Err(ApiRefusal::NoMethod),
+        Method::Get => Ok(Call::GetService {
+            service: service_at(alloc, request)?,
+        }),
+        Method::Post => Ok(Call::PostService {
+            service: service_at(alloc, request)?,
+        }),
+        Method::Delete => Ok(Call::DeleteService {
+            service: service_at(alloc, request)?,
+        }),
+        _ => Err(ApiRefusal::NoMethod),
     }
 }
 
@@ -43,30 +55,6 @@ fn get_services(alloc: Global, request: &Request) -> Result<Call, ApiRefusal>
     Ok(Call::GetServices {
         offset: page.offset,
         limit: page.limit,
-        paged: request.paged,
+        paged: page.paged,
     })
-}
-
-#[tactic(auto, unfolding(crate::specs::Readings::get_service))]
-fn get_service(alloc: Global, request: &Request) -> Result<Call, ApiRefusal>
-    ensures { Gives result (spec.get_service request.now) }
-{
-    let service: ServiceName = name_at(alloc, request, 4)?;
-    Ok(Call::GetService { service })
-}
-
-#[tactic(auto, unfolding(crate::specs::Readings::post_service))]
-fn post_service(alloc: Global, request: &Request) -> Result<Call, ApiRefusal>
-    ensures { Gives result (spec.post_service request.now) }
-{
-    let service: ServiceName = name_at(alloc, request, 4)?;
-    Ok(Call::PostService { service })
-}
-
-#[tactic(auto, unfolding(crate::specs::Readings::delete_service))]
-fn delete_service(alloc: Global, request: &Request) -> Result<Call, ApiRefusal>
-    ensures { Gives result (spec.delete_service request.now) }
-{
-    let service: ServiceName = name_at(alloc, request, 4)?;
-    Ok(Call::DeleteService { service })
 }

@@ -5,6 +5,7 @@ ghost use Rattle.hub_api.specs.Calls as paths;
 
 use crate::method::Method;
 use crate::parts::{body_of, distinct_names, name_at, needed_truth, page_of, truth};
+use crate::paths::Path;
 use crate::refusal::ApiRefusal;
 use http_wire::request::Request;
 use hub_kit::names::UserName;
@@ -18,8 +19,15 @@ pub(crate) fn users(alloc: Global, method: Method, request: &Request) -> Result<
     match method {
         Method::Get => get_users(alloc, request),
         Method::Post => post_users(alloc, request),
-        Method::Put | Method::Patch | Method::Delete | Method::Other => Err(ApiRefusal::NoMethod),
+        _ => Err(ApiRefusal::NoMethod),
     }
+}
+
+/// The user that the path names.
+fn user_at(alloc: Global, request: &Request) -> Result<UserName, ApiRefusal>
+    ensures { Gives result (spec.user_at request.now) }
+{
+    name_at(alloc, request, Path::User, "{user}")
 }
 
 /// `/users/{user}`, by its methods.
@@ -27,11 +35,17 @@ pub(crate) fn user(alloc: Global, method: Method, request: &Request) -> Result<C
     ensures { Gives result (paths.user method request.now) }
 {
     match method {
-        Method::Get => get_user(alloc, request),
-        Method::Post => post_user(alloc, request),
+        Method::Get => Ok(Call::GetUser {
+            user: user_at(alloc, request)?,
+        }),
+        Method::Post => Ok(Call::PostUser {
+            user: user_at(alloc, request)?,
+        }),
         Method::Patch => patch_user(alloc, request),
-        Method::Delete => delete_user(alloc, request),
-        Method::Put | Method::Other => Err(ApiRefusal::NoMethod),
+        Method::Delete => Ok(Call::DeleteUser {
+            user: user_at(alloc, request)?,
+        }),
+        _ => Err(ApiRefusal::NoMethod),
     }
 }
 
@@ -43,7 +57,7 @@ fn get_users(alloc: Global, request: &Request) -> Result<Call, ApiRefusal>
     Ok(Call::GetUsers {
         offset: page.offset,
         limit: page.limit,
-        paged: request.paged,
+        paged: page.paged,
     })
 }
 
@@ -61,27 +75,11 @@ fn post_users(alloc: Global, request: &Request) -> Result<Call, ApiRefusal>
     })
 }
 
-#[tactic(auto, unfolding(crate::specs::Readings::get_user))]
-fn get_user(alloc: Global, request: &Request) -> Result<Call, ApiRefusal>
-    ensures { Gives result (spec.get_user request.now) }
-{
-    let user: UserName = name_at(alloc, request, 4)?;
-    Ok(Call::GetUser { user })
-}
-
-#[tactic(auto, unfolding(crate::specs::Readings::post_user))]
-fn post_user(alloc: Global, request: &Request) -> Result<Call, ApiRefusal>
-    ensures { Gives result (spec.post_user request.now) }
-{
-    let user: UserName = name_at(alloc, request, 4)?;
-    Ok(Call::PostUser { user })
-}
-
 #[tactic(auto, unfolding(crate::specs::Readings::patch_user))]
 fn patch_user(alloc: Global, request: &Request) -> Result<Call, ApiRefusal>
     ensures { Gives result (spec.patch_user request.now) }
 {
-    let user: UserName = name_at(alloc, request, 4)?;
+    let user = user_at(alloc, request)?;
     let body = body_of(alloc, request)?;
     let admin = needed_truth(&body, "admin");
     drop(body);
@@ -89,12 +87,4 @@ fn patch_user(alloc: Global, request: &Request) -> Result<Call, ApiRefusal>
         user,
         admin: admin?,
     })
-}
-
-#[tactic(auto, unfolding(crate::specs::Readings::delete_user))]
-fn delete_user(alloc: Global, request: &Request) -> Result<Call, ApiRefusal>
-    ensures { Gives result (spec.delete_user request.now) }
-{
-    let user: UserName = name_at(alloc, request, 4)?;
-    Ok(Call::DeleteUser { user })
 }

@@ -1,7 +1,7 @@
 //! The reply to a request.
 ghost use Rattle.std.specs.Prelude.{◌≡◌, ◌||◌, ◌++◌, ℕ, true, List, Option, Some};
 ghost use Rattle.http_wire.specs.Request.{IsRequestText};
-ghost use Rattle.hub_api.specs.Paths.{hub_rows};
+ghost use Rattle.hub_api.specs.Paths.{IsRouter};
 ghost use Rattle.hub_machine.specs.State.{Hub};
 ghost use Rattle.hub_run.specs.Turns.{Turn, TurnAt, Moves, turn_text, closes};
 ghost use Rattle.hub_run.specs.Written.{written_bytes};
@@ -31,7 +31,7 @@ pub(crate) fn answer<K: Keeper, T: Trail<Entry = Change>, C: Clock, W: Wait>(
     last: bool,
 ) -> (Written, bool)
     requires of { pass.old.of ≡ desk.now }
-    requires rows { router.now ≡ hub_rows }
+    requires routed { IsRouter router.now }
     ensures of { pass.new.of ≡ pass.old.of }
     ensures base { pass.new.base ≡ pass.old.base }
     ensures last { last ≡ true → result.1 ≡ true }

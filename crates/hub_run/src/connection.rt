@@ -1,6 +1,6 @@
 //! One connection from its first request to its end.
 ghost use Rattle.std.specs.Prelude.{◌≡◌, ◌≤◌, ℕ, [], Some, Ok, Err};
-ghost use Rattle.hub_api.specs.Paths.{hub_rows};
+ghost use Rattle.hub_api.specs.Paths.{IsRouter};
 ghost use Rattle.hub_machine.specs.State.{Hub};
 ghost use Rattle.hub_devices.specs.Faults.{Rises};
 ghost use Rattle.hub_run.specs.Connections.{ConnectionEnds};
@@ -79,7 +79,7 @@ fn serve_turns<K: Keeper, T: Trail<Entry = Change>, I: Source, O: Sink, C: Clock
     clock: &mut C,
 ) -> Result<Served, SessionFault>
     requires of { pass.old.of ≡ desk.now }
-    requires rows { router.now ≡ hub_rows }
+    requires routed { IsRouter router.now }
     requires kept { kept.old ≡ [] }
     ensures of { pass.new.of ≡ pass.old.of }
     ensures base { pass.new.base ≡ pass.old.base }

@@ -4,7 +4,7 @@ ghost use Rattle.hub_devices.specs.Streams.{Appends};
 ghost use Rattle.hub_devices.specs.Faults.{Rises};
 ghost use Rattle.http_wire.specs.Took.{Took};
 ghost use Rattle.http_wire.specs.Request.{IsRequestText};
-ghost use Rattle.hub_api.specs.Paths.{hub_rows};
+ghost use Rattle.hub_api.specs.Paths.{IsRouter};
 ghost use Rattle.hub_machine.specs.State.{Hub};
 ghost use Rattle.hub_run.specs.Steps.{StopsAt, TurnEnds};
 ghost use Rattle.hub_run.specs.Turns.{Turn, TurnAt, Moves, turn_text, closes};
@@ -42,7 +42,7 @@ fn next_reply<K: Keeper, T: Trail<Entry = Change>, I: Source, C: Clock, W: Wait>
     last: bool,
 ) -> Result<(Written, bool), TurnEnd>
     requires of { pass.old.of ≡ desk.now }
-    requires rows { router.now ≡ hub_rows }
+    requires routed { IsRouter router.now }
     ensures of { pass.new.of ≡ pass.old.of }
     ensures base { pass.new.base ≡ pass.old.base }
     ensures last { IfOk result (λ r. last ≡ true → r.1 ≡ true) }
@@ -78,7 +78,7 @@ pub(crate) fn turn<K: Keeper, T: Trail<Entry = Change>, I: Source, O: Sink, C: C
     last: bool,
 ) -> Result<bool, TurnEnd>
     requires of { pass.old.of ≡ desk.now }
-    requires rows { router.now ≡ hub_rows }
+    requires routed { IsRouter router.now }
     ensures of { pass.new.of ≡ pass.old.of }
     ensures base { pass.new.base ≡ pass.old.base }
     ensures last { IfOk result (λ close. last ≡ true → close ≡ true) }

@@ -1,6 +1,6 @@
 -- The parts of a path.
-use Rattle.std.specs.Prelude.{ℕ, zero, suc, ◌==◌, List, Option, Some, None, option_and_then, if◌then◌else◌}
-use Rattle.std.specs.List.{before_first, after_first}
+use Rattle.std.specs.Prelude.{ℕ, zero, suc, ◌==◌, nat_eq, List, [], ◌∷◌, Option, Some, None, option_and_then, if◌then◌else◌}
+use Rattle.std.specs.List.{before_first, after_first, starts_with}
 use Rattle.std.specs.Str.{is_utf8}
 use Rattle.percent_encoding.specs.Percent.{percent_decode}
 
@@ -15,6 +15,12 @@ after_slash text = after_first (λ b. b == 47) text
 unfoldable pub segment : ℕ → List ℕ → List ℕ
 segment zero path = before_slash path
 segment (suc n) path = segment n (after_slash path)
+
+-- the number of the segment of a text in which a name first stands: the slashes before it are counted
+abbrev pub segment_number : (name text : List ℕ) → ℕ
+segment_number name [] = 0
+segment_number name (b ∷ text) =
+    if starts_with nat_eq (b ∷ text) name then 0 else (if b == 47 then suc (segment_number name text) else segment_number name text)
 
 -- bytes that are text
 abbrev pub as_text : List ℕ → Option (List ℕ)

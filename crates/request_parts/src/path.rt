@@ -18,6 +18,23 @@ fn segment(path: &str, n: usize) -> &str
     before_slash(rest)
 }
 
+/// The number of the segment of a text in which a name first stands: the slashes before it are counted.
+pub fn segment_number(text: &str, name: &str) -> usize
+    ensures { result ≡ spec.segment_number name.now text.now }
+{
+    let bytes = text.as_bytes();
+    let mut slashes = 0;
+    for at in 0..bytes.len() {
+        if bytes[at..].starts_with(name.as_bytes()) {
+            return slashes;
+        }
+        if bytes[at] == b'/' {
+            slashes += 1;
+        }
+    }
+    slashes
+}
+
 /// What stands before the first slash of a text, or all where it has none.
 fn before_slash(text: &str) -> &str
     ensures { result.now ≡ spec.before_slash text.now }

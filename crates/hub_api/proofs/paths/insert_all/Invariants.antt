@@ -1,7 +1,7 @@
-use Rattle.std.proofs.Common.{◌≡◌, map, drop}
-use Rattle.hub_api.specs.Paths.{with_all}
+use Rattle.std.proofs.Common.{◌≡◌, drop}
+use Rattle.std.specs.Prelude.{fold}
+use Rattle.hub_api.specs.Paths.{with_path}
 use Rattle.hub_api.proofs.paths.insert_all.Given as goal
 
-abbrev pub invariant-loop-i : goal.invariant-loop-i
-invariant-loop-i l =
-    with_all l.router l.i (map (λ s. s.now) (drop l.i l.fn.paths)) ≡ with_all l.fn.router 0 (map (λ s. s.now) l.fn.paths)
+abbrev pub invariant-loop-path : goal.invariant-loop-path
+invariant-loop-path l = fold with_path l.router (drop l.path-index l.fn.paths) ≡ fold with_path l.fn.router l.fn.paths
