@@ -1,17 +1,13 @@
 -- The calls that put and delete roles.
-use Rattle.std.specs.Prelude.{ℕ, Bool, true, ◌||◌, ◌&&◌, not, List, [], ◌∷◌, codes, Option, Some, None, if◌then◌else◌, option_map}
-use Rattle.std.specs.List.{find}
+use Rattle.std.specs.Prelude.{ℕ, Bool, ◌||◌, ◌&&◌, List, [], ◌∷◌, codes, Option, Some, None, if◌then◌else◌, option_map}
 use Rattle.std.specs.Option.{option_or}
 use Rattle.std.specs.Cmp.Lexicographic.{pointwise}
 use Rattle.std.specs.FinMap.{get, contains_key, len}
-use Rattle.scope_names.specs.Refusals.{is_declared}
 use Rattle.scope_names.specs.declared.custom.CustomRow.{CustomRow}
-use Rattle.scope_names.specs.declared.action.Action.{Action}
-use Rattle.scope_names.specs.declared.action.Action.TheVariants.{Custom}
 use Rattle.scope_filters.specs.Contexts.{same}
+use Rattle.scope_filters.specs.Known.{unknown_scope}
 use Rattle.scope_filters.specs.Scopes.{scope_text}
 use Rattle.scope_filters.specs.declared.scope.RawScope.{RawScope}
-use Rattle.scope_filters.specs.declared.scope.RawScope.TheVariants.{Plain, SelfScope, Inherit}
 use Rattle.scope_filters.specs.contracts.scope.RawScopePartialEq.TheImpl as scope
 use Rattle.hub_rows.specs.declared.records.Role.{Role}
 use Rattle.hub_rows.specs.declared.changes.RowChange.{RowChange}
@@ -29,19 +25,6 @@ abbrev pub is_fixed_role : List ℕ → Bool
 is_fixed_role role = same role (codes "user") || same role (codes "admin")
 
 -- ---- scopes that aren't declared
-
-abbrev is_known_action : List CustomRow → Action → Bool
-is_known_action customs (Custom name) = is_declared name customs
-is_known_action customs _ = true
-
-abbrev pub is_known_scope : List CustomRow → RawScope → Bool
-is_known_scope customs (Plain action filter) = is_known_action customs action
-is_known_scope customs SelfScope = true
-is_known_scope customs Inherit = true
-
--- the first scope whose custom name isn't declared
-abbrev pub unknown_scope : List CustomRow → List RawScope → Option RawScope
-unknown_scope customs scopes = find (λ raw. not (is_known_scope customs raw)) scopes
 
 -- a rule that refuses where there is one, and gives its text
 abbrev pub if_unknown_scope : List CustomRow → List RawScope → Option RuleRefusal

@@ -5,7 +5,7 @@ ghost use Rattle.hub_rows.specs.declared.changes.RowChange.TheVariants.{Put};
 ghost use Rattle.hub_rows.specs.declared.rows.Row.TheVariants as Row;
 ghost use Rattle.admin_rules.specs.declared.refusals.RuleRefusal.TheVariants.{FixedRole};
 ghost use Rattle.admin_rules.specs.Rules.{ArePlain, Checks, Says, first_unkept, if_so};
-ghost use Rattle.admin_rules.specs.Roles.{delete_role, if_unknown_holder, if_unknown_scope, is_fixed_role, is_known_scope, put_role, same_role, unknown_holder, unknown_scope};
+ghost use Rattle.admin_rules.specs.Roles.{delete_role, if_unknown_holder, if_unknown_scope, is_fixed_role, put_role, same_role, unknown_holder};
 
 use crate::groups::unkept_user;
 use crate::refusals::{RuleRefusal, check_room};
@@ -16,8 +16,8 @@ use hub_rows::changes::RowChange;
 use hub_rows::records::Role;
 use hub_rows::rows::{Row, RowKey};
 use hub_tables::tables::Tables;
+use scope_filters::known::unknown_scope;
 use scope_filters::scope::{RawScope, scope_text};
-use scope_names::action::Action;
 use scope_names::table::ScopeTable;
 use std::alloc::Global;
 
@@ -71,30 +71,6 @@ fn check_scopes(alloc: Global, table: &ScopeTable, scopes: &[RawScope]) -> Resul
     match unknown_scope(table, scopes) {
         Some(scope) => Err(RuleRefusal::UnknownScope(scope_text(alloc, scope)?)),
         None => Ok(()),
-    }
-}
-
-/// The first scope whose custom name isn't declared.
-fn unknown_scope<'a>(table: &ScopeTable, scopes: &'a [RawScope]) -> Option<&'a RawScope>
-    ensures { option_copied result ≡ unknown_scope table.now scopes.now }
-{
-    for scope in scopes {
-        if !is_known_scope(table, scope) {
-            return Some(scope);
-        }
-    }
-    None
-}
-
-fn is_known_scope(table: &ScopeTable, scope: &RawScope) -> bool
-    ensures { result ≡ is_known_scope table.now scope.now }
-{
-    match scope {
-        RawScope::Plain { action, .. } => match action {
-            Action::Custom(name) => table.declares(*name),
-            _ => true,
-        },
-        RawScope::SelfScope | RawScope::Inherit => true,
     }
 }
 

@@ -2,5 +2,6 @@ pub mod Admits
 pub mod Contexts
 pub mod FilterOrder
 pub mod Grants
+pub mod Known
 pub mod ScopeNames
 pub mod Scopes

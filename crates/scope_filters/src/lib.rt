@@ -6,6 +6,7 @@
 pub mod filter;
 pub mod grant;
 pub mod holder;
+pub mod known;
 pub mod members;
 pub mod object;
 pub mod scope;

@@ -81,7 +81,7 @@ pub fn read_scope(text: &str) -> Result<RawScope, ScopeError>
 }
 
 /// What stands before the first mark of a text, and what stands after it, where the text has one.
-fn cut(text: &str, mark: char) -> (&str, Option<&str>)
+pub fn cut(text: &str, mark: char) -> (&str, Option<&str>)
     requires { mark < 128 }
     ensures first { result.0.now ≡ before mark text.now }
     ensures rest { option_copied result.1 ≡ after mark text.now }
