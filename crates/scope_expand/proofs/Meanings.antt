@@ -101,6 +101,11 @@ expanded_plain table scopes holder plain (Ok g) e h = λ a. not_true (passes is_
     (subst (OneOf IsOwning) e (one_weaker (IsCovering table is_owner_of a) IsOwning (λ _ c. c.1) plain ((h is_owner_of a).0 k))))
 expanded_plain table scopes holder plain (Err x) e h = tt
 
+pub covered_by : {E : Type 0} (table : List CustomRow) (scopes : List RawScope) (holder : Holder) (plain : List PlainScope) (r : Result Rights E) → plain ≡ plain_scopes scopes holder
+    → IfOk r (λ g. GrantsCovered table plain g) → IfOk r (GrantsCovered table (plain_scopes scopes holder))
+covered_by table scopes holder plain (Ok g) e h = subst (λ (plain : List PlainScope). GrantsCovered table plain g) e h
+covered_by table scopes holder plain (Err x) e h = tt
+
 pub expanded : {E : Type 0} (table : List CustomRow) (scopes : List RawScope) (holder : Holder) (plain : List PlainScope) (r : Result Rights E) → plain ≡ plain_scopes scopes holder
     → IfOk r (λ g. GrantsCovered table plain g) → IfOk r (λ g. (m : Context) (a : Action) (x : Object) → IsTrue (grant_admits m g a x) ↔ IsMeant table scopes holder m a x)
 expanded table scopes holder plain (Ok g) e h = λ m a x.

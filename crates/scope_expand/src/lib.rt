@@ -34,7 +34,8 @@ pub struct PlainScope {
 
 /// The grant of all that the scopes mean for the holder, in the table's scopes. `!user` and `!service` are the holder's owner
 /// where the owner is one, and `!server` the server that the holder's token was issued for; where there is none the scope means
-/// nothing. `self` is JupyterHub's list of an owner's own scopes, `inherit` means nothing here.
+/// nothing. `self` is JupyterHub's list of an owner's own scopes, `inherit` means nothing here. The grant has exactly the filters that the
+/// scopes mean, under each action that they cover.
 pub fn expand(
     alloc: Global,
     table: &ScopeTable,
@@ -42,6 +43,7 @@ pub fn expand(
     holder: &Holder,
 ) -> Result<Grant, AllocError>
     ensures admits { IfOk result (λ grant. (m : Context) (a : Action) (x : Object) → IsTrue (grant_admits m grant a x) ↔ IsMeant table.now scopes.now holder.now m a x) }
+    ensures rows { IfOk result (GrantsCovered table.now (plain_scopes scopes.now holder.now)) }
     ensures owners { IfOk result HasNoOwnerOf }
 {
     let plain = meaning(alloc, scopes, holder)?;
