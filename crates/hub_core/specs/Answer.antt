@@ -1,7 +1,8 @@
 -- The answer to an asked call: the first refusal of the frame, else what the call's own definition gives.
-use Rattle.std.specs.Prelude.{ℕ, Bool, false, not, nat_le, nat_lt, List, [], ◌∷◌, Option, Some, None, if◌then◌else◌}
+use Rattle.std.specs.Prelude.{ℕ, Bool, false, not, nat_lt, List, [], ◌∷◌, Option, Some, None, if◌then◌else◌}
 use Rattle.hub_kit.specs.Hashes.{hash_text}
 use Rattle.hub_rows.specs.declared.records.Token.{Token}
+use Rattle.hub_tables.specs.Ends.{is_over}
 use Rattle.hub_tables.specs.Hashes.{row_with}
 use Rattle.hub_tables.specs.State.{State}
 use Rattle.hub_view.specs.Fields.{Rights}
@@ -79,10 +80,6 @@ by_call s j now caller call = if needs_token call then by_token s j now call cal
 -- ---- whose token it is
 
 -- from its end on a token is no longer good
-abbrev pub is_over : ℕ → Option ℕ → Bool
-is_over now None = false
-is_over now (Some end) = nat_le end now
-
 abbrev pub if_good : ℕ → Option Token → Option Token
 if_good now None = None
 if_good now (Some k) = if is_over now k.expires_at then None else Some k

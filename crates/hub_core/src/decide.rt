@@ -2,6 +2,7 @@
 ghost use Rattle.std.specs.Prelude.{◌≡◌, ◌↔◌, ℕ, List, Option, Some, None, true, false, IfOk, IfSome};
 ghost use Rattle.std.specs.Option.{option_copied};
 ghost use Rattle.std.specs.FinMap as map;
+ghost use Rattle.hub_tables.specs.Ends.{is_over};
 ghost use Rattle.hub_tables.specs.Hashes.{row_with};
 ghost use Rattle.hub_core.specs.Answer as spec;
 ghost use Rattle.hub_machine.specs.Answers.{answer_view};
@@ -116,7 +117,7 @@ fn named(seen: Option<u64>) -> u64
 }
 
 fn is_over(now: Moment, end: Option<Moment>) -> bool
-    ensures { result ≡ spec.is_over now end }
+    ensures { result ≡ is_over now end }
 {
     match end {
         None => false,

@@ -1,5 +1,6 @@
 pub mod Changes
 pub mod Empty
+pub mod Ends
 pub mod Hashes
 pub mod Kept
 pub mod Lookups

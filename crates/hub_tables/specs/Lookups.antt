@@ -13,11 +13,13 @@ use Rattle.hub_rows.specs.declared.keys.Recipient.TheVariants as To
 use Rattle.hub_rows.specs.declared.keys.ShareKey.{ShareKey}
 use Rattle.hub_rows.specs.declared.records.ServerRow.{ServerRow}
 use Rattle.hub_rows.specs.declared.records.Share.{Share}
+use Rattle.hub_rows.specs.declared.records.ShareCode.{ShareCode}
 use Rattle.hub_rows.specs.declared.records.Token.{Token}
 use Rattle.hub_rows.specs.declared.records.User.{User}
 use Rattle.hub_rows.specs.declared.records.Group.{Group}
 use Rattle.hub_rows.specs.declared.records.Role.{Role}
 use Rattle.hub_rows.specs.declared.records.Next.{Next}
+use Rattle.hub_tables.specs.Hashes.{row_with}
 use Rattle.hub_tables.specs.Memberships.{members_of}
 use Rattle.hub_tables.specs.State.{State}
 
@@ -92,3 +94,10 @@ shares_with s to = map (λ (share : Share). share.key) (filter (is_share_with to
 -- a server is there where its user is kept, and its name is empty or its row is kept
 abbrev pub has_server : State → ServerKey → Bool
 has_server s key = contains_key s.users key.user && (is_default key.server || contains_key s.servers key)
+
+-- the kept token of a hash, and the kept share code of one
+abbrev pub token_of_hash : State → (hash : List ℕ) → Option Token
+token_of_hash s hash = row_with (λ (k : Token). k.hash) hash s.tokens
+
+abbrev pub code_of_hash : State → (hash : List ℕ) → Option ShareCode
+code_of_hash s hash = row_with (λ (c : ShareCode). c.hash) hash s.codes
