@@ -41,6 +41,7 @@ with_path routes path = with_route (parse_route (text_of path)) path routes
 unfoldable pub hub_routes : RowsOf (RouteOf Path)
 hub_routes = fold with_path [] every_path
 
+-- a router has these and no others
 abbrev pub IsRouter : RowsOf (RouteOf Path) → Type 0
 IsRouter routes = routes ≡ hub_routes
 
