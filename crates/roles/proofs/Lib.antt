@@ -1,4 +1,5 @@
 mod AmongKeys
+mod Apart
 mod Appended
 pub mod EachEntry
 mod GroupsOf

@@ -22,6 +22,10 @@ pub record Cache : Type 0 where
   pub held : Option Entry
   pub hits : ℕ
 
+-- the list has no entry of the held one's id
+abbrev pub IsApart : Cache → Type 0
+IsApart c = (id : ℕ) (kept other : KeptGrant) → c.held ≡ Some (id, kept) → Contains c.entries (id, other) → ⊥
+
 abbrev pub no_entries : ℕ → Cache
 no_entries capacity = record { entries = []; capacity = capacity; held = None; hits = 0 }
 

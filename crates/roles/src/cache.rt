@@ -6,7 +6,7 @@ ghost use Rattle.scope_filters.specs.Grants.{Rights};
 ghost use Rattle.scope_names.specs.declared.action.Action.{Action};
 ghost use Rattle.scope_meet.specs.Named.{AdmitsSomething};
 ghost use Rattle.roles.specs.Rights.{context, IsAllowed, Holds, IsGrantOf};
-ghost use Rattle.roles.specs.Looks.{IsLooked, IsAfter, IsAfterMiss, IsRight, found, after_hit, no_entries, IsBrought};
+ghost use Rattle.roles.specs.Looks.{IsLooked, IsAfter, IsAfterMiss, IsApart, IsRight, found, after_hit, no_entries, IsBrought};
 ghost use Rattle.roles.specs.Looks as spec;
 ghost use Rattle.std.specs.Map.{lookup};
 
@@ -38,13 +38,15 @@ pub struct RightsCache {
 impl Model for RightsCache {
     ghost use Rattle.std.specs.Coded.{codes};
     ghost use Rattle.std.specs.FinMap.{code};
-    ghost use Rattle.roles.specs.Looks.{Cache};
+    ghost use Rattle.roles.specs.Looks.{Cache, IsApart};
 
     ghost Value = { Cache };
 
     ghost coded = { Prim.hlevel (codes, code) };
 
     ghost view = { λ a. record { entries = a.listed.entries; capacity = a.listed.cap; held = a.held; hits = a.hits } };
+
+    ghost invariant = { λ a. IsApart (record { entries = a.listed.entries; capacity = a.listed.cap; held = a.held; hits = a.hits }) };
 }
 
 impl RightsCache {
@@ -68,7 +70,8 @@ impl RightsCache {
 
     /// How many looks found their grant kept, or the greatest `u64`.
     pub fn hits(&self) -> u64
-        ensures { result ≡ self.now.hits }
+        ensures value { result ≡ self.now.hits }
+        ensures apart { IsApart self.now }
     {
         self.hits
     }
