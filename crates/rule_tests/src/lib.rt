@@ -16,6 +16,8 @@ mod of_hub_tables;
 #[cfg(test)]
 mod of_keeper_sqlite;
 #[cfg(test)]
+mod of_kept_rows;
+#[cfg(test)]
 mod of_record_texts;
 #[cfg(test)]
 mod of_roles;

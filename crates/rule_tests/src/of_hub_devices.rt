@@ -1,5 +1,5 @@
-//! That calls of devices in memory succeed where there is memory.
-use hub_devices::calls::ListedRoute;
+//! That calls of devices in memory succeed where there is memory, and that they are told, with those that failed.
+use hub_devices::calls::{ListedRoute, Routing, Spawning, Told};
 use hub_devices::mem_routes::MemRouteLink;
 use hub_devices::mem_spawner::MemSpawner;
 use hub_devices::route_link::RouteLink;
@@ -85,4 +85,51 @@ fn a_server_starts_and_stops(rt: HostRuntime) {
     let target = target(&rt, rt.alloc());
     let mut spawner = MemSpawner::new(rt.alloc(), Vec::new(rt.alloc()));
     assert!(rt; starts_and_stops(&mut spawner, &key, &target, &Text::new(rt.alloc())));
+}
+
+/// Whether the calls of a spawner are a start that failed, and a look at what never ran.
+fn are_of_a_failed_start(calls: &[(Spawning, Told)]) -> bool {
+    match calls {
+        [
+            (Spawning::Start(1, _, _, _), Told::Failed),
+            (Spawning::Poll(1, _), Told::Runs(false)),
+        ] => { true }
+        _ => false,
+    }
+}
+
+#[test]
+fn a_failed_start_is_told(rt: HostRuntime) {
+    let key = read_key(b"ann/").expect(&rt, "it is a key");
+    let target = target(&rt, rt.alloc());
+    let failing = Vec::from_slice(rt.alloc(), &[0]).expect(&rt, "there is memory");
+    let mut spawner = MemSpawner::new(rt.alloc(), failing);
+    assert!(rt;
+        spawner
+            .start(1, &key, &target, &Text::new(rt.alloc()))
+            .is_err()
+    );
+    assert!(rt; matches!(spawner.poll(1, &target), Ok(false)));
+    assert!(rt; are_of_a_failed_start(spawner.calls().expect(&rt, "they are told")));
+}
+
+/// Whether the calls of a link are a route that wasn't added, and a list of none.
+fn are_of_a_failed_add(calls: &[(Routing, Told)]) -> bool {
+    match calls {
+        [
+            (Routing::Add(_, _, Some(2)), Told::Failed),
+            (Routing::List, Told::Listed(routes)),
+        ] => { routes.is_empty() }
+        _ => false,
+    }
+}
+
+#[test]
+fn a_failed_route_is_told(rt: HostRuntime) {
+    let target = target(&rt, rt.alloc());
+    let failing = Vec::from_slice(rt.alloc(), &[0]).expect(&rt, "there is memory");
+    let mut link = MemRouteLink::new(rt.alloc(), failing);
+    assert!(rt; link.add(&Text::new(rt.alloc()), &target, Some(2)).is_err());
+    assert!(rt; link.list().is_ok());
+    assert!(rt; are_of_a_failed_add(link.calls().expect(&rt, "they are told")));
 }

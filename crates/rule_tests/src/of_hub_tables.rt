@@ -1,4 +1,7 @@
 //! What no clause says: that puts succeed with ample memory.
+ghost use Rattle.std.specs.Prelude.{◌≡◌};
+ghost use Rattle.std.specs.FinMap as map;
+
 use crate::check::check;
 use hub_kit::moment::Moment;
 use hub_kit::names::read_user;
@@ -10,7 +13,7 @@ use scope_names::table::ScopeTable;
 use std::alloc::Global;
 use std::process::Abort;
 
-const LIMITS: Limits = Limits {
+pub(crate) const LIMITS: Limits = Limits {
     users: 2,
     groups: 2,
     services: 2,
@@ -39,7 +42,10 @@ fn user(rt: &impl Abort, name: &str) -> User {
     }
 }
 
-pub(crate) fn no_rows(rt: &impl Abort, alloc: Global, limits: &Limits) -> Tables {
+pub(crate) fn no_rows(rt: &impl Abort, alloc: Global, limits: &Limits) -> Tables
+    ensures tokens { result.tokens ≡ map.empty }
+    ensures codes { result.codes ≡ map.empty }
+{
     let scopes = ScopeTable::new(alloc, &[]).expect(rt, "there is memory");
     Tables::new(alloc, *limits, scopes)
 }

@@ -3,16 +3,18 @@ ghost use Rattle.scope_expand.specs.Passes.{HasNoOwnerOf};
 
 use crate::check::check;
 use crate::of_roles::tables;
+use hub_kit::list::List;
 use hub_kit::names::{read_group, read_user};
 use hub_tables::tables::Tables;
-use scope_expand::expand;
+use scope_expand::{expand, join};
 use scope_filters::filter::Filter;
 use scope_filters::grant::Grant;
 use scope_filters::holder::{Holder, Owner};
 use scope_filters::scope::{ScopeError, read_scope};
 use scope_meet::inside::{Inside, contained};
 use scope_names::action::Action;
-use scope_names::table::ScopeTable;
+use scope_names::custom::{CustomRow, read_custom};
+use scope_names::table::{ScopeTable, TableError};
 use std::alloc::Global;
 use std::process::Abort;
 
@@ -93,4 +95,52 @@ fn a_group_is_more_than_its_users(rt: HostRuntime) {
     let tables = tables(&rt, rt.alloc(), "list:users!group=b");
     assert!(rt; is_more_than_its_users(&rt, rt.alloc(), &tables));
     drop(tables);
+}
+
+/// How many actions there are in what two scopes give together.
+fn number_joined(rt: &impl Abort, alloc: Global, tables: &Tables) -> usize {
+    let mut grant = expanded(rt, alloc, tables, "shutdown");
+    let other = expanded(rt, alloc, tables, "proxy");
+    join(&mut grant, &other).expect(rt, "there is memory");
+    grant.iter().count()
+}
+
+#[test]
+fn two_scopes_are_joined(rt: HostRuntime) {
+    let tables = tables(&rt, rt.alloc(), "self");
+    assert!(rt; number_joined(&rt, rt.alloc(), &tables) == 2);
+    drop(tables);
+}
+
+fn custom_row(rt: &impl Abort, alloc: Global, name: &str, subscopes: &[&str]) -> CustomRow {
+    let mut list = Vec::new(alloc);
+    for subscope in subscopes {
+        let name = read_custom(subscope).expect(rt, "it is a name");
+        list.push(name).expect(rt, "there is memory");
+    }
+    CustomRow {
+        name: read_custom(name).expect(rt, "it is a name"),
+        subscopes: List::from_vec(list),
+    }
+}
+
+/// The table of `custom:a`, which covers `custom:b`, and of `custom:b`, which covers these.
+fn table_of_two(
+    rt: &impl Abort,
+    alloc: Global,
+    subscopes: &[&str],
+) -> Result<ScopeTable, TableError> {
+    let mut rows = Vec::new(alloc);
+    let first = custom_row(rt, alloc, "custom:a", &["custom:b"]);
+    rows.push(first).expect(rt, "there is memory");
+    let second = custom_row(rt, alloc, "custom:b", subscopes);
+    rows.push(second).expect(rt, "there is memory");
+    ScopeTable::new(alloc, rows.as_slice())
+}
+
+#[test]
+fn custom_scopes_make_a_table(rt: HostRuntime) {
+    assert!(rt; table_of_two(&rt, rt.alloc(), &[]).is_ok());
+    let cycle = table_of_two(&rt, rt.alloc(), &["custom:a"]);
+    assert!(rt; matches!(cycle, Err(TableError::Cycle(0))));
 }

@@ -1,0 +1,140 @@
+//! What no clause says of the rows of each kind: that they are put, counted and shown where there is memory. The rows are records that
+//! are read from their texts.
+ghost use Rattle.std.specs.Prelude.{◌≡◌};
+ghost use Rattle.std.specs.FinMap as map;
+
+use crate::of_hub_tables::{LIMITS, no_rows};
+use hub_kit::text::Text;
+use hub_rows::records::{Share, ShareCode, Token};
+use hub_tables::tables::Tables;
+use hub_view::{Body, body_text, code_body, new_code_body, new_token_body, share_body, token_body};
+use keeper::keeper::Row;
+use record_texts::record::{Record, of_row};
+use std::alloc::{AllocError, Global};
+use std::process::Abort;
+
+const TOKEN: &str =
+    r#"{"client":"server:ann/","created":1,"expires_at":2,"hash":"ab","issued_for":null,"note":"n","owner":"user:ann","scopes":["inherit"]}"#;
+
+const SHARE: &str = r#"{"created":1,"scopes":["access:servers!server=ann/x"]}"#;
+
+const CODE: &str =
+    r#"{"created":1,"expires_at":2,"hash":"h","scopes":["access:servers!server=ann/"],"server":"ann/"}"#;
+
+const SHOWN_TOKEN: &str =
+    r#"{"created":"1970-01-01T00:00:01Z","expires_at":"1970-01-01T00:00:02Z","id":"7","kind":"api_token","note":"n","oauth_client":"server:ann/","scopes":["inherit"],"user":"ann"}"#;
+
+const NEW_TOKEN: &str =
+    r#"{"created":"1970-01-01T00:00:01Z","expires_at":"1970-01-01T00:00:02Z","id":"7","kind":"api_token","note":"n","oauth_client":"server:ann/","scopes":["inherit"],"token":"t","user":"ann"}"#;
+
+const SHOWN_SHARE: &str =
+    r#"{"created":"1970-01-01T00:00:01Z","group":null,"scopes":["access:servers!server=ann/x"],"server":"ann/x","user":"bob"}"#;
+
+const SHOWN_CODE: &str =
+    r#"{"created":"1970-01-01T00:00:01Z","expires_at":"1970-01-01T00:00:02Z","id":"3","scopes":["access:servers!server=ann/"],"server":"ann/"}"#;
+
+const NEW_CODE: &str =
+    r#"{"code":"c","created":"1970-01-01T00:00:01Z","expires_at":"1970-01-01T00:00:02Z","id":"3","scopes":["access:servers!server=ann/"],"server":"ann/"}"#;
+
+/// The record of a row.
+fn record<R: Record>(rt: &impl Abort, alloc: Global, kind: u8, key: &str, text: &str) -> R {
+    let row = Row {
+        kind,
+        key: Text::from_str(alloc, key).expect(rt, "there is memory"),
+        text: Text::from_str(alloc, text).expect(rt, "there is memory"),
+    };
+    of_row::<R>(alloc, &row).ok().expect(rt, text)
+}
+
+/// Whether a token is put where none is kept, so that no other has its hash.
+fn is_token_put(rt: &impl Abort, alloc: Global, tables: &mut Tables) -> bool
+    requires { tables.old.tokens ≡ map.empty }
+{
+    tables
+        .put_token(record(rt, alloc, 5, "7", TOKEN), 0)
+        .is_ok()
+}
+
+/// Whether a share code is put where none is kept, so that no other has its hash.
+fn is_code_put(rt: &impl Abort, alloc: Global, tables: &mut Tables) -> bool
+    requires { tables.old.codes ≡ map.empty }
+{
+    tables.put_code(record(rt, alloc, 9, "3", CODE), 0).is_ok()
+}
+
+/// Whether rows of the kinds are put that are found by their keys.
+fn are_keyed_put(rt: &impl Abort, alloc: Global, tables: &mut Tables) -> bool {
+    let target = "http://127.0.0.1:9001";
+    let server = r#"{"created":1,"last_activity":null,"started":null}"#;
+    let client = r#"{"hash":"h","redirect_uri":"/r"}"#;
+    let code =
+        r#"{"client":"service:idle","expires_at":2,"owner":"ann","redirect_uri":"/r","token":null}"#;
+    let server = tables.put_server(record(rt, alloc, 6, "ann/", server), 0);
+    let lease = tables.put_lease(record(rt, alloc, 7, target, r#"{"server":"ann/"}"#), 0);
+    let share = tables.put_share(record(rt, alloc, 8, "ann/x,user:bob", SHARE), 0);
+    let client = tables.put_client(record(rt, alloc, 10, "service:idle", client), 0);
+    let code = tables.put_grant_code(record(rt, alloc, 11, "ab", code), 0);
+    let next = tables.put_next(record(rt, alloc, 12, "token", r#"{"next":1}"#), 0);
+    server.is_ok() & lease.is_ok() & share.is_ok() & client.is_ok() & code.is_ok() & next.is_ok()
+}
+
+/// Whether rows of the further kinds that have a count are put.
+fn are_counted_put(rt: &impl Abort, alloc: Global, tables: &mut Tables) -> bool {
+    let user = r#"{"admin":false,"created":1,"last_activity":null}"#;
+    let role = r#"{"groups":[],"scopes":["self"],"services":[],"users":["ann"]}"#;
+    let user = tables.put_user(record(rt, alloc, 1, "ann", user), 0);
+    let group = tables.put_group(record(rt, alloc, 2, "lab", r#"{"users":["ann"]}"#), 0);
+    let service = tables.put_service(record(rt, alloc, 3, "idle", "{}"), 0);
+    let role = tables.put_role(record(rt, alloc, 4, "tutor", role), 0);
+    user.is_ok() & group.is_ok() & service.is_ok() & role.is_ok()
+}
+
+/// Whether there is one row of each kind that has a count.
+fn are_counted(tables: &Tables) -> bool {
+    (tables.count_of_users() == 1)
+        & (tables.count_of_groups() == 1)
+        & (tables.count_of_services() == 1)
+        & (tables.count_of_roles() == 1)
+        & (tables.count_of_tokens() == 1)
+}
+
+#[test]
+fn a_row_of_each_kind(rt: HostRuntime) {
+    let mut tables = no_rows(&rt, rt.alloc(), &LIMITS);
+    assert!(rt; is_token_put(&rt, rt.alloc(), &mut tables));
+    assert!(rt; are_keyed_put(&rt, rt.alloc(), &mut tables));
+    assert!(rt; are_counted_put(&rt, rt.alloc(), &mut tables));
+    assert!(rt; are_counted(&tables));
+    drop(tables);
+}
+
+fn is_shown(rt: &impl Abort, alloc: Global, body: Result<Body, AllocError>, text: &str) -> bool {
+    let body = body.expect(rt, "there is memory");
+    body_text(alloc, &body)
+        .expect(rt, "there is memory")
+        .as_slice()
+        == text.as_bytes()
+}
+
+#[test]
+fn bodies_of_tokens_shares_and_codes(rt: HostRuntime) {
+    let alloc = rt.alloc();
+    let token: Token = record(&rt, alloc, 5, "7", TOKEN);
+    assert!(rt; is_shown(&rt, alloc, token_body(alloc, &token), SHOWN_TOKEN));
+    assert!(rt; is_shown(&rt, alloc, new_token_body(alloc, &token, "t"), NEW_TOKEN));
+    drop(token);
+    let share: Share = record(&rt, alloc, 8, "ann/x,user:bob", SHARE);
+    assert!(rt; is_shown(&rt, alloc, share_body(alloc, &share), SHOWN_SHARE));
+    drop(share);
+    let code: ShareCode = record(&rt, alloc, 9, "3", CODE);
+    assert!(rt; is_shown(&rt, alloc, code_body(alloc, &code), SHOWN_CODE));
+    assert!(rt; is_shown(&rt, alloc, new_code_body(alloc, &code, "c"), NEW_CODE));
+    drop(code);
+}
+
+#[test]
+fn a_share_code_is_put(rt: HostRuntime) {
+    let mut tables = no_rows(&rt, rt.alloc(), &LIMITS);
+    assert!(rt; is_code_put(&rt, rt.alloc(), &mut tables));
+    drop(tables);
+}
