@@ -115,8 +115,8 @@ change_kept rs rows t puts removals h =
     (rows_kept (removals_of rs) (after_items (map item_of (puts_of rs)) rows) (rows_done (puts_of rs) t) removals (rows_kept (puts_of rs) rows t puts h))
 
 -- the same rows
-pub same_kept : (before after : Rows) (t : State) → AreSame after before → Keeps before t → Keeps after t
-same_kept before after t same h = record {
+pub same_kept : (kept kept' : Rows) (t : State) → AreSame kept' kept → Keeps kept t → Keeps kept' t
+same_kept kept kept' t same h = record {
   exactly = λ kind name text. (λ is. (h.exactly kind name text).0 (sym (same kind name) ∙ is), λ x. same kind name ∙ (h.exactly kind name text).1 x);
   keys = h.keys;
 }
