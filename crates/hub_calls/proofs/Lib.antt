@@ -1,3 +1,9 @@
+pub mod Listing
 pub mod Putting
 pub mod Ruling
 pub mod AddingUsers
+pub mod Statuses
+pub mod UserCalls
+pub mod GroupCalls
+pub mod ServiceCalls
+pub mod RoleCalls

@@ -12,8 +12,9 @@ use Rattle.hub_view.specs.Pages.{paged_list}
 use Rattle.hub_view.specs.declared.pages.Page.{Page}
 use Rattle.admin_rules.specs.Users.{add_users, set_admin, unkept_users}
 use Rattle.admin_rules.specs.Users as rules
+use Rattle.hub_tables.specs.Lookups.{roles_naming_service}
 use Rattle.hub_machine.specs.State.{Hub, has_live_server}
-use Rattle.hub_calls.specs.Facts.{facts_of, roles_of_service, users_shown, user_at}
+use Rattle.hub_calls.specs.Facts.{facts_of, users_shown, user_at}
 use Rattle.hub_machine.specs.Replies.{Answer, gives, good}
 use Rattle.hub_calls.specs.Calling.{by_rules, done}
 
@@ -36,7 +37,7 @@ identity_of_user may s k server None = nothing
 identity_of_user may s k server (Some u) = user_identity may (facts_of s u) k.scopes server
 
 abbrev pub identity_of_service : Rights → Hub → Token → Option ServerKey → List ℕ → Json
-identity_of_service may s k server v = service_identity may v (roles_of_service s.tables v) k.scopes server
+identity_of_service may s k server v = service_identity may v (roles_naming_service s.tables v) k.scopes server
 
 abbrev pub identity : Rights → Hub → Token → Option ServerKey → Owner → Json
 identity may s k server (Own.User u) = identity_of_user may s k server (get s.tables.users u)

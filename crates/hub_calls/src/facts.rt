@@ -1,25 +1,25 @@
-//! What bodies show of the tables: the groups and roles of users, services and groups.
+//! What bodies show of a user: the groups, the roles and the servers.
 ghost use Rattle.std.specs.Prelude.{◌≡◌, ◌++◌, OnOk, IfOk};
+ghost use Rattle.std.specs.List.{flat_map};
 ghost use Rattle.hub_kit.specs.Names.{IsName};
 ghost use Rattle.hub_tables.specs.Lookups.{groups_of};
 ghost use Rattle.hub_calls.specs.Facts as spec;
+ghost use Rattle.hub_calls.specs.Facts.{facts_at};
 ghost use Rattle.std.specs.FinMap as map;
 
 use hub_kit::list::List;
-use hub_kit::names::{GroupName, RoleName, ServiceName, UserName, read_role};
+use hub_kit::names::{GroupName, RoleName, ServerKey, UserName, read_role};
+use hub_machine::machine::Machine;
 use hub_rows::records::User;
 use hub_tables::tables::Tables;
+use hub_view::{ServerFacts, UserFacts};
 use keyed_rows::sorted::Sorted;
 use roles::naming::names_held;
 use scope_filters::holder::Owner;
 use std::alloc::{AllocError, Global};
 
 /// The names of the groups that a user is in, in order.
-pub fn groups_of(
-    alloc: Global,
-    tables: &Tables,
-    user: &UserName,
-) -> Result<List<GroupName>, AllocError>
+fn groups_of(alloc: Global, tables: &Tables, user: &UserName) -> Result<List<GroupName>, AllocError>
     ensures { IfOk result (λ names. names ≡ groups_of tables.now user.now) }
 {
     let names = tables.groups_of(alloc, user)?;
@@ -62,11 +62,7 @@ fn push_fixed(names: &mut Vec<RoleName>, admin: bool) -> Result<(), AllocError>
 }
 
 /// The names of the roles that a user holds, in order.
-pub fn roles_of_user(
-    alloc: Global,
-    tables: &Tables,
-    user: &User,
-) -> Result<List<RoleName>, AllocError>
+fn roles_of_user(alloc: Global, tables: &Tables, user: &User) -> Result<List<RoleName>, AllocError>
     ensures { IfOk result (λ names. names ≡ spec.roles_of_user tables.now user.now) }
 {
     let mut names = Vec::new(alloc);
@@ -76,24 +72,61 @@ pub fn roles_of_user(
     Ok(List::from_vec(Vec::from_slice(alloc, sorted.as_slice())?))
 }
 
-/// The names of the roles that a service holds, in order.
-pub fn roles_of_service(
-    alloc: Global,
-    tables: &Tables,
-    service: &ServiceName,
-) -> Result<Vec<RoleName>, AllocError>
-    ensures { IfOk result (λ names. names.items ≡ spec.roles_of_service tables.now service.now) }
+/// Adds the server of a key and where it stands, if it is kept.
+fn push_server(
+    servers: &mut Vec<ServerFacts>,
+    hub: &Machine,
+    key: &ServerKey,
+) -> Result<(), AllocError>
+    ensures { OnOk result (servers.new.items ≡ servers.old.items ++ facts_at hub.now.lives (map.get hub.now.tables.servers key.now)) }
 {
-    tables.roles_naming_service(alloc, service)
+    if let Some(row) = hub.tables().server(key) {
+        servers.push(ServerFacts {
+            row: *row,
+            life: hub.lives().life_of(&row.key),
+        })?;
+    }
+    Ok(())
 }
 
-/// The names of the roles that a group holds, in order.
-pub fn roles_of_group(
+/// The servers of some keys that are kept, and where they stand.
+fn servers_at(
     alloc: Global,
-    tables: &Tables,
-    group: &GroupName,
-) -> Result<Vec<RoleName>, AllocError>
-    ensures { IfOk result (λ names. names.items ≡ spec.roles_of_group tables.now group.now) }
+    hub: &Machine,
+    keys: &[ServerKey],
+) -> Result<Vec<ServerFacts>, AllocError>
+    ensures { IfOk result (λ servers. servers.items ≡ flat_map (λ key. facts_at hub.now.lives (map.get hub.now.tables.servers key)) keys.now) }
 {
-    tables.roles_naming_group(alloc, group)
+    let mut servers = Vec::new(alloc);
+    for key in keys {
+        push_server(&mut servers, hub, key)?;
+    }
+    Ok(servers)
+}
+
+/// The servers of a user, and where they stand. It walks over these alone.
+fn servers_of(
+    alloc: Global,
+    hub: &Machine,
+    user: &UserName,
+) -> Result<List<ServerFacts>, AllocError>
+    ensures { IfOk result (λ servers. servers ≡ spec.servers_of hub.now user.now) }
+{
+    let tables = hub.tables();
+    tables.own_keys();
+    let keys = tables.servers_of(alloc, user)?;
+    let servers = servers_at(alloc, hub, keys.as_slice())?;
+    Ok(List::from_vec(servers))
+}
+
+/// What is shown of a user, who may be about to be put.
+pub fn facts_of(alloc: Global, hub: &Machine, user: &User) -> Result<UserFacts, AllocError>
+    ensures { IfOk result (λ facts. facts ≡ spec.facts_of hub.now user.now) }
+{
+    Ok(UserFacts {
+        user: *user,
+        groups: groups_of(alloc, hub.tables(), &user.name)?,
+        roles: roles_of_user(alloc, hub.tables(), user)?,
+        servers: servers_of(alloc, hub, &user.name)?,
+    })
 }

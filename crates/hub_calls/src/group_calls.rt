@@ -1,20 +1,19 @@
 //! The calls on groups.
-ghost use Rattle.std.specs.Prelude.{◌≡◌, [], OnOk, IfOk};
+ghost use Rattle.std.specs.Prelude.{◌≡◌, IfOk};
 ghost use Rattle.std.specs.FinMap as map;
 ghost use Rattle.std.specs.Option.{option_copied};
 ghost use Rattle.hub_view.specs.Body.{body_tokens};
-ghost use Rattle.hub_view.specs.Pages.{after};
 ghost use Rattle.admin_rules.specs.Rules as rules;
 ghost use Rattle.hub_machine.specs.Replies.{good};
 ghost use Rattle.hub_machine.specs.Answers.{answer_view};
 ghost use Rattle.hub_calls.specs.Calling.{after_rows, by_rules};
-ghost use Rattle.hub_calls.specs.Facts.{group_at, groups_shown};
+ghost use Rattle.hub_calls.specs.Facts.{group_at};
 ghost use Rattle.hub_calls.specs.Puts.{PutsGroup, group_put, with_put_group};
 ghost use Rattle.hub_calls.specs.Rights.{may_of};
 ghost use Rattle.hub_calls.specs.Groups as spec;
 
-use crate::bodies::{allows, group_at, group_body, names_are_own, show_group};
-use crate::lists::listed;
+use crate::bodies::{group_at, group_body};
+use crate::lists::list_of;
 use crate::ruled::{answered, carried, refused};
 use admin_rules::groups;
 use admin_rules::refusals::RuleRefusal;
@@ -24,9 +23,8 @@ use hub_machine::machine::Machine;
 use hub_rows::changes::RowChange;
 use hub_rows::records::Group;
 use hub_rows::rows::Row;
-use hub_view::{Body, Listing, Page};
+use hub_view::{Body, Page};
 use scope_filters::grant::Grant;
-use scope_filters::object::Object;
 use scope_names::action::Action;
 use std::alloc::{AllocError, Global};
 
@@ -49,27 +47,18 @@ pub fn get_groups(
 ) -> Result<Answer, AllocError>
     ensures { IfOk result (λ answer. answer_view answer ≡ spec.get_groups hub.now (may_of hub.now rights.now) page) }
 {
-    let mut list = Listing::new(alloc, page);
-    list_groups(alloc, hub, rights, &mut list)?;
-    listed(alloc, list, "/groups")
-}
-
-/// Shows the groups that the caller may list.
-fn list_groups(
-    alloc: Global,
-    hub: &Machine,
-    rights: &Grant,
-    list: &mut Listing,
-) -> Result<(), AllocError>
-    ensures { OnOk result (after list.new [] ≡ after list.old (groups_shown (may_of hub.now rights.now) hub.now (map.values hub.now.tables.groups))) }
-{
-    for group in hub.tables().groups() {
-        let object = Object::Group(group.name);
-        if allows(hub, rights, Action::ListGroups, &object) {
-            show_group(alloc, hub, rights, list, group)?;
-        }
-    }
-    Ok(())
+    let tables = hub.tables();
+    tables.own_keys();
+    let rows = tables.groups_by_name();
+    list_of(
+        alloc,
+        hub,
+        rights,
+        Action::ListGroups,
+        rows,
+        page,
+        "/groups",
+    )
 }
 
 /// `GET /groups/{group}`
@@ -167,7 +156,7 @@ pub fn join_group(
     ensures { IfOk result (λ answer. answer_view answer ≡ spec.join_group hub.now (may_of hub.now rights.now) group.now users.now) }
 {
     let tables = hub.tables();
-    names_are_own(tables);
+    tables.own_keys();
     let rows = groups::join_group(alloc, tables, group, users);
     answer_of_group(alloc, hub, rights, group, 200, rows)
 }
@@ -183,7 +172,7 @@ pub fn leave_group(
     ensures { IfOk result (λ answer. answer_view answer ≡ spec.leave_group hub.now (may_of hub.now rights.now) group.now users.now) }
 {
     let tables = hub.tables();
-    names_are_own(tables);
+    tables.own_keys();
     let rows = groups::leave_group(alloc, tables, group, users);
     answer_of_group(alloc, hub, rights, group, 200, rows)
 }

@@ -1,12 +1,12 @@
 //! The calls on roles.
-ghost use Rattle.std.specs.Prelude.{◌≡◌, [], map as over, OnOk, IfOk, if◌then◌else◌};
+ghost use Rattle.std.specs.Prelude.{◌≡◌, map as over, IfOk, if◌then◌else◌};
 ghost use Rattle.std.specs.FinMap as map;
-ghost use Rattle.hub_view.specs.Pages.{after};
-ghost use Rattle.hub_view.specs.Records.{role_body};
+ghost use Rattle.hub_view.specs.Body.{bodies};
 ghost use Rattle.hub_machine.specs.Answers.{answer_view};
+ghost use Rattle.hub_calls.specs.Facts.{role_at};
 ghost use Rattle.hub_calls.specs.Roles as spec;
 
-use crate::bodies::{role_at, show_role};
+use crate::bodies::role_at;
 use crate::lists::listed;
 use crate::ruled::{answered, carried, refused};
 use admin_rules::roles;
@@ -16,9 +16,10 @@ use hub_machine::answer::{Answer, gives};
 use hub_machine::machine::Machine;
 use hub_rows::records::Role;
 use hub_tables::tables::Tables;
-use hub_view::{Listing, Page, role_body};
+use hub_view::{Body, Page, part_of, role_body};
 use keyed_rows::sorted::Sorted;
 use scope_filters::scope::RawScope;
+use scope_meet::admitted::Admitted;
 use std::alloc::{AllocError, Global};
 
 /// The role with these lists, its names in order.
@@ -45,18 +46,23 @@ pub fn role_of(
 pub fn get_roles(alloc: Global, hub: &Machine, page: Page) -> Result<Answer, AllocError>
     ensures { IfOk result (λ answer. answer_view answer ≡ spec.get_roles hub.now page) }
 {
-    let mut list = Listing::new(alloc, page);
-    list_roles(alloc, hub, &mut list)?;
-    listed(alloc, list, "/roles")
+    let tables = hub.tables();
+    tables.own_keys();
+    let rows = tables.roles_by_name();
+    let part = part_of(alloc, rows, &Admitted::Every, page)?;
+    let bodies = roles_at(alloc, hub, part.names.as_slice())?;
+    listed(alloc, page, part.total, bodies, "/roles")
 }
 
-fn list_roles(alloc: Global, hub: &Machine, list: &mut Listing) -> Result<(), AllocError>
-    ensures { OnOk result (after list.new [] ≡ after list.old (over role_body (map.values hub.now.tables.roles))) }
+/// The bodies of some roles.
+fn roles_at(alloc: Global, hub: &Machine, names: &[RoleName]) -> Result<Vec<Body>, AllocError>
+    ensures { IfOk result (λ made. bodies made.items ≡ over (role_at hub.now) names.now) }
 {
-    for role in hub.tables().roles() {
-        show_role(alloc, list, role)?;
+    let mut bodies = Vec::new(alloc);
+    for name in names {
+        bodies.push(role_at(alloc, hub, name)?)?;
     }
-    Ok(())
+    Ok(bodies)
 }
 
 /// `GET /roles/{role}`

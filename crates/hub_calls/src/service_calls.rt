@@ -1,22 +1,19 @@
 //! The calls on services.
-ghost use Rattle.std.specs.Prelude.{◌≡◌, [], OnOk, IfOk};
+ghost use Rattle.std.specs.Prelude.{◌≡◌, IfOk};
 ghost use Rattle.std.specs.FinMap as map;
-ghost use Rattle.hub_view.specs.Pages.{after};
 ghost use Rattle.hub_machine.specs.Answers.{answer_view};
-ghost use Rattle.hub_calls.specs.Facts.{services_shown};
 ghost use Rattle.hub_calls.specs.Rights.{may_of};
 ghost use Rattle.hub_calls.specs.Groups as spec;
 
-use crate::bodies::{allows, service_body, show_service};
-use crate::lists::listed;
+use crate::bodies::service_body;
+use crate::lists::list_of;
 use crate::ruled::{answered, carried, refused};
 use admin_rules::services;
 use hub_kit::names::ServiceName;
 use hub_machine::answer::{Answer, gives};
 use hub_machine::machine::Machine;
-use hub_view::{Listing, Page};
+use hub_view::Page;
 use scope_filters::grant::Grant;
-use scope_filters::object::Object;
 use scope_names::action::Action;
 use std::alloc::{AllocError, Global};
 
@@ -29,27 +26,18 @@ pub fn get_services(
 ) -> Result<Answer, AllocError>
     ensures { IfOk result (λ answer. answer_view answer ≡ spec.get_services hub.now (may_of hub.now rights.now) page) }
 {
-    let mut list = Listing::new(alloc, page);
-    list_services(alloc, hub, rights, &mut list)?;
-    listed(alloc, list, "/services")
-}
-
-/// Shows the services that the caller may list.
-fn list_services(
-    alloc: Global,
-    hub: &Machine,
-    rights: &Grant,
-    list: &mut Listing,
-) -> Result<(), AllocError>
-    ensures { OnOk result (after list.new [] ≡ after list.old (services_shown (may_of hub.now rights.now) hub.now (map.values hub.now.tables.services))) }
-{
-    for service in hub.tables().services() {
-        let object = Object::Service(service.name);
-        if allows(hub, rights, Action::ListServices, &object) {
-            show_service(alloc, hub, rights, list, &service.name)?;
-        }
-    }
-    Ok(())
+    let tables = hub.tables();
+    tables.own_keys();
+    let rows = tables.services_by_name();
+    list_of(
+        alloc,
+        hub,
+        rights,
+        Action::ListServices,
+        rows,
+        page,
+        "/services",
+    )
 }
 
 /// `GET /services/{service}`

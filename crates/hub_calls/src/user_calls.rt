@@ -1,22 +1,21 @@
 //! The calls on the hub, the identity and users.
-ghost use Rattle.std.specs.Prelude.{◌≡◌, ◌++◌, true, [], length, codes, OnOk, IfOk};
+ghost use Rattle.std.specs.Prelude.{◌≡◌, ◌++◌, true, length, codes, OnOk, IfOk};
 ghost use Rattle.std.specs.Option.{option_copied};
 ghost use Rattle.std.specs.FinMap as map;
 ghost use Rattle.hub_view.specs.Json as json;
 ghost use Rattle.hub_view.specs.Body.{body_tokens, members};
-ghost use Rattle.hub_view.specs.Pages.{after};
 ghost use Rattle.admin_rules.specs.Rules as rules;
 ghost use Rattle.hub_machine.specs.Replies.{good};
 ghost use Rattle.hub_machine.specs.Answers.{answer_view};
 ghost use Rattle.hub_calls.specs.Calling.{after_rows, by_rules};
-ghost use Rattle.hub_calls.specs.Facts.{user_at, users_shown};
+ghost use Rattle.hub_calls.specs.Facts.{user_at};
 ghost use Rattle.hub_calls.specs.Puts.{PutsUser, user_put, with_put_user, bodies_put};
 ghost use Rattle.hub_calls.specs.Rights.{may_of};
 ghost use Rattle.hub_calls.specs.Users as spec;
 
-use crate::bodies::{allows, facts_of, names_are_own, show_user, user_at, user_body};
-use crate::facts::roles_of_service;
-use crate::lists::listed;
+use crate::bodies::{user_at, user_body};
+use crate::facts::facts_of;
+use crate::lists::list_of;
 use crate::ruled::{answered, carried, refused};
 use admin_rules::refusals::RuleRefusal;
 use admin_rules::users;
@@ -28,10 +27,9 @@ use hub_machine::machine::Machine;
 use hub_rows::changes::RowChange;
 use hub_rows::records::{Token, User};
 use hub_rows::rows::Row;
-use hub_view::{Body, Listing, Page, add_member, line, service_identity, user_identity};
+use hub_view::{Body, Page, add_member, line, service_identity, user_identity};
 use scope_filters::grant::Grant;
 use scope_filters::holder::Owner;
-use scope_filters::object::Object;
 use scope_names::action::Action;
 use std::alloc::{AllocError, Global};
 
@@ -111,7 +109,7 @@ fn identity_of_service(
 ) -> Result<Body, AllocError>
     ensures { IfOk result (λ body. body_tokens body ≡ spec.identity_of_service (may_of hub.now rights.now) hub.now token.now server.now service.now) }
 {
-    let roles = roles_of_service(alloc, hub.tables(), service)?;
+    let roles = hub.tables().roles_naming_service(alloc, service)?;
     service_identity(
         alloc,
         hub.tables(),
@@ -151,27 +149,10 @@ pub fn get_users(
 ) -> Result<Answer, AllocError>
     ensures { IfOk result (λ answer. answer_view answer ≡ spec.get_users hub.now (may_of hub.now rights.now) page) }
 {
-    let mut list = Listing::new(alloc, page);
-    list_users(alloc, hub, rights, &mut list)?;
-    listed(alloc, list, "/users")
-}
-
-/// Shows the users that the caller may list.
-fn list_users(
-    alloc: Global,
-    hub: &Machine,
-    rights: &Grant,
-    list: &mut Listing,
-) -> Result<(), AllocError>
-    ensures { OnOk result (after list.new [] ≡ after list.old (users_shown (may_of hub.now rights.now) hub.now (map.values hub.now.tables.users))) }
-{
-    for user in hub.tables().users() {
-        let object = Object::User(user.name);
-        if allows(hub, rights, Action::ListUsers, &object) {
-            show_user(alloc, hub, rights, list, user)?;
-        }
-    }
-    Ok(())
+    let tables = hub.tables();
+    tables.own_keys();
+    let rows = tables.users_by_name();
+    list_of(alloc, hub, rights, Action::ListUsers, rows, page, "/users")
 }
 
 /// `GET /users/{user}`
@@ -300,7 +281,7 @@ pub fn patch_user(
     ensures { IfOk result (λ answer. answer_view answer ≡ spec.patch_user hub.now (may_of hub.now rights.now) user.now admin) }
 {
     let tables = hub.tables();
-    names_are_own(tables);
+    tables.own_keys();
     let rows = users::set_admin(alloc, tables, user, admin);
     answer_of_user(alloc, hub, rights, user, 200, rows)
 }

@@ -1,5 +1,5 @@
 pub mod Arms
 pub mod Chains
 pub mod Items
-pub mod PageLaws
+pub mod KeptNames
 pub mod Tokens

@@ -1,5 +1,7 @@
 -- Lists in pages.
-use Rattle.std.specs.Prelude.{ℕ, ◌+◌, ◌-◌, Bool, ◌&&◌, nat_le, nat_lt, min, if◌then◌else◌, List, [], ◌∷◌, ◌++◌, length, take, drop, decimal, codes, Option, Some, None}
+use Rattle.std.specs.Prelude.{ℕ, ◌+◌, Bool, nat_le, min, filter, if◌then◌else◌, List, [], ◌∷◌, ◌++◌, length, take, drop, decimal, codes, Option, Some, None}
+use Rattle.std.specs.FinMap.{FinMap, keys}
+use Rattle.std.specs.declared.cmp.Ordering.{Ordering}
 use Rattle.hub_view.specs.Json.{Json, line, whole, maybe, items, pairs}
 use Rattle.hub_view.specs.declared.pages.Page.{Page}
 
@@ -37,34 +39,14 @@ page_body path p total part = if p.paged then pairs (
     ∷ (codes "items", items part)
     ∷ []) else items part
 
+-- the keys of the rows that pass a test, in order
+abbrev pub kept : {K X : Type 0} {R : K → K → Ordering} → (K → Bool) → FinMap R X → List K
+kept passes rows = filter passes (keys rows)
+
+-- those of a list that stand in the page
+abbrev pub in_page : {A : Type 0} → Page → List A → List A
+in_page p all = take (most p) (drop p.offset all)
+
 -- a list of shown objects in a page. The path begins behind `/hub/api`
 abbrev pub paged_list : List ℕ → Page → List Json → Json
-paged_list path p shown = page_body path p (length shown) (take (most p) (drop p.offset shown))
-
--- ---- a list as far as it has been shown
-
-pub record Shown : Type 0 where
-  pub page : Page
-  -- the objects so far
-  pub total : ℕ
-  -- those of them that stand in the page
-  pub part : List Json
-
-abbrev pub nothing_shown : Page → Shown
-nothing_shown p = record { page = p; total = 0; part = [] }
-
--- one object more, which doesn't stand in the page
-abbrev pub counted : Shown → Shown
-counted s = record { page = s.page; total = s.total + 1; part = s.part }
-
--- the next object stands in the page
-abbrev pub is_in_page : Shown → Bool
-is_in_page s = nat_le s.page.offset s.total && nat_lt (s.total - s.page.offset) (most s.page)
-
--- once these objects come too
-abbrev pub after : Shown → List Json → Shown
-after s more = record {
-  page = s.page;
-  total = s.total + length more;
-  part = s.part ++ take (most s.page - (s.total - s.page.offset)) (drop (s.page.offset - s.total) more);
-}
+paged_list path p shown = page_body path p (length shown) (in_page p shown)

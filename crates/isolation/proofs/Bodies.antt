@@ -18,13 +18,13 @@ use Rattle.hub_rows.specs.declared.records.ServerRow.{ServerRow}
 use Rattle.hub_rows.specs.declared.records.Token.{Token}
 use Rattle.hub_rows.specs.declared.records.User.{User}
 use Rattle.hub_tables.specs.Own.{AreOwn}
-use Rattle.hub_tables.specs.Lookups.{groups_of}
+use Rattle.hub_tables.specs.Lookups.{groups_of, roles_naming_group, roles_naming_service}
 use Rattle.hub_view.specs.Json.{Json, Member, line, lines, truth, maybe, pairs, member}
 use Rattle.hub_view.specs.Servers.{at, is_live, is_ready, pending, server_url}
 use Rattle.hub_view.specs.Fields as view
 use Rattle.hub_view.specs.Fields.{Rights, is_shown, named_server, shown_servers, servers_member, user_members, has_any}
 use Rattle.hub_machine.specs.State.{Hub, life_of}
-use Rattle.hub_calls.specs.Facts.{facts_of, servers_of, servers_among, roles_of_user, roles_of_group, roles_of_service, user_body, group_body}
+use Rattle.hub_calls.specs.Facts.{facts_of, servers_of, servers_among, roles_of_user, user_body, group_body}
 use Rattle.hub_view.specs.declared.facts.ServerFacts.{ServerFacts}
 use Rattle.isolation.specs.Sight.{May, ServerSeen, seen_row, server_seen, server, SameUser, SameGroup, SameService}
 use Rattle.isolation.proofs.Picked.{shown, same_shown}
@@ -173,18 +173,18 @@ module _ (k : Token) (s t : Hub) (may : Rights) (says : Says s k may) (own : Are
   same_group_body : (x y : Group) → x.name ≡ y.name → SameGroup k s t x.name x y → group_body may s x ≡ group_body may t y
   same_group_body x y name seen =
       let roles = field (may A.ReadRolesGroups (Ob.Group x.name)) (may A.ReadRolesGroups (Ob.Group y.name)) (codes "roles")
-      (lines (roles_of_group s.tables x.name)) (lines (roles_of_group t.tables y.name)) (ap (λ g. may A.ReadRolesGroups (Ob.Group g)) name)
-      (λ m. ap lines (seen.roles (says _ _ m) ∙ ap (roles_of_group t.tables) name)) in
+      (lines (roles_naming_group s.tables x.name)) (lines (roles_naming_group t.tables y.name)) (ap (λ g. may A.ReadRolesGroups (Ob.Group g)) name)
+      (λ m. ap lines (seen.roles (says _ _ m) ∙ ap (roles_naming_group t.tables) name)) in
       let users = field (may A.ReadGroups (Ob.Group x.name)) (may A.ReadGroups (Ob.Group y.name)) (codes "users") (lines x.users) (lines y.users)
       (ap (λ g. may A.ReadGroups (Ob.Group g)) name) (λ m. ap lines (seen.users (says _ _ m))) in
       λ i. pairs (member (may A.ReadGroupsName (Ob.Group (name i))) (codes "kind") (line (codes "group"))
       ++ member (may A.ReadGroupsName (Ob.Group (name i))) (codes "name") (line (name i)) ++ roles i ++ users i)
 
   pub same_service_members : (v : List ℕ) (named : Bool) → SameService k s t v
-      → view.service_members may named v (roles_of_service s.tables v) ≡ view.service_members may named v (roles_of_service t.tables v)
+      → view.service_members may named v (roles_naming_service s.tables v) ≡ view.service_members may named v (roles_naming_service t.tables v)
   same_service_members v named seen =
       let roles = field (may A.ReadRolesServices (Ob.Service v)) (may A.ReadRolesServices (Ob.Service v)) (codes "roles")
-      (lines (roles_of_service s.tables v)) (lines (roles_of_service t.tables v)) refl (λ m. ap lines (seen.roles (says _ _ m))) in
+      (lines (roles_naming_service s.tables v)) (lines (roles_naming_service t.tables v)) refl (λ m. ap lines (seen.roles (says _ _ m))) in
       λ i. member (named || may A.ReadServicesName (Ob.Service v)) (codes "kind") (line (codes "service"))
       ++ member (named || may A.ReadServicesName (Ob.Service v)) (codes "name") (line v) ++ roles i
 

@@ -17,14 +17,13 @@ use Rattle.hub_rows.specs.declared.records.Group.{Group}
 use Rattle.hub_rows.specs.declared.records.ServerRow.{ServerRow}
 use Rattle.hub_rows.specs.declared.records.Token.{Token}
 use Rattle.hub_rows.specs.declared.records.User.{User}
-use Rattle.hub_tables.specs.Lookups.{is_admin_row}
+use Rattle.hub_tables.specs.Lookups.{is_admin_row, roles_naming_group}
 use Rattle.roles.specs.Rights.{scopes_held, roles_held, shares_received, admin_scopes, bare, context}
 use Rattle.hub_machine.specs.State.{Hub, Lives}
-use Rattle.hub_calls.specs.Facts.{roles_of_group}
 use Rattle.isolation.specs.Sight.{May, AsksUser, server, server_seen, SameUser, SameGroup, InBoth, SeesSame, with_users, with_servers, OtherRows, with_others}
 
 -- an object is as it is
-group_itself : (k : Token) (s t : Hub) (g : List ℕ) → roles_of_group s.tables g ≡ roles_of_group t.tables g → (o : Option Group) → InBoth (SameGroup k s t g) o o
+group_itself : (k : Token) (s t : Hub) (g : List ℕ) → roles_naming_group s.tables g ≡ roles_naming_group t.tables g → (o : Option Group) → InBoth (SameGroup k s t g) o o
 group_itself k s t g is None = tt
 group_itself k s t g is (Some x) = record { users = λ m. refl; roles = λ m. is }
 

@@ -19,12 +19,12 @@ use Rattle.hub_rows.specs.declared.records.ServerRow.{ServerRow}
 use Rattle.hub_rows.specs.declared.records.ShareCode.{ShareCode}
 use Rattle.hub_rows.specs.declared.records.Token.{Token}
 use Rattle.hub_rows.specs.declared.records.User.{User}
-use Rattle.hub_tables.specs.Lookups.{groups_of}
+use Rattle.hub_tables.specs.Lookups.{groups_of, roles_naming_group, roles_naming_service}
 use Rattle.roles.specs.Rights.{IsAllowed}
 use Rattle.hub_view.specs.Json.{Json}
 use Rattle.hub_view.specs.Servers.{is_live, is_ready, pending}
 use Rattle.hub_machine.specs.State.{Hub, Lives, life_of}
-use Rattle.hub_calls.specs.Facts.{roles_of_user, roles_of_group, roles_of_service}
+use Rattle.hub_calls.specs.Facts.{roles_of_user}
 
 -- the token may do it
 abbrev pub May : Hub → Token → Action → Object → Type 0
@@ -76,11 +76,11 @@ pub record SameUser (k : Token) (s t : Hub) (u : List ℕ) (x y : User) : Type 0
 
 pub record SameGroup (k : Token) (s t : Hub) (g : List ℕ) (x y : Group) : Type 0 where
   pub users : May s k A.ReadGroups (Ob.Group g) → x.users ≡ y.users
-  pub roles : May s k A.ReadRolesGroups (Ob.Group g) → roles_of_group s.tables g ≡ roles_of_group t.tables g
+  pub roles : May s k A.ReadRolesGroups (Ob.Group g) → roles_naming_group s.tables g ≡ roles_naming_group t.tables g
 
 pub record SameService (k : Token) (s t : Hub) (v : List ℕ) : Type 0 where
   pub there : contains_key s.tables.services v ≡ contains_key t.tables.services v
-  pub roles : May s k A.ReadRolesServices (Ob.Service v) → roles_of_service s.tables v ≡ roles_of_service t.tables v
+  pub roles : May s k A.ReadRolesServices (Ob.Service v) → roles_naming_service s.tables v ≡ roles_naming_service t.tables v
 
 -- there in both states, or in neither
 abbrev pub InBoth : {X : Type 0} → (X → X → Type 0) → Option X → Option X → Type 0

@@ -9,7 +9,7 @@ use Rattle.hub_calls.proofs.group_calls.join_group.Goals as goal
 
 pub answer_of_group-requires : goal.answer_of_group-requires
 answer_of_group-requires c =
-    says_rows _ c.join_group-rows.result (PutsGroup c.args.group.now) (λ rows. join_group_puts c.tables-tables.result.now c.args.group.now c.args.users.now rows (c.names_are_own.ensures.groups c.args.group.now)) c.join_group-rows.ensures.answer
+    says_rows _ c.join_group-rows.result (PutsGroup c.args.group.now) (λ rows. join_group_puts c.tables-tables.result.now c.args.group.now c.args.users.now rows (c.own_keys.ensures.groups c.args.group.now)) c.join_group-rows.ensures.answer
 
 pub returns : goal.returns
 returns c =

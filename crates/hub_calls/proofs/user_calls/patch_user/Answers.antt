@@ -5,7 +5,7 @@ use Rattle.hub_calls.proofs.user_calls.patch_user.Goals as goal
 
 pub answer_of_user-requires : goal.answer_of_user-requires
 answer_of_user-requires c =
-    says_rows _ c.set_admin-rows.result (PutsUser c.args.user.now) (λ rows. set_admin_puts c.tables-tables.result.now c.args.user.now c.args.admin rows (c.names_are_own.ensures.users c.args.user.now)) c.set_admin-rows.ensures.answer
+    says_rows _ c.set_admin-rows.result (PutsUser c.args.user.now) (λ rows. set_admin_puts c.tables-tables.result.now c.args.user.now c.args.admin rows (c.own_keys.ensures.users c.args.user.now)) c.set_admin-rows.ensures.answer
 
 pub returns : goal.returns
 returns c =
