@@ -1,29 +1,20 @@
 -- What the rules answer is no 503: that status is for a keeper's refusal alone.
-use Rattle.std.proofs.Common.{◌≡◌, ◌==◌, ℕ, Bool, true, false, not, cond, [], ◌∷◌, List, map, Option, refl, sym, ◌∙◌, subst, eq-eqb}
-use Rattle.std.specs.Prelude.{Some, None, Ok, Err}
-use Rattle.std.specs.FinMap.{contains_key}
-use Rattle.hub_rows.specs.declared.changes.RowChange.{RowChange}
-use Rattle.hub_rows.specs.declared.records.Role.{Role}
+use Rattle.std.proofs.Common.{◌≡◌, ◌==◌, ℕ, Bool, true, false, not, cond, [], ◌∷◌, List, Option, refl, sym, ◌∙◌, subst, eq-eqb}
+use Rattle.std.specs.Prelude.{Some, None}
 use Rattle.hub_rows.specs.declared.records.Token.{Token}
-use Rattle.admin_rules.specs.declared.refusals.RuleRefusal.{RuleRefusal}
-use Rattle.admin_rules.specs.declared.refusals.RuleRefusal.TheVariants as Rule
-use Rattle.admin_rules.specs.Rules as rules
-use Rattle.admin_rules.specs.Users as users
-use Rattle.admin_rules.specs.Groups as groups
-use Rattle.admin_rules.specs.Services as services
-use Rattle.admin_rules.specs.Roles as roles
 use Rattle.hub_view.specs.Fields.{Rights}
-use Rattle.hub_view.specs.Json.{items}
-use Rattle.hub_view.specs.Records.{role_body}
-use Rattle.hub_machine.specs.State.{Hub, has_live_server}
+use Rattle.hub_machine.specs.State.{Hub}
 use Rattle.hub_machine.specs.Apply.{is_past_trail}
 use Rattle.hub_machine.specs.Replies as replies
-use Rattle.hub_machine.specs.Replies.{Answer, refuses, gives, changes, Good, good, rows_then, if_so, reply_of, status_of}
+use Rattle.hub_machine.specs.Replies.{Answer, refuses, gives, changes, Good, if_so, reply_of, status_of}
 use Rattle.hub_machine.specs.Trails.{in_trail}
-use Rattle.hub_calls.specs.Calling.{after_rows, by_rules, done, refusal_of}
-use Rattle.hub_calls.specs.Facts.{user_at, group_at, service_body}
 use Rattle.hub_calls.specs.Roles.{role_of}
 use Rattle.hub_calls.specs.Users.{get_version}
+use Rattle.hub_calls.proofs.Statuses.{is_503}
+use Rattle.hub_calls.proofs.UserCalls as users
+use Rattle.hub_calls.proofs.GroupCalls as groups
+use Rattle.hub_calls.proofs.ServiceCalls as services
+use Rattle.hub_calls.proofs.RoleCalls as roles
 use Rattle.hub_core.specs.Needs.{needs, needs_token, is_there}
 use Rattle.hub_core.specs.Answer.{Judgement, row, if_there, action_rules, by_token, by_call, caller, is_past, named}
 use Rattle.hub_core.specs.History.{Answers}
@@ -36,52 +27,21 @@ use Rattle.hub_machine.specs.declared.call.Asked.{Asked}
 use Rattle.hub_machine.specs.declared.call.Call.{Call}
 use Rattle.hub_machine.specs.declared.call.Call.TheVariants.{PostUsers, PostUser, PatchUser, DeleteUser, PostGroup, DeleteGroup, JoinGroup, LeaveGroup, PostService, DeleteService, PutRole, DeleteRole}
 
--- whether an answer is said by a 503
-abbrev is_503 : Answer → Bool
-is_503 (refuses r) = status_of r == 503
-is_503 (gives g) = g.status == 503
-is_503 (changes c g) = g.status == 503
-
--- ---- the rules of the calls
-
-no_rule : (r : RuleRefusal) → (status_of (refusal_of r) == 503) ≡ false
-no_rule (Rule.Exists key) = refl
-no_rule Rule.LiveServers = refl
-no_rule (Rule.UnknownUser user) = refl
-no_rule Rule.FixedRole = refl
-no_rule (Rule.UnknownScope scope) = refl
-no_rule (Rule.UnknownHolder name) = refl
-no_rule (Rule.Full kind limit) = refl
-no_rule Rule.Memory = refl
-
-no_rows : (rows : List RowChange) (g : Good) → (g.status == 503) ≡ false → is_503 (rows_then rows g) ≡ false
-no_rows [] g h = h
-no_rows (r ∷ rest) g h = h
-
-ruled : (s : Hub) (made : rules.Answer) (reply : Hub → Good) → ((t : Hub) → ((reply t).status == 503) ≡ false) → is_503 (by_rules s made reply) ≡ false
-ruled s (Ok rows) reply h = no_rows rows (reply (after_rows rows s)) (h (after_rows rows s))
-ruled s (Err e) reply h = no_rule e
-
-put_or_made : (b : Bool) → (cond b 200 201 == 503) ≡ false
-put_or_made true = refl
-put_or_made false = refl
+-- ---- the calls
 
 no_row : (s : Hub) (may : Rights) (now : ℕ) (k : Token) (call : Call) → is_503 (row s may now k call) ≡ false
-no_row s may now k (PostUsers names admin) =
-    ruled s (users.add_users s.tables names admin now) (λ after. good 201 (items (map (user_at may after) (users.unkept_users s.tables names)))) (λ t. refl)
-no_row s may now k (PostUser user) = ruled s (users.add_users s.tables (user ∷ []) false now) (λ after. good 201 (user_at may after user)) (λ t. refl)
-no_row s may now k (PatchUser user admin) = ruled s (users.set_admin s.tables user admin) (λ after. good 200 (user_at may after user)) (λ t. refl)
-no_row s may now k (DeleteUser user) = ruled s (users.delete_user s.tables user (has_live_server s.lives user)) done (λ t. refl)
-no_row s may now k (PostGroup group names) = ruled s (groups.add_group s.tables group names) (λ after. good 201 (group_at may after group)) (λ t. refl)
-no_row s may now k (DeleteGroup group) = ruled s (groups.delete_group s.tables group) done (λ t. refl)
-no_row s may now k (JoinGroup group names) = ruled s (groups.join_group s.tables group names) (λ after. good 200 (group_at may after group)) (λ t. refl)
-no_row s may now k (LeaveGroup group names) = ruled s (groups.leave_group s.tables group names) (λ after. good 200 (group_at may after group)) (λ t. refl)
-no_row s may now k (PostService service) = ruled s (services.add_service s.tables service) (λ after. good 201 (service_body may after service)) (λ t. refl)
-no_row s may now k (DeleteService service) = ruled s (services.delete_service s.tables service) done (λ t. refl)
-no_row s may now k (PutRole role scopes us gs vs) =
-    let x : Role = role_of role scopes us gs vs in
-    ruled s (roles.put_role s.tables x) (λ after. good (cond (contains_key s.tables.roles role) 200 201) (role_body x)) (λ t. put_or_made (contains_key s.tables.roles role))
-no_row s may now k (DeleteRole role) = ruled s (roles.delete_role s.tables role) done (λ t. refl)
+no_row s may now k (PostUsers names admin) = users.post_users s may now names admin
+no_row s may now k (PostUser user) = users.post_user s may now user
+no_row s may now k (PatchUser user admin) = users.patch_user s may user admin
+no_row s may now k (DeleteUser user) = users.delete_user s user
+no_row s may now k (PostGroup group names) = groups.post_group s may group names
+no_row s may now k (DeleteGroup group) = groups.delete_group s group
+no_row s may now k (JoinGroup group names) = groups.join_group s may group names
+no_row s may now k (LeaveGroup group names) = groups.leave_group s may group names
+no_row s may now k (PostService service) = services.post_service s may service
+no_row s may now k (DeleteService service) = services.delete_service s service
+no_row s may now k (PutRole role scopes us gs vs) = roles.put_role s (role_of role scopes us gs vs)
+no_row s may now k (DeleteRole role) = roles.delete_role s role
 no_row s may now k _ = refl
 
 -- ---- the frame
