@@ -1,5 +1,5 @@
 -- What each step tells the seat that makes it. The word was n, and what the seat knows and has in hand goes from m to m'.
-use Rattle.std.specs.Prelude.{◌≡◌, ℕ, ◌%◌, true, List, [], ◌∷◌, Option, Some}
+use Rattle.std.specs.Prelude.{◌≡◌, ℕ, ◌%◌, ◌≤◌, true, List, [], ◌∷◌, Option, Some}
 use mathlib.Core.List.{IsPrefix}
 use Rattle.atomic_table.specs.Table.{Me, Step}
 use Rattle.desk.specs.declared.turn.SeatView.{SeatView}
@@ -17,10 +17,10 @@ module _ {B E A : Type 0} where
   settled st m n m' = (ys : List E) (qs : List (ℕ × E)) → m.0.stage ≡ Met ys qs
       → (m' ≡ (settled_as ys qs m.0, m.1)) × Agree m.0.seen ys × Apart m.0.mine qs × IsOrdered m'.0
 
-module _ {B E A : Type 0} (entries : B → List E) (base : B → A) where
-  -- the book begins with what the seat has seen, and is just that where the seat is alone
+module _ {B E A : Type 0} (entries : B → List E) (base : B → A) (faults : B → ℕ) where
+  -- the book begins with what the seat has seen and has told no fewer faults, and is just that where the seat is alone
   abbrev pub Finds : SeatView B E A → B → Type 0
-  Finds d b = IsPrefix d.seen (entries b) × (d.alone ≡ true → entries b ≡ d.seen) × (d.base ≡ Some (base b))
+  Finds d b = IsPrefix d.seen (entries b) × (d.alone ≡ true → entries b ≡ d.seen) × (d.base ≡ Some (base b)) × (d.faults ≤ faults b) × (d.alone ≡ true → faults b ≡ d.faults)
 
   -- where the word was even the seat has the turn and the book; where it was odd nothing happened
   abbrev pub taken : Step (Option B) → Me (Option B) (SeatView B E A) → ℕ → Me (Option B) (SeatView B E A) → Type 0

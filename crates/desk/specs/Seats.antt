@@ -1,17 +1,17 @@
 -- What a seat of the table knows, before and after each step.
-use Rattle.std.specs.Prelude.{ℕ, ◌+◌, Bool, false, ltb, List, [], ◌++◌, if◌then◌else◌, Option, None}
+use Rattle.std.specs.Prelude.{ℕ, ◌+◌, max, Bool, false, ltb, List, [], ◌++◌, if◌then◌else◌, Option, None}
 use Rattle.desk.specs.declared.turn.SeatView.{SeatView}
 use Rattle.desk.specs.declared.turn.Stage.TheVariants.{Idle, Met, Spent}
 use Rattle.desk.specs.OwnEntries.{StandIn, RisesFrom, added, merged, longer}
 
 module _ {B E A : Type 0} where
-  -- a seat that has this base, has seen this list and has made nothing
-  abbrev pub newcomer : Option A → List E → Bool → SeatView B E A
-  newcomer base seen alone = record { stage = Idle; base = base; seen = seen; mine = []; failed = 0; alone = alone }
+  -- a seat that has this base, has seen this list and this count of faults, and has made nothing
+  abbrev pub newcomer : Option A → List E → ℕ → Bool → SeatView B E A
+  newcomer base seen count alone = record { stage = Idle; base = base; seen = seen; mine = []; failed = 0; faults = count; alone = alone }
 
   -- a seat that was joined away
   abbrev pub spent : SeatView B E A
-  spent = record { stage = Spent; base = None; seen = []; mine = []; failed = 0; alone = false }
+  spent = record { stage = Spent; base = None; seen = []; mine = []; failed = 0; faults = 0; alone = false }
 
   -- a seat that isn't alone any more
   abbrev pub shared : SeatView B E A → SeatView B E A
@@ -19,11 +19,11 @@ module _ {B E A : Type 0} where
 
   -- the seat that is split from it
   abbrev pub split_off : SeatView B E A → SeatView B E A
-  split_off d = newcomer d.base d.seen false
+  split_off d = newcomer d.base d.seen d.faults false
 
   -- a seat that has met another, which is spent then
   abbrev pub met : SeatView B E A → SeatView B E A → SeatView B E A
-  met d e = record d { stage = Met e.seen e.mine; failed = d.failed + e.failed }
+  met d e = record d { stage = Met e.seen e.mine; failed = d.failed + e.failed; faults = max d.faults e.faults }
 
   -- a seat that has met one which had seen ys and made qs, and took them in
   abbrev pub settled_as : List E → List (ℕ × E) → SeatView B E A → SeatView B E A
@@ -41,5 +41,6 @@ after entries faults b b' d = record {
   seen = entries b';
   mine = d.mine ++ added (entries b) (entries b');
   failed = d.failed + (if ltb (faults b) (faults b') then 1 else 0);
+  faults = faults b';
   alone = d.alone;
 }

@@ -1,5 +1,5 @@
 -- The rule of the turn: what holds of the table between any two steps.
-use Rattle.std.specs.Prelude.{◌≡◌, ◌≢◌, ◌⊎◌, ℕ, ◌+◌, ◌*◌, Bool, true, false, List, length, slice_index, if◌then◌else◌, Option, Some}
+use Rattle.std.specs.Prelude.{◌≡◌, ◌≢◌, ◌⊎◌, ℕ, ◌+◌, ◌*◌, ◌≤◌, Bool, true, false, List, length, slice_index, if◌then◌else◌, Option, Some}
 use mathlib.Core.Option.{some}
 use mathlib.Core.List.{IsPrefix}
 use lib.ListN.{get_elem?}
@@ -24,47 +24,49 @@ module _ {B E A : Type 0} where
   abbrev pub Keeps : ℕ → SeatView B E A → Type 0
   Keeps n d = Owns n d.mine ⊎ MetOwns n d.stage
 
-  -- the seat j has seen the whole history, and each other one is spent
-  abbrev pub IsLone : List E → List (SeatView B E A) → ℕ → SeatView B E A → Type 0
-  IsLone history views j d = (d.seen ≡ history) × ((i : ℕ) (e : SeatView B E A) → get_elem? views i ≡ some e → i ≢ j → e.stage ≡ Spent)
+  -- the seat j has seen the whole history and the very count of faults, and each other one is spent
+  abbrev pub IsLone : List E → ℕ → List (SeatView B E A) → ℕ → SeatView B E A → Type 0
+  IsLone history count views j d = (d.seen ≡ history) × (d.faults ≡ count) × ((i : ℕ) (e : SeatView B E A) → get_elem? views i ≡ some e → i ≢ j → e.stage ≡ Spent)
 
   -- no place is kept by two seats
   abbrev pub AreApart : List (SeatView B E A) → Type 0
   AreApart views = (i j : ℕ) (d e : SeatView B E A) → get_elem? views i ≡ some d → get_elem? views j ≡ some e → i ≢ j → (n : ℕ) → Keeps n d → Keeps n e → ⊥
 
-module _ {B E A : Type 0} (entries : B → List E) (base : B → A) where
+module _ {B E A : Type 0} (entries : B → List E) (base : B → A) (faults : B → ℕ) where
   -- the first seat of a table with this book
   abbrev pub first : B → SeatView B E A
-  first b = newcomer (Some (base b)) (entries b) true
+  first b = newcomer (Some (base b)) (entries b) (faults b) true
 
-  -- the book b has this base and this history
-  abbrev pub Stands : A → List E → B → Type 0
-  Stands fixed history b = (entries b ≡ history) × (base b ≡ fixed)
+  -- the book b has this base, this history and this count of faults
+  abbrev pub Stands : A → List E → ℕ → B → Type 0
+  Stands fixed history count b = (entries b ≡ history) × (base b ≡ fixed) × (faults b ≡ count)
 
   -- what its stage says of a seat with this base and these own entries: the one that holds the turn knows the book, and what a seat has met stands in the history, apart from its own
-  abbrev pub IsAt : A → List E → Bool → ℕ → ℕ → Option A → List (ℕ × E) → Stage B E → Type 0
-  IsAt fixed history held holder seat known mine Idle = known ≡ Some fixed
-  IsAt fixed history held holder seat known mine (Held b) = (known ≡ Some fixed) × (held ≡ true) × (seat ≡ holder) × Stands fixed history b
-  IsAt fixed history held holder seat known mine (Met ys qs) = (known ≡ Some fixed) × IsPrefix ys history × StandIn ys qs × RisesFrom 0 qs × Apart mine qs
-  IsAt fixed history held holder seat known mine Spent = Unit {0}
+  abbrev pub IsAt : A → List E → ℕ → Bool → ℕ → ℕ → Option A → List (ℕ × E) → Stage B E → Type 0
+  IsAt fixed history count held holder seat known mine Idle = known ≡ Some fixed
+  IsAt fixed history count held holder seat known mine (Held b) = (known ≡ Some fixed) × (held ≡ true) × (seat ≡ holder) × Stands fixed history count b
+  IsAt fixed history count held holder seat known mine (Met ys qs) = (known ≡ Some fixed) × IsPrefix ys history × StandIn ys qs × RisesFrom 0 qs × Apart mine qs
+  IsAt fixed history count held holder seat known mine Spent = Unit {0}
 
   -- what is true of each seat
-  pub record Knows (fixed : A) (history : List E) (held : Bool) (holder seat : ℕ) (d : SeatView B E A) : Type 0 where
+  pub record Knows (fixed : A) (history : List E) (count : ℕ) (held : Bool) (holder seat : ℕ) (d : SeatView B E A) : Type 0 where
     pub begins : IsPrefix d.seen history
     pub stand : StandIn d.seen d.mine
     pub rises : RisesFrom 0 d.mine
-    pub at : IsAt fixed history held holder seat d.base d.mine d.stage
+    pub counted : d.faults ≤ count
+    pub at : IsAt fixed history count held holder seat d.base d.mine d.stage
 
-  -- there is one base, one history, and maybe one seat that holds the turn; while nobody holds it the book is at home
+  -- there is one base, one history, one count of faults, and maybe one seat that holds the turn; while nobody holds it the book is at home
   pub record Turned (s : State (Option B) (SeatView B E A)) : Type 0 where
     pub base_is : A
     pub history : List E
+    pub count : ℕ
     pub held : Bool
     pub holder : ℕ
     pub wide : length s.words ≡ 1
     pub deep : length s.homes ≡ 1
     pub word : slice_index s.words 0 ≡ word_of held history
-    pub home : held ≡ false → (b : B) × (get_elem? s.homes 0 ≡ some (some (Some b))) × Stands base_is history b
-    pub each : (j : ℕ) (d : SeatView B E A) → get_elem? s.views j ≡ some d → Knows base_is history held holder j d
-    pub lone : (j : ℕ) (d : SeatView B E A) → get_elem? s.views j ≡ some d → d.alone ≡ true → IsLone history s.views j d
+    pub home : held ≡ false → (b : B) × (get_elem? s.homes 0 ≡ some (some (Some b))) × Stands base_is history count b
+    pub each : (j : ℕ) (d : SeatView B E A) → get_elem? s.views j ≡ some d → Knows base_is history count held holder j d
+    pub lone : (j : ℕ) (d : SeatView B E A) → get_elem? s.views j ≡ some d → d.alone ≡ true → IsLone history count s.views j d
     pub apart : AreApart s.views

@@ -1,5 +1,5 @@
 -- What a visit tells.
-use Rattle.std.specs.Prelude.{◌≡◌, ℕ, ◌+◌, true, ltb, List, ◌++◌, if◌then◌else◌, Some}
+use Rattle.std.specs.Prelude.{◌≡◌, ℕ, ◌+◌, ◌≤◌, true, ltb, List, ◌++◌, if◌then◌else◌, Some}
 use mathlib.Core.List.{IsPrefix}
 use Rattle.desk.specs.Passes.{PassState, IsSamePass}
 use Rattle.desk.specs.OwnEntries.{added}
@@ -15,3 +15,7 @@ pub record Visited {B E A : Type 0} (entries : B → List E) (base : B → A) (f
   pub seen : q.seen ≡ entries b'
   pub mine : q.mine ≡ p.mine ++ added (entries b) (entries b')
   pub failed : q.failed ≡ p.failed + (if ltb (faults b) (faults b') then 1 else 0)
+  pub known : p.faults ≤ faults b
+  pub exact : p.alone ≡ true → faults b ≡ p.faults
+  pub grown : faults b ≤ faults b'
+  pub count : q.faults ≡ faults b'

@@ -14,6 +14,7 @@ pub trait Booked: Drop {
     /// What no job changes.
     ghost base: { Self → Self.Base };
 
+    /// No job takes it back.
     ghost faults: { Self → ℕ };
 
     /// How long the history is.
@@ -37,5 +38,6 @@ pub trait Job<B: Booked> {
         ensures acted { acted self.new ≡ true }
         ensures does { does self.old book.old result self.new book.new }
         ensures appends { IsPrefix (B.entries book.old) (B.entries book.new) }
-        ensures base { B.base book.new ≡ B.base book.old };
+        ensures base { B.base book.new ≡ B.base book.old }
+        ensures counted { B.faults book.old ≤ B.faults book.new };
 }

@@ -1,6 +1,6 @@
 //! The desk and its passes.
 ghost use Rattle.std.specs.Prelude.{◌≡◌, Some, IfOk, IfErr, IsOkAnd};
-ghost use Rattle.std.specs.Prelude.{◌+◌, true, false};
+ghost use Rattle.std.specs.Prelude.{◌+◌, ◌≤◌, max, true, false};
 ghost use mathlib.Core.List.{IsPrefix};
 ghost use Rattle.desk.specs.Passes.{opening, fresh};
 ghost use Rattle.desk.specs.OwnEntries.{longer, merged, Agree, Apart, StandIn, RisesFrom};
@@ -70,7 +70,7 @@ impl<B: Booked> Pass<B> {
 impl<B: Booked> Desk<B> {
     /// A desk that keeps the book, and its first pass, which is alone. The book comes back where there is no memory.
     pub fn open(alloc: Global, book: B) -> Result<(Desk<B>, Pass<B>), (B, AllocError)>
-        ensures opened { IfOk result (λ r. r.1 ≡ opening r.0 (B.base book) (B.entries book)) }
+        ensures opened { IfOk result (λ r. r.1 ≡ opening r.0 (B.base book) (B.entries book) (B.faults book)) }
         ensures back { IfErr result (λ r. r.0 ≡ book) }
     {
         let mut slots = Vec::new(alloc);
@@ -114,7 +114,7 @@ impl<B: Booked> Desk<B> {
     pub fn split(&self, pass: &mut Pass<B>) -> Result<Pass<B>, AllocError>
         requires { pass.old.of ≡ self.now }
         ensures kept { pass.new ≡ record pass.old { alone = false } }
-        ensures new { IsOkAnd result (λ r. r ≡ fresh pass.old.of pass.old.base pass.old.seen false) }
+        ensures new { IsOkAnd result (λ r. r ≡ fresh pass.old.of pass.old.base pass.old.seen pass.old.faults false) }
     {
         let seat = steps::split(&self.table.shared, &mut pass.seat);
         Ok(Pass { seat })
@@ -123,7 +123,7 @@ impl<B: Booked> Desk<B> {
     /// Takes in what another pass has seen and made. It waits for nobody.
     pub fn join(&self, pass: &mut Pass<B>, other: Pass<B>)
         requires { (pass.old.of ≡ self.now) × (other.of ≡ self.now) }
-        ensures both { pass.new ≡ record pass.old { seen = longer pass.old.seen other.seen; mine = merged pass.old.mine other.mine; failed = pass.old.failed + other.failed } }
+        ensures both { pass.new ≡ record pass.old { seen = longer pass.old.seen other.seen; mine = merged pass.old.mine other.mine; failed = pass.old.failed + other.failed; faults = max pass.old.faults other.faults } }
         ensures agree { Agree pass.old.seen other.seen }
         ensures apart { Apart pass.old.mine other.mine }
         ensures begins { IsPrefix pass.old.seen pass.new.seen }
@@ -139,6 +139,8 @@ impl<B: Booked> Desk<B> {
         ensures begins { IsPrefix pass.seen (B.entries result) }
         ensures whole { pass.alone ≡ true → B.entries result ≡ pass.seen }
         ensures base { pass.base ≡ Some (B.base result) }
+        ensures counted { pass.faults ≤ B.faults result }
+        ensures exact { pass.alone ≡ true → B.faults result ≡ pass.faults }
     {
         let Desk { table, sleepers } = self;
         let Pass { mut seat } = pass;

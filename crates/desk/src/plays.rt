@@ -9,7 +9,7 @@ pub struct Take;
 impl<B: Booked> Play<Option<B>, SeatView<B, B::Entry, B::Base>> for Take {
     ghost use Rattle.desk.specs.Plays.{taken};
 
-    ghost then = { taken B.entries B.base };
+    ghost then = { taken B.entries B.base B.faults };
 }
 
 /// The word of the new history is written: the book and the turn are given back.

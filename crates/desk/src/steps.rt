@@ -1,5 +1,5 @@
 // The steps of a pass on the table.
-ghost use Rattle.std.specs.Prelude.{◌≡◌, ◌+◌, ◌*◌, [], ◌∷◌, Some, None, true, false, length};
+ghost use Rattle.std.specs.Prelude.{◌≡◌, ◌+◌, ◌*◌, ◌≤◌, [], ◌∷◌, Some, None, true, false, length};
 ghost use mathlib.Core.List.{IsPrefix};
 ghost use Rattle.atomic_table.specs.Seated.{TableId};
 ghost use Rattle.desk.specs.declared.turn.Stage.TheVariants.{Idle, Held, Met};
@@ -25,7 +25,7 @@ pub(crate) fn take<B: Booked, R: Wait>(
     requires idle { IsIdle seat.old }
     ensures same { IsSame seat.old seat.new }
     ensures held { seat.new.me ≡ (record seat.old.me.0 { stage = Held result }, (0, None) ∷ []) }
-    ensures found { Finds B.entries B.base seat.old.me.0 result }
+    ensures found { Finds B.entries B.base B.faults seat.old.me.0 result }
 {
     for _ in rt.forever() {
         let found = table.fetch_or::<Take>(seat, 0, 1);
@@ -46,7 +46,7 @@ pub(crate) fn give<B: Booked>(
 )
     requires sized { (seat.old.table_id ≡ table.now.table_id) × IsSized table.now.table_id }
     requires held { seat.old.me.1 ≡ (0, None) ∷ [] }
-    requires appended { (before : B) × (seat.old.me.0.stage ≡ Held before) × IsPrefix (B.entries before) (B.entries book) × (B.base book ≡ B.base before) }
+    requires appended { (before : B) × (seat.old.me.0.stage ≡ Held before) × IsPrefix (B.entries before) (B.entries book) × (B.base book ≡ B.base before) × (B.faults before ≤ B.faults book) }
     ensures same { IsSame seat.old seat.new }
     ensures after { (before : B) → seat.old.me.0.stage ≡ Held before → seat.new.me ≡ (after B.entries B.faults before book seat.old.me.0, []) }
     ensures ordered { IsOrdered seat.new.me.0 }

@@ -23,6 +23,7 @@ pub struct SeatView<B, E, A> {
     pub seen: LinkedList<E>,
     pub mine: LinkedList<(u64, E)>,
     pub failed: u64,
+    pub faults: u64,
     pub alone: bool,
 }
 
@@ -32,9 +33,9 @@ pub struct TurnRule;
 impl<B: Booked> TableRule<Option<B>, SeatView<B, B::Entry, B::Base>, Snapshot<B>> for TurnRule {
     ghost use Rattle.desk.specs.Turns.{Turned, first};
 
-    ghost holds = { λ _. Turned B.entries B.base };
+    ghost holds = { λ _. Turned B.entries B.base B.faults };
 
-    ghost first = { λ key. first B.entries B.base key.value };
+    ghost first = { λ key. first B.entries B.base B.faults key.value };
 }
 
 pub type DeskSeat<B, E, A> = Seat<Option<B>, SeatView<B, E, A>>;

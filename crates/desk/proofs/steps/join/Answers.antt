@@ -5,10 +5,10 @@ use Rattle.desk.proofs.Turning.{joins, settles}
 use Rattle.desk.proofs.steps.join.Goals as goal
 
 pub join_seat-requires : goal.join_seat-requires
-join_seat-requires g c = (search rules, search rules, search rules, search rules, joins _ _ _ _ _ _ c.requires.idle.0.0 c.requires.idle.1.0)
+join_seat-requires g c = (search rules, search rules, search rules, search rules, joins _ _ _ _ _ _ _ c.requires.idle.0.0 c.requires.idle.1.0)
 
 pub load-requires : goal.load-requires
-load-requires g c = (search rules, search rules, settles _ _ _ _ _ _ _ (ap (λ m. m.0.stage) c.join_seat.ensures.2))
+load-requires g c = (search rules, search rules, settles _ _ _ _ _ _ _ _ (ap (λ m. m.0.stage) c.join_seat.ensures.2))
 
 pub returns-clause-both : goal.returns-clause-both
 returns-clause-both g c = let e = c.join_seat.ensures.2 in let o = c.args.other.me.0 in let t = c.load.ensures.2 o.seen o.mine (ap (λ m. m.0.stage) e) in
