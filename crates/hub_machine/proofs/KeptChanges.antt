@@ -11,7 +11,7 @@ use Rattle.hub_tables.specs.Changes.{row_at, row_done, rows_done, puts_of, remov
 use Rattle.hub_tables.specs.State.{State}
 use Rattle.hub_tables.proofs.RowsAt.{same_or_not, put_same, put_other, gone_same, gone_other}
 use Rattle.keeper.specs.declared.keeper.Item.{Item}
-use Rattle.keeper.specs.Rows.{Rows, AreSame, is_at, with_text, after_item, after_items}
+use Rattle.keeper.specs.Rows.{Rows as KeptRows, AreSame, is_at, with_text, after_item, after_items}
 use Rattle.keeper.proofs.Places.{at_same, at_itself}
 use Rattle.record_texts.specs.Items.{item_of, kind_of, key_text, row_text, IsKey, IsValid}
 use Rattle.record_texts.proofs.KeyTexts.{one_key, valid_key}
@@ -19,7 +19,9 @@ use Rattle.hub_machine.specs.Apply.{change_done}
 use Rattle.hub_machine.specs.Batches.{batch_of}
 use Rattle.hub_machine.specs.Carry.{RowsDone, RowsKept}
 use Rattle.hub_machine.specs.KeptRows.{HasText, Keeps}
-use Rattle.hub_machine.specs.Written.{IsOfRows}
+use Rattle.hub_machine.specs.Written.{IsOfRows, IsWritten}
+use Rattle.hub_machine.specs.declared.change.Change.{Change}
+use Rattle.hub_machine.specs.declared.change.Change.TheVariants.{Rows}
 use Rattle.hub_machine.specs.declared.planned.Written.{Written}
 
 none_some : {X : Type 0} (x : X) → None ≡ Some x → ⊥
@@ -37,11 +39,11 @@ false_true b h k = cc
 
 -- ---- what stands under one key is another, and its text with it
 
-module _ (kept : Rows) (t u : State) (key : RowKey) (at : Option Row) (good : IsKey key) (here : row_at u key ≡ at) (others : (q : RowKey) → (q ≡ key → ⊥) → row_at u q ≡ row_at t q) (h : Keeps kept t) where
+module _ (kept : KeptRows) (t u : State) (key : RowKey) (at : Option Row) (good : IsKey key) (here : row_at u key ≡ at) (others : (q : RowKey) → (q ≡ key → ⊥) → row_at u q ≡ row_at t q) (h : Keeps kept t) where
   abbrev is_its : ℕ → List ℕ → Bool
   is_its kind name = is_at (kind_of key) (key_text key) kind name
 
-  abbrev after : Rows
+  abbrev after : KeptRows
   after = with_text (kind_of key) (key_text key) (option_map row_text at) kept
 
   -- a row of the tables before and after
@@ -93,51 +95,55 @@ module _ (kept : Rows) (t u : State) (key : RowKey) (at : Option Row) (good : Is
     keys = key_after;
   }
 
-pub row_kept : (r : RowChange) (rows : Rows) (t : State) → IsValid r → Keeps rows t → Keeps (after_item (item_of r) rows) (row_done r t)
+pub row_kept : (r : RowChange) (rows : KeptRows) (t : State) → IsValid r → Keeps rows t → Keeps (after_item (item_of r) rows) (row_done r t)
 row_kept (Put row) rows t good h = set_kept rows t (row_done (Put row) t) (key_of row) (Some row) (valid_key row good) (put_same t row) (put_other t row) h
 row_kept (Remove key) rows t good h = set_kept rows t (row_done (Remove key) t) key None good (gone_same t key) (gone_other t key) h
 
 -- ---- the rows of a change, one after the other
 
-rows_kept : (rs : List RowChange) (rows : Rows) (t : State) → All IsValid rs → Keeps rows t → Keeps (after_items (map item_of rs) rows) (rows_done rs t)
+rows_kept : (rs : List RowChange) (rows : KeptRows) (t : State) → All IsValid rs → Keeps rows t → Keeps (after_items (map item_of rs) rows) (rows_done rs t)
 rows_kept [] rows t good h = h
 rows_kept (r ∷ rs) rows t good h =
     rows_kept rs (after_item (item_of r) rows) (row_done r t) (All-tail IsValid r rs good) (row_kept r rows t (All-head IsValid r rs good) h)
 
-items_append : (xs ys : List Item) (rows : Rows) → after_items (xs ++ ys) rows ≡ after_items ys (after_items xs rows)
+items_append : (xs ys : List Item) (rows : KeptRows) → after_items (xs ++ ys) rows ≡ after_items ys (after_items xs rows)
 items_append [] ys rows = refl
 items_append (x ∷ xs) ys rows = items_append xs ys (after_item x rows)
 
-pub change_kept : (rs : List RowChange) (rows : Rows) (t : State) → All IsValid (puts_of rs) → All IsValid (removals_of rs) → Keeps rows t
+pub change_kept : (rs : List RowChange) (rows : KeptRows) (t : State) → All IsValid (puts_of rs) → All IsValid (removals_of rs) → Keeps rows t
     → Keeps (after_items (batch_of rs) rows) (change_done rs t)
 change_kept rs rows t puts removals h =
-    subst (λ (kept : Rows). Keeps kept (change_done rs t)) (sym (items_append (map item_of (puts_of rs)) (map item_of (removals_of rs)) rows))
+    subst (λ (kept : KeptRows). Keeps kept (change_done rs t)) (sym (items_append (map item_of (puts_of rs)) (map item_of (removals_of rs)) rows))
     (rows_kept (removals_of rs) (after_items (map item_of (puts_of rs)) rows) (rows_done (puts_of rs) t) removals (rows_kept (puts_of rs) rows t puts h))
 
 -- the same rows
-pub same_kept : (kept kept' : Rows) (t : State) → AreSame kept' kept → Keeps kept t → Keeps kept' t
+pub same_kept : (kept kept' : KeptRows) (t : State) → AreSame kept' kept → Keeps kept t → Keeps kept' t
 same_kept kept kept' t same h = record {
   exactly = λ kind name text. (λ is. (h.exactly kind name text).0 (sym (same kind name) ∙ is), λ x. same kind name ∙ (h.exactly kind name text).1 x);
   keys = h.keys;
 }
 
-done_kept : (rows : List RowChange) (kept kept' : Rows) (t t' : State) → All IsValid (puts_of rows) → All IsValid (removals_of rows)
+done_kept : (rows : List RowChange) (kept kept' : KeptRows) (t t' : State) → All IsValid (puts_of rows) → All IsValid (removals_of rows)
     → t' ≡ change_done rows t → AreSame kept' (after_items (batch_of rows) kept) → Keeps kept t → Keeps kept' t'
 done_kept rows kept kept' t t' puts removals done same h =
     subst (Keeps kept') (sym done) (same_kept (after_items (batch_of rows) kept) kept' (change_done rows t) same (change_kept rows kept t puts removals h))
 
-stays_kept : (kept kept' : Rows) (t t' : State) → t' ≡ t → AreSame kept' kept → Keeps kept t → Keeps kept' t'
+stays_kept : (kept kept' : KeptRows) (t t' : State) → t' ≡ t → AreSame kept' kept → Keeps kept t → Keeps kept' t'
 stays_kept kept kept' t t' stays same h = subst (Keeps kept') (sym stays) (same_kept kept kept' t same h)
 
 -- carried out, or all as before
-pub carried_kept : {E : Type 0} (rows : List RowChange) (r : Result Bool E) (kept kept' : Rows) (t t' : State) → All IsValid (puts_of rows) → All IsValid (removals_of rows)
+pub carried_kept : {E : Type 0} (rows : List RowChange) (r : Result Bool E) (kept kept' : KeptRows) (t t' : State) → All IsValid (puts_of rows) → All IsValid (removals_of rows)
     → RowsDone rows r t t' → RowsKept (batch_of rows) r kept kept' → Keeps kept t → Keeps kept' t'
 carried_kept rows (Ok true) kept kept' t t' puts removals done same h = done_kept rows kept kept' t t' puts removals done same h
 carried_kept rows (Ok false) kept kept' t t' puts removals done same h = stays_kept kept kept' t t' done same h
 carried_kept rows (Err e) kept kept' t t' puts removals done same h = stays_kept kept kept' t t' done same h
 
 -- the same of a batch that was written
-pub written_kept : {E : Type 0} (rows told : List RowChange) (w : Written) (r : Result Bool E) (kept kept' : Rows) (t t' : State) → told ≡ rows → IsOfRows rows w
+pub written_kept : {E : Type 0} (rows told : List RowChange) (w : Written) (r : Result Bool E) (kept kept' : KeptRows) (t t' : State) → told ≡ rows → IsOfRows rows w
     → RowsDone told r t t' → RowsKept w.batch r kept kept' → Keeps kept t → Keeps kept' t'
 written_kept rows told w r kept kept' t t' same h done items keeps =
     carried_kept rows r kept kept' t t' h.puts h.removals (subst (λ (l : List RowChange). RowsDone l r t t') same done) (subst (λ (b : List Item). RowsKept b r kept kept') h.batch items) keeps
+
+-- the rows of a change that was written
+pub of_change : (c : Change) (w : Written) (rows : List RowChange) → c ≡ Rows rows → IsWritten c w → IsOfRows rows w
+of_change c w rows e h = subst (λ (x : Change). IsWritten x w) e h
