@@ -1,7 +1,11 @@
 pub mod Deciding
+pub mod Calm
 pub mod Done
+pub mod Numbered
+pub mod Stamped
 pub mod Tied
 pub mod Places
+pub mod OneAnswer
 pub mod Keys
 pub mod Looking
 pub mod Statuses

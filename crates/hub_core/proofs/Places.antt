@@ -1,13 +1,16 @@
 -- What a visit gives stands at a place of the book's history.
-use Rattle.std.proofs.Common.{◌≡◌, ℕ, zero, suc, List, [], ◌∷◌, map, length, replicate, Option, refl, sym, ◌∙◌, ap, subst, ◌⊎◌, inl, inr}
+use Rattle.std.proofs.Common.{◌≡◌, ℕ, Bool, true, false, is_some, List, [], ◌∷◌, map, length, replicate, Option, refl, sym, ◌∙◌, ap, subst, ◌⊎◌, inl, inr}
 use Rattle.std.specs.Prelude.{Some, None, Result, Ok, Err}
 use Rattle.std.proofs.lemmas.List.{length-map, map-append, append-nil, length-replicate}
 use Rattle.std.proofs.lemmas.Grind.{replicate_next}
 use mathlib.Core.List.{IsPrefix}
 use Rattle.hub_machine.specs.State.{Hub}
 use Rattle.hub_machine.specs.Replies.{Answer, answered, reply_of, refusal_reply}
-use Rattle.hub_core.specs.History.{Answers, change_of}
-use Rattle.hub_core.specs.Visits.{Standing, Entry, Gave, Faulted, Follows, IsTied, Did, Undid, Reached, Noted, AnsweredAt, FaultedAt, VisitedAt, listed, noted, told_after}
+use Rattle.hub_core.specs.History.{Answers, change_of, state_after}
+use Rattle.hub_core.specs.Visits.{Standing, Entry, Gave, Faulted, Reached, AnsweredAt, FaultedAt, VisitedAt, listed, noted, noted_as, with_entry, told_after}
+use Rattle.hub_core.specs.Tied.{IsTied}
+use Rattle.hub_core.specs.Carrying.{Carrier, Carried, Did, Undid}
+use Rattle.hub_core.specs.declared.start.Start.{Start}
 use Rattle.hub_machine.specs.declared.call.Asked.{Asked}
 use Rattle.hub_machine.specs.declared.change.Change.{Change}
 use Rattle.hub_machine.specs.declared.change.Change.TheVariants.{Rows}
@@ -34,113 +37,123 @@ pub listed_length : (start hub : Hub) (told : Option (List Change)) (long : ℕ)
 listed_length start hub None long t = sym (length-replicate hub.length None)
 listed_length start hub (Some h) long t = t.counted h refl ∙ sym (length-map h Some)
 
-none_some : (x : Change) (xs ys : List Entry) → None ∷ xs ≡ Some x ∷ ys → ⊥
-none_some x xs ys e = cc
+true_false : true ≡ false → ⊥
+true_false h = cc
 
-some_empty : (x : Change) (ys : List Entry) → [] ≡ Some x ∷ ys → ⊥
-some_empty x ys e = cc
+-- a book's start, by its state at opening and its history
+abbrev start_of : Hub → Option (List Change) → Start
+start_of start told = record { machine = start; tells = is_some told }
 
-none_empty : (xs : List Entry) → None ∷ xs ≡ [] → ⊥
-none_empty xs e = cc
-
--- blank entries are told where there are none
-blank : (n : ℕ) (h : List Change) → replicate n None ≡ map Some h → (n ≡ 0) × (h ≡ [])
-blank zero [] e = (refl, refl)
-blank zero (c ∷ h) e = absurd (some_empty c (map Some h) e)
-blank (suc n) [] e = absurd (none_empty (replicate n None) e)
-blank (suc n) (c ∷ h) e = absurd (none_some c (replicate n None) (map Some h) e)
-
-reached : (start hub : Hub) (told : Option (List Change)) (long : ℕ) → IsTied start hub told long → Reached start (listed told hub.length) hub
+reached : (start hub : Hub) (told : Option (List Change)) (long : ℕ) → IsTied start hub told long → Reached (start_of start told) (listed told hub.length) hub
 reached start hub None long t = record {
   length = listed_length start hub None long t;
-  follows = λ h e.
-      let b = blank hub.length h e in
-      let P : List Change → Type 0 = λ x. Follows start hub x in
-      subst P (sym b.1) (record { legal = tt; state = t.fresh b.0 });
+  told = λ e. absurd (true_false (sym e));
+  blank = λ e. refl;
 }
 reached start hub (Some h) long t = record {
   length = listed_length start hub (Some h) long t;
-  follows = λ k e.
-      let P : List Change → Type 0 = λ x. Follows start hub x in
-      subst P (same_told h k e) (t.followed h refl);
+  told = λ e. (h, refl, t.followed h refl);
+  blank = λ e. absurd (true_false e);
 }
 
-noted_entries : (ch : Option Change) (told : Option (List Change)) (s : Hub) → Noted ch (listed told s.length) (listed (told_after ch told) (noted ch s).length)
+noted_entries : (ch : Option Change) (told : Option (List Change)) (s : Hub) → listed (told_after ch told) (noted ch s).length ≡ with_entry (is_some told) ch (listed told s.length)
 noted_entries None told s = refl
-noted_entries (Some (Rows rows)) (Some h) s = inl (map-append Some h (Rows rows ∷ []))
-noted_entries (Some (Rows rows)) None s = inr (replicate_next s.length None)
+noted_entries (Some (Rows rows)) (Some h) s = map-append Some h (Rows rows ∷ [])
+noted_entries (Some (Rows rows)) None s = replicate_next s.length None
 
 noted_after : (ch : Option Change) (told told' : Option (List Change)) (s s' : Hub) → s' ≡ noted ch s → told' ≡ told_after ch told
-    → Noted ch (listed told s.length) (listed told' s'.length)
-noted_after ch told told' s s' hub telling =
-    let P : Hub → Type 0 = λ x. Noted ch (listed told s.length) (listed told' x.length) in
-    let Q : Option (List Change) → Type 0 = λ x. Noted ch (listed told s.length) (listed x (noted ch s).length) in
-    subst P (sym hub) (subst Q (sym telling) (noted_entries ch told s))
+    → listed told' s'.length ≡ with_entry (is_some told) ch (listed told s.length)
+noted_after ch told told' s s' hub telling = (λ i. listed (telling i) (hub i).length) ∙ noted_entries ch told s
+
+-- a history that is told stays told, and one that isn't stays so
+tells_after : (ch : Option Change) (told : Option (List Change)) → is_some (told_after ch told) ≡ is_some told
+tells_after None told = refl
+tells_after (Some c) (Some h) = refl
+tells_after (Some c) None = refl
 
 same_entries : (told told' : Option (List Change)) (s s' : Hub) → s' ≡ s → told' ≡ told → listed told' s'.length ≡ listed told s.length
 same_entries told told' s s' hub telling = λ i. listed (telling i) (hub i).length
 
-pub placed : (start s s' : Hub) (told told' : Option (List Change)) (long long' : ℕ) (now : ℕ) (draw : Option (List ℕ)) (asked : Asked) (a : Answer) (reply : Reply) (faults faults' : ℕ)
-    → Answers s now draw asked a → IsTied start s told long → IsTied start s' told' long'
-    → Did a reply s s' told told' long long' ⊎ Undid a reply faults faults' s s' told told' long long'
-    → AnsweredAt start (listed told s.length) (listed told' s'.length) now draw asked (given.Answer reply)
-    ⊎ FaultedAt start (listed told s.length) (listed told' s'.length) faults faults' now draw asked (given.Answer reply)
-placed start s s' told told' long long' now draw asked a reply faults faults' answers t t' carried =
-    elim carried as (λ _. AnsweredAt start (listed told s.length) (listed told' s'.length) now draw asked (given.Answer reply)
-    ⊎ FaultedAt start (listed told s.length) (listed told' s'.length) faults faults' now draw asked (given.Answer reply)) [
+pub placed : (start : Hub) (now : ℕ) (draw : Option (List ℕ)) (asked : Asked) (a : Answer) (reply : Reply) (b b' : Carrier)
+    → Answers b.hub now draw asked a → IsTied start b.hub b.told b.long → IsTied start b'.hub b'.told b'.long → Did a reply b b' ⊎ Undid a reply b b'
+    → AnsweredAt (start_of start b.told) (listed b.told b.hub.length) (listed b'.told b'.hub.length) now draw asked (given.Answer reply)
+    ⊎ FaultedAt (start_of start b.told) (listed b.told b.hub.length) (listed b'.told b'.hub.length) b.faults b'.faults now draw asked (given.Answer reply)
+placed start now draw asked a reply b b' answers t t' carried =
+    elim carried as (λ _. AnsweredAt (start_of start b.told) (listed b.told b.hub.length) (listed b'.told b'.hub.length) now draw asked (given.Answer reply)
+    ⊎ FaultedAt (start_of start b.told) (listed b.told b.hub.length) (listed b'.told b'.hub.length) b.faults b'.faults now draw asked (given.Answer reply)) [
       | inl d ↦ inl (record {
-        state = s;
-        reached = reached start s told long t;
+        state = b.hub;
+        reached = reached start b.hub b.told b.long t;
         answer = a;
         answers = answers;
-        noted = noted_after (change_of a) told told' s s' d.hub d.telling;
-        outcome = ap answered (d.said ∙ ap (λ n. reply_of n a) (listed_length start s' told' long' t'));
+        noted = noted_after (change_of a) b.told b'.told b.hub b'.hub d.hub d.telling;
+        outcome = ap answered (d.said ∙ ap (λ n. reply_of n a) (listed_length start b'.hub b'.told b'.long t'));
       })
       | inr u ↦ inr (record {
-        state = s;
-        reached = reached start s told long t;
+        state = b.hub;
+        reached = reached start b.hub b.told b.long t;
         answer = a;
         change = u.change;
         answers = answers;
         has = u.has;
-        noted = same_entries told told' s s' u.stays.hub u.stays.telling;
-        outcome = ap answered (u.said ∙ ap (λ (x : Hub). refusal_reply x.length KeeperFault) (sym u.stays.hub) ∙ ap (λ n. refusal_reply n KeeperFault) (listed_length start s' told' long' t'));
+        noted = same_entries b.told b'.told b.hub b'.hub u.stays.hub u.stays.telling;
+        outcome = ap answered (u.said ∙ ap (λ (x : Hub). refusal_reply x.length KeeperFault) (sym u.stays.hub)
+            ∙ ap (λ n. refusal_reply n KeeperFault) (listed_length start b'.hub b'.told b'.long t'));
         rises = u.rises;
       })
     ]
 
+-- what a carried answer may change of a book
+abbrev pub carrier : Standing → ℕ → Carrier
+carrier b long = record { hub = b.hub; told = b.told; long = long; stamp = b.stamp; faults = b.faults }
+
 pub gave : (b b' : Standing) (now : ℕ) (draw : Option (List ℕ)) (asked : Asked) (a : Answer) (reply : Reply) (long long' : ℕ) → Answers b.hub now draw asked a
-    → Did a reply b.hub b'.hub b.told b'.told long long' ⊎ Undid a reply b.faults b'.faults b.hub b'.hub b.told b'.told long long'
+    → Did a reply (carrier b long) (carrier b' long') ⊎ Undid a reply (carrier b long) (carrier b' long')
     → Gave b b' now draw asked (given.Answer reply) ⊎ Faulted b b' now draw asked (given.Answer reply)
 gave b b' now draw asked a reply long long' answers carried =
     elim carried as (λ _. Gave b b' now draw asked (given.Answer reply) ⊎ Faulted b b' now draw asked (given.Answer reply)) [
-      | inl d ↦ inl (record { answer = a; answers = answers; hub = d.hub; told = d.telling; outcome = ap answered d.said })
+      | inl d ↦ inl (record { answer = a; answers = answers; hub = d.hub; told = d.telling; stamped = d.stamped; outcome = ap answered d.said })
       | inr u ↦ inr (record {
         answer = a;
         change = u.change;
         answers = answers;
         has = u.has;
-        hub = u.stays.hub;
-        told = u.stays.telling;
+        stays = record { hub = u.stays.hub; told = u.stays.telling; stamped = u.stays.stamped };
         outcome = ap answered u.said;
         rises = u.rises;
       })
     ]
 
+-- whether the history is told never changes
+pub tells_same : {E : Type 0} (a : Answer) (r : Result Reply E) (b b' : Carrier) → Carried a r b b' → is_some b'.told ≡ is_some b.told
+tells_same a (Ok reply) b b' carried = elim carried as (λ _. is_some b'.told ≡ is_some b.told) [
+  | inl d ↦ ap is_some d.telling ∙ tells_after (change_of a) b.told
+  | inr u ↦ ap is_some u.stays.telling
+]
+tells_same a (Err e) b b' carried = ap is_some carried.telling
+
 -- ---- a visit only appends
 
-appends : (ch : Option Change) (before after : List Entry) → Noted ch before after → IsPrefix before after
-appends None before after e = ([], append-nil before ∙ sym e)
-appends (Some c) before after e = elim e as (λ _. IsPrefix before after) [ inl t ↦ (Some c ∷ [], sym t) | inr t ↦ (None ∷ [], sym t) ]
+appends : (tells : Bool) (ch : Option Change) (before after : List Entry) → after ≡ with_entry tells ch before → IsPrefix before after
+appends tells None before after e = ([], append-nil before ∙ sym e)
+appends tells (Some c) before after e = (noted_as tells c ∷ [], sym e)
 
-more : (start : Hub) (before after : List Entry) (faults faults' : ℕ) (now : ℕ) (draw : Option (List ℕ)) (asked : Asked) (o : Outcome)
+more : (start : Start) (before after : List Entry) (faults faults' : ℕ) (now : ℕ) (draw : Option (List ℕ)) (asked : Asked) (o : Outcome)
     → AnsweredAt start before after now draw asked o ⊎ FaultedAt start before after faults faults' now draw asked o → IsPrefix before after
 more start before after faults faults' now draw asked o v = elim v as (λ _. IsPrefix before after) [
-  | inl a ↦ appends (change_of a.answer) before after a.noted
+  | inl a ↦ appends start.tells (change_of a.answer) before after a.noted
   | inr f ↦ ([], append-nil before ∙ sym f.noted)
 ]
 
-pub visited_appends : {E : Type 0} (start : Hub) (before after : List Entry) (faults faults' : ℕ) (now : ℕ) (draw : Option (List ℕ)) (asked : Asked) (r : Result Outcome E)
+pub visited_appends : {E : Type 0} (start : Start) (before after : List Entry) (faults faults' : ℕ) (now : ℕ) (draw : Option (List ℕ)) (asked : Asked) (r : Result Outcome E)
     → VisitedAt start before after faults faults' now draw asked r → IsPrefix before after
 visited_appends start before after faults faults' now draw asked (Ok o) v = more start before after faults faults' now draw asked o v
 visited_appends start before after faults faults' now draw asked (Err e) v = ([], append-nil before ∙ sym v)
+
+-- ---- where the history is told, the entries say which state they lead to
+
+pub one_state : (start : Start) (before : List Entry) (s t : Hub) → start.tells ≡ true → Reached start before s → Reached start before t → s ≡ t
+one_state start before s t tells here there =
+    let a = here.told tells in
+    let b = there.told tells in
+    a.2.state ∙ ap (state_after start.machine) (same_told a.0 b.0 (sym a.1 ∙ b.1)) ∙ sym b.2.state

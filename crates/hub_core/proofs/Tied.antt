@@ -5,7 +5,9 @@ use Rattle.hub_machine.specs.State.{Hub}
 use Rattle.hub_machine.specs.Apply.{apply}
 use Rattle.hub_machine.specs.Replies.{Answer}
 use Rattle.hub_core.specs.History.{Answers, IsEntry, IsLegal, state_after, change_of}
-use Rattle.hub_core.specs.Visits.{Follows, IsTied, Carried, Did, Undid, noted, told_after, long_after}
+use Rattle.hub_core.specs.Visits.{Follows, noted, told_after}
+use Rattle.hub_core.specs.Tied.{IsTied}
+use Rattle.hub_core.specs.Carrying.{Carrier, Carried, Did, Undid, long_after}
 use Rattle.hub_machine.specs.declared.call.Asked.{Asked}
 use Rattle.hub_machine.specs.declared.change.Change.{Change}
 use Rattle.hub_machine.specs.declared.change.Change.TheVariants.{Rows}
@@ -34,15 +36,11 @@ follows_more s t h c f e = record {
 longer : (c : Change) (s : Hub) → (apply c s).length ≡ s.length + 1
 longer (Rows rows) s = refl
 
-not_none : (n : ℕ) → n + 1 ≡ 0 → ⊥
-not_none n e = omega arith
-
 tied_more : (start s : Hub) (told : Option (List Change)) (long : ℕ) (c : Change) → IsEntry s c → IsTied start s told long
     → IsTied start (apply c s) (told_after (Some c) told) (long + 1)
 tied_more start s None long c entry t = record {
   followed = λ h e. absurd (none_some h e);
   longer = longer c s ∙ ap (λ n. n + 1) t.longer;
-  fresh = λ e. absurd (not_none _ (sym (longer c s) ∙ e));
   counted = λ h e. absurd (none_some h e);
 }
 tied_more start s (Some h0) long c entry t = record {
@@ -50,7 +48,6 @@ tied_more start s (Some h0) long c entry t = record {
       let P : List Change → Type 0 = λ x. Follows start (apply c s) x in
       subst P (same_some _ _ e) (follows_more start s h0 c (t.followed h0 refl) entry);
   longer = longer c s ∙ ap (λ n. n + 1) t.longer;
-  fresh = λ e. absurd (not_none _ (sym (longer c s) ∙ e));
   counted = λ h e. longer c s ∙ ap (λ n. n + 1) (t.counted h0 refl) ∙ sym (length-append h0 (c ∷ [])) ∙ ap length (same_some _ _ e);
 }
 
@@ -67,24 +64,16 @@ moved start s s' told told' long long' hub telling same t =
     let R : ℕ → Type 0 = λ x. IsTied start s' told' x in
     subst R (sym same) (subst Q (sym telling) (subst P (sym hub) t))
 
-pub tied_carried : (start s s' : Hub) (told told' : Option (List Change)) (long long' : ℕ) (now : ℕ) (draw : Option (List ℕ)) (asked : Asked) (a : Answer) (reply : Reply) (before after : ℕ)
-    → Answers s now draw asked a → IsTied start s told long
-    → Did a reply s s' told told' long long' ⊎ Undid a reply before after s s' told told' long long'
-    → IsTied start s' told' long'
-tied_carried start s s' told told' long long' now draw asked a reply before after answers t carried =
-    elim carried as (λ _. IsTied start s' told' long') [
-      | inl d ↦ moved start (noted (change_of a) s) s' (told_after (change_of a) told) told' (long_after (change_of a) long) long' d.hub d.telling d.longer
-          (tied_after start s told long (change_of a) (λ c e. record { now = now; draw = draw; asked = asked; answer = a; answers = answers; change = e }) t)
-      | inr u ↦ moved start s s' told told' long long' u.stays.hub u.stays.telling u.stays.longer t
+pub tied_carried : {E : Type 0} (start : Hub) (now : ℕ) (draw : Option (List ℕ)) (asked : Asked) (a : Answer) (r : Result Reply E) (b b' : Carrier)
+    → Answers b.hub now draw asked a → IsTied start b.hub b.told b.long → Carried a r b b' → IsTied start b'.hub b'.told b'.long
+tied_carried start now draw asked a (Ok reply) b b' answers t carried =
+    elim carried as (λ _. IsTied start b'.hub b'.told b'.long) [
+      | inl d ↦ moved start (noted (change_of a) b.hub) b'.hub (told_after (change_of a) b.told) b'.told (long_after (change_of a) b.long) b'.long d.hub d.telling d.longer
+          (tied_after start b.hub b.told b.long (change_of a) (λ c e. record { now = now; draw = draw; asked = asked; answer = a; answers = answers; change = e }) t)
+      | inr u ↦ moved start b.hub b'.hub b.told b'.told b.long b'.long u.stays.hub u.stays.telling u.stays.longer t
     ]
-
--- whatever it answered
-pub tied_after_carry : {E : Type 0} (start s s' : Hub) (told told' : Option (List Change)) (long long' : ℕ) (now : ℕ) (draw : Option (List ℕ)) (asked : Asked) (a : Answer) (r : Result Reply E) (before after : ℕ)
-    → Answers s now draw asked a → IsTied start s told long → Carried a r before after s s' told told' long long' → IsTied start s' told' long'
-tied_after_carry start s s' told told' long long' now draw asked a (Ok reply) before after answers t carried =
-    tied_carried start s s' told told' long long' now draw asked a reply before after answers t carried
-tied_after_carry start s s' told told' long long' now draw asked a (Err e) before after answers t carried =
-    moved start s s' told told' long long' carried.hub carried.telling carried.longer t
+tied_carried start now draw asked a (Err e) b b' answers t carried =
+    moved start b.hub b'.hub b.told b'.told b.long b'.long carried.hub carried.telling carried.longer t
 
 -- ---- at opening
 
@@ -99,6 +88,5 @@ tied_opening start hub told long same fresh none counted = record {
       let P : List Change → Type 0 = λ x. Follows start hub x in
       subst P (sym (none_more h (counted h e ∙ none))) (record { legal = tt; state = sym same });
   longer = fresh ∙ sym none;
-  fresh = λ _. sym same;
   counted = λ h e. fresh ∙ sym none ∙ sym (counted h e);
 }

@@ -1,28 +1,46 @@
 -- The book's cache of rights: what is true of it in a state, and what a visit leaves of it.
-use Rattle.std.specs.Prelude.{◌≡◌, ℕ, ◌≤◌, ◌⊎◌, Option, Some, None, Result, Ok, Err}
+use Rattle.std.specs.Prelude.{◌≡◌, ℕ, ◌<◌, ◌≤◌, ◌⊎◌, Option, Some, None, Result, Ok, Err}
 use Rattle.std.specs.FinMap.{get}
 use Rattle.scope_filters.specs.Grants.{Rights}
 use Rattle.hub_rows.specs.declared.records.Token.{Token}
+use Rattle.hub_tables.specs.State.{State}
 use Rattle.roles.specs.declared.cache.KeptGrant.{KeptGrant}
 use Rattle.roles.specs.Looks.{Cache, IsAfter, OfAll, found}
 use Rattle.roles.specs.Rights.{IsAllowed, IsGrantOf}
-use Rattle.hub_machine.specs.State.{Hub}
+use Rattle.hub_opening.specs.Opening.{next_token}
 
--- an entry is of no later length of the history, and one of this length admits exactly what the token of its id is allowed
-pub record IsRightIn (s : Hub) (id : ℕ) (kept : KeptGrant) : Type 0 where
-  pub older : kept.stamp ≤ s.length
-  pub right : kept.stamp ≡ s.length → (k : Token) → get s.tables.tokens id ≡ Some k → IsGrantOf s.tables (IsAllowed s.tables k) kept.grant
+-- ---- what is true of every entry
 
--- each entry is
-abbrev pub IsCurrent : Cache → Hub → Type 0
-IsCurrent c s = OfAll (IsRightIn s) c
+-- an entry has no later stamp than the book's and an id below the next, and one of the book's stamp admits exactly what the token of its
+-- id is allowed
+pub record IsRightIn (t : State) (stamp : ℕ) (id : ℕ) (kept : KeptGrant) : Type 0 where
+  pub older : kept.stamp ≤ stamp
+  pub numbered : id < next_token t
+  pub right : kept.stamp ≡ stamp → (k : Token) → get t.tokens id ≡ Some k → IsGrantOf t (IsAllowed t k) kept.grant
 
--- one look for the token whose rights decide, with the length of the history as the stamp; no look where none decides
-abbrev pub LookedFor : Cache → Hub → Option Token → Cache → Type 0
-LookedFor c s None n = n ≡ c
-LookedFor c s (Some k) n = (grant : Rights) × IsAfter c k.id s.length (found c k.id s.length) grant n
+abbrev pub IsCurrent : Cache → State → (stamp : ℕ) → Type 0
+IsCurrent c t stamp = OfAll (IsRightIn t stamp) c
+
+-- ---- what keeps it so
+
+-- each kept token has a number below the next
+abbrev pub AreNumbered : State → Type 0
+AreNumbered t = (id : ℕ) (k : Token) → get t.tokens id ≡ Some k → id < next_token t
+
+-- what is true of every book's cache: its entries are of now, so will they be after a change, and the stamp has room
+pub record IsStamped (c : Cache) (t : State) (stamp length : ℕ) : Type 0 where
+  pub current : IsCurrent c t stamp
+  pub numbered : AreNumbered t
+  pub room : stamp ≤ length
+
+-- ---- what a visit leaves
+
+-- one look for the token whose rights decide, with the book's stamp; no look where none decides
+abbrev pub LookedFor : Cache → (stamp : ℕ) → Option Token → Cache → Type 0
+LookedFor c stamp None n = n ≡ c
+LookedFor c stamp (Some k) n = (grant : Rights) × IsAfter c k.id stamp (found c k.id stamp) grant n
 
 -- where memory is wanting there may have been none
-abbrev pub Looked : {A E : Type 0} → Cache → Hub → Option Token → Result A E → Cache → Type 0
-Looked c s k (Ok a) n = LookedFor c s k n
-Looked c s k (Err e) n = (n ≡ c) ⊎ LookedFor c s k n
+abbrev pub Looked : {A E : Type 0} → Cache → (stamp : ℕ) → Option Token → Result A E → Cache → Type 0
+Looked c stamp k (Ok a) n = LookedFor c stamp k n
+Looked c stamp k (Err e) n = (n ≡ c) ⊎ LookedFor c stamp k n

@@ -2,6 +2,9 @@ pub mod Needs
 pub mod Answer
 pub mod Judged
 pub mod History
+pub mod Stamps
 pub mod Current
 pub mod Visits
+pub mod Carrying
+pub mod Tied
 pub mod Opened

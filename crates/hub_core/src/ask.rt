@@ -3,11 +3,11 @@ ghost use Rattle.std.specs.Prelude.{◌≡◌, false};
 ghost use Rattle.hub_core.specs.Visits.{entries_of, VisitedAt};
 
 use crate::book::Book;
+use crate::start::Start;
 use desk::{Booked, Job};
 use hub_kit::moment::Moment;
 use hub_machine::call::Asked;
 use hub_machine::change::Change;
-use hub_machine::machine::Machine;
 use hub_machine::reply::Outcome;
 use keeper::keeper::Keeper;
 use keeper::trail::Trail;
@@ -17,7 +17,7 @@ impl<K: Keeper, T: Trail<Entry = Change>> Booked for Book<K, T> {
     /// A change, or nothing where the history isn't told.
     type Entry = Option<Change>;
 
-    type Base = Machine;
+    type Base = Start;
 
     ghost entries = { entries_of };
 

@@ -10,9 +10,12 @@ ghost use Rattle.hub_core.specs.Current.{Looked};
 ghost use Rattle.hub_core.specs.Judged.{decider};
 ghost use Rattle.hub_core.specs.Opened.{HasOpened};
 ghost use Rattle.hub_opening.specs.Opening.{IsRefused};
-ghost use Rattle.hub_core.specs.Visits.{Visited, VisitedAt, Carried, MayBeDone, IsFollowed, entries_of};
+ghost use Rattle.hub_core.specs.Visits.{Visited, VisitedAt, IsFollowed, entries_of};
+ghost use Rattle.hub_core.specs.Carrying.{Carried, MayBeDone};
+ghost use Rattle.keeper.specs.Rows.{AreSame};
 
 use crate::decide::decide;
+use crate::stamps::{is_of_rights, raised};
 use hub_kit::moment::Moment;
 use hub_machine::answer::{Answer, Good, good_reply, refusal_reply};
 use hub_machine::call::Asked;
@@ -37,8 +40,10 @@ pub struct Book<K: Keeper, T: Trail<Entry = Change>> {
     keeper: K,
     trail: T,
     machine: Machine,
-    /// The grants of the tokens that were looked for last, each with the length of the history as its stamp.
+    /// The grants of the tokens that were looked for last.
     rights: RightsCache,
+    /// How often rights have changed, which is the stamp of the grants of now.
+    stamp: u64,
     /// The machine as it was at opening, for contracts alone.
     start: Snapshot<Machine>,
 }
@@ -47,11 +52,12 @@ pub struct Book<K: Keeper, T: Trail<Entry = Change>> {
 const CAPACITY: u32 = 1024;
 
 impl<K: Keeper, T: Trail<Entry = Change>> Model for Book<K, T> {
-    ghost use Rattle.std.specs.Prelude.{◌≤◌};
-    ghost use Rattle.hub_core.specs.Current.{IsCurrent};
+    ghost use Rattle.std.specs.Prelude.{◌≤◌, is_some};
+    ghost use Rattle.hub_core.specs.Current.{IsStamped};
     ghost use Rattle.hub_machine.specs.KeptRows.{Keeps};
     ghost use Rattle.hub_machine.specs.State.{owed};
-    ghost use Rattle.hub_core.specs.Visits.{Standing, IsTied};
+    ghost use Rattle.hub_core.specs.Visits.{Standing};
+    ghost use Rattle.hub_core.specs.Tied.{IsTied};
     ghost use Rattle.std.specs.Coded.{codes};
     ghost use Rattle.std.specs.FinMap.{code};
 
@@ -59,9 +65,9 @@ impl<K: Keeper, T: Trail<Entry = Change>> Model for Book<K, T> {
 
     ghost coded = { Prim.hlevel (codes, code) };
 
-    ghost view = { λ b. record { start = b.start.value; hub = b.machine; told = T.told b.trail; faults = K.faults b.keeper; rights = b.rights } };
+    ghost view = { λ b. record { start = record { machine = b.start.value; tells = is_some (T.told b.trail) }; hub = b.machine; told = T.told b.trail; faults = K.faults b.keeper; rights = b.rights; stamp = b.stamp } };
 
-    ghost invariant = { λ b. IsTied b.start.value b.machine (T.told b.trail) (T.long b.trail) × IsCurrent b.rights b.machine × (owed b.machine.lives ≤ T.spare b.trail) × (K.Tells b.keeper → Keeps (K.rows b.keeper) b.machine.tables) };
+    ghost invariant = { λ b. IsTied b.start.value b.machine (T.told b.trail) (T.long b.trail) × IsStamped b.rights b.machine.tables b.stamp b.machine.length × (owed b.machine.lives ≤ T.spare b.trail) × (K.Tells b.keeper → Keeps (K.rows b.keeper) b.machine.tables) };
 }
 
 /// Carries an answer out: its change, if it has one, and the reply at the length that it leaves.
@@ -70,10 +76,12 @@ fn carry<K: Keeper, T: Trail<Entry = Change>>(
     machine: &mut Machine,
     keeper: &mut K,
     trail: &mut T,
+    stamp: &mut u64,
     answer: Answer,
 ) -> Result<Reply, AllocError>
-    requires { MayBeDone machine.old (answer_view answer) }
-    ensures carried { Carried (answer_view answer) result (K.faults keeper.old) (K.faults keeper.new) machine.old machine.new (T.told trail.old) (T.told trail.new) (T.long trail.old) (T.long trail.new) }
+    requires may { MayBeDone machine.old (answer_view answer) }
+    requires room { stamp.old ≤ machine.old.length }
+    ensures carried { Carried (answer_view answer) result (record { hub = machine.old; told = T.told trail.old; long = T.long trail.old; stamp = stamp.old; faults = K.faults keeper.old }) (record { hub = machine.new; told = T.told trail.new; long = T.long trail.new; stamp = stamp.new; faults = K.faults keeper.new }) }
     ensures counted { K.faults keeper.old ≤ K.faults keeper.new }
     ensures spare { owed machine.old.lives ≤ T.spare trail.old → owed machine.new.lives ≤ T.spare trail.new }
     // the keeper goes on having the rows of the state
@@ -83,7 +91,7 @@ fn carry<K: Keeper, T: Trail<Entry = Change>>(
         Answer::Refuses(refusal) => refusal_reply(alloc, machine.length(), &refusal),
         Answer::Gives(good) => Ok(good_reply(machine.length(), good)),
         Answer::Changes { change, good } => {
-            carry_change(alloc, machine, keeper, trail, change, good)
+            carry_change(alloc, machine, keeper, trail, stamp, change, good)
         }
     }
 }
@@ -94,15 +102,18 @@ fn carry_change<K: Keeper, T: Trail<Entry = Change>>(
     machine: &mut Machine,
     keeper: &mut K,
     trail: &mut T,
+    stamp: &mut u64,
     change: Planned,
     good: Good,
 ) -> Result<Reply, AllocError>
-    requires { MayBeDone machine.old (changes change (good_view good)) }
-    ensures carried { Carried (changes change (good_view good)) result (K.faults keeper.old) (K.faults keeper.new) machine.old machine.new (T.told trail.old) (T.told trail.new) (T.long trail.old) (T.long trail.new) }
+    requires may { MayBeDone machine.old (changes change (good_view good)) }
+    requires room { stamp.old ≤ machine.old.length }
+    ensures carried { Carried (changes change (good_view good)) result (record { hub = machine.old; told = T.told trail.old; long = T.long trail.old; stamp = stamp.old; faults = K.faults keeper.old }) (record { hub = machine.new; told = T.told trail.new; long = T.long trail.new; stamp = stamp.new; faults = K.faults keeper.new }) }
     ensures counted { K.faults keeper.old ≤ K.faults keeper.new }
     ensures spare { owed machine.old.lives ≤ T.spare trail.old → owed machine.new.lives ≤ T.spare trail.new }
     ensures keeps { (K.Tells keeper.old → Keeps (K.rows keeper.old) machine.old.tables) → K.Tells keeper.new → Keeps (K.rows keeper.new) machine.new.tables }
 {
+    let of_rights = is_of_rights(machine.tables(), change.change());
     // The reply to a refusal of the keeper is made before the change is tried, so that no memory can be wanting between them.
     let Ok(fault) = refusal_reply(alloc, machine.length(), &Refusal::KeeperFault) else {
         drop(change);
@@ -113,6 +124,7 @@ fn carry_change<K: Keeper, T: Trail<Entry = Change>>(
     match machine.enter(alloc, keeper, trail, change) {
         Ok(true) => {
             drop(fault);
+            *stamp = raised(*stamp, of_rights);
             Ok(good_reply(machine.length(), good))
         }
         Ok(false) => {
@@ -142,6 +154,8 @@ impl<K: Keeper, T: Trail<Entry = Change>> Book<K, T> {
         ensures ok { IfOk result (HasOpened config.now now (T.told trail) (K.faults keeper)) }
         ensures err { IfErr result (λ e. IsRefused config.now now (K.Tells e.0) (K.rows keeper) (K.faults keeper) (K.faults e.0) e.1) }
         ensures counted { IfErr result (λ e. K.faults keeper ≤ K.faults e.0) }
+        // a keeper that is handed back has the rows that it had
+        ensures kept { IfErr result (λ e. K.Tells e.0 → K.Tells keeper × AreSame (K.rows e.0) (K.rows keeper)) }
     {
         let Ok(rights) = RightsCache::new(alloc, CAPACITY) else {
             return Err((keeper, OpenError::Memory));
@@ -155,6 +169,7 @@ impl<K: Keeper, T: Trail<Entry = Change>> Book<K, T> {
                     trail,
                     machine,
                     rights,
+                    stamp: 0,
                     start,
                 })
             }
@@ -178,16 +193,17 @@ impl<K: Keeper, T: Trail<Entry = Change>> Book<K, T> {
         ensures counted { self.old.faults ≤ self.new.faults }
         ensures followed { IsFollowed self.new }
         // the token whose rights decide is looked for once in the cache, which no answer depends on
-        ensures looked { Looked self.old.rights self.old.hub (decider self.old.hub now asked.now) result self.new.rights }
+        ensures looked { Looked self.old.rights self.old.stamp (decider self.old.hub now asked.now) result self.new.rights }
         // the same in words of places: the answer is that of the state that the entries before it left
         ensures placed { VisitedAt self.old.start (entries_of self.old) (entries_of self.new) self.old.faults self.new.faults now draw asked.now result }
     {
-        let answer = decide(alloc, &self.machine, &mut self.rights, now, asked)?;
+        let answer = decide(alloc, &self.machine, &mut self.rights, self.stamp, now, asked)?;
         let reply = carry(
             alloc,
             &mut self.machine,
             &mut self.keeper,
             &mut self.trail,
+            &mut self.stamp,
             answer,
         )?;
         Ok(Outcome::Answer(reply))
@@ -221,6 +237,7 @@ impl<K: Keeper, T: Trail<Entry = Change>> Book<K, T> {
     /// The keeper and the trail. Takes no memory.
     pub fn into_parts(self) -> (K, T)
         ensures told { T.told result.1 ≡ self.told }
+        ensures followed { IsFollowed self }
         ensures faults { K.faults result.0 ≡ self.faults }
         // the rows kept are those of the state, which is what the history leaves
         ensures rows { K.Tells result.0 → Keeps (K.rows result.0) self.hub.tables }

@@ -8,7 +8,7 @@ ghost use Rattle.hub_core.specs.Answer as spec;
 ghost use Rattle.hub_machine.specs.Answers.{answer_view};
 ghost use Rattle.hub_core.specs.History.{Answers};
 ghost use Rattle.hub_core.specs.Judged.{HasHeld, ByRights, decider};
-ghost use Rattle.hub_core.specs.Current.{IsCurrent, Looked, LookedFor};
+ghost use Rattle.hub_core.specs.Current.{IsCurrent, AreNumbered, Looked};
 ghost use Rattle.roles.specs.Rights.{context, IsAllowed, Holds, IsGrantOf};
 ghost use Rattle.scope_meet.specs.Named.{AdmitsSomething};
 ghost use Rattle.scope_names.specs.declared.action.Action.{Action};
@@ -385,13 +385,15 @@ pub fn decide(
     alloc: Global,
     hub: &Machine,
     rights: &mut RightsCache,
+    stamp: u64,
     now: Moment,
     asked: &Asked,
 ) -> Result<Answer, AllocError>
-    requires { IsCurrent rights.old hub.now }
+    requires current { IsCurrent rights.old hub.now.tables stamp }
+    requires numbered { AreNumbered hub.now.tables }
     ensures answers { IfOk result (λ a. (draw : Option (List ℕ)) → Answers hub.now now draw asked.now (answer_view a)) }
-    ensures looked { Looked rights.old hub.now (decider hub.now now asked.now) result rights.new }
-    ensures current { IsCurrent rights.new hub.now }
+    ensures looked { Looked rights.old stamp (decider hub.now now asked.now) result rights.new }
+    ensures current { IsCurrent rights.new hub.now.tables stamp }
 {
     let revision = hub.length();
     let past = is_past(revision, asked.seen);
@@ -402,7 +404,7 @@ pub fn decide(
             length: revision,
         }));
     }
-    after_seen(alloc, hub, rights, now, asked)
+    after_seen(alloc, hub, rights, stamp, now, asked)
 }
 
 /// The answer to a call whose caller hasn't seen more than there is.
@@ -410,18 +412,20 @@ fn after_seen(
     alloc: Global,
     hub: &Machine,
     rights: &mut RightsCache,
+    stamp: u64,
     now: Moment,
     asked: &Asked,
 ) -> Result<Answer, AllocError>
-    requires current { IsCurrent rights.old hub.now }
+    requires current { IsCurrent rights.old hub.now.tables stamp }
+    requires numbered { AreNumbered hub.now.tables }
     requires past { spec.is_past hub.now.length asked.now.seen ≡ false }
     ensures answers { IfOk result (λ a. (draw : Option (List ℕ)) → Answers hub.now now draw asked.now (answer_view a)) }
-    ensures looked { Looked rights.old hub.now (decider hub.now now asked.now) result rights.new }
-    ensures current { IsCurrent rights.new hub.now }
+    ensures looked { Looked rights.old stamp (decider hub.now now asked.now) result rights.new }
+    ensures current { IsCurrent rights.new hub.now.tables stamp }
 {
     let needed = needs_token(&asked.call);
     if needed {
-        return with_token(alloc, hub, rights, now, asked);
+        return with_token(alloc, hub, rights, stamp, now, asked);
     }
     get_version(alloc)
 }
@@ -431,20 +435,22 @@ fn with_token(
     alloc: Global,
     hub: &Machine,
     rights: &mut RightsCache,
+    stamp: u64,
     now: Moment,
     asked: &Asked,
 ) -> Result<Answer, AllocError>
-    requires current { IsCurrent rights.old hub.now }
+    requires current { IsCurrent rights.old hub.now.tables stamp }
+    requires numbered { AreNumbered hub.now.tables }
     requires past { spec.is_past hub.now.length asked.now.seen ≡ false }
     requires needed { need.needs_token asked.now.call ≡ true }
     ensures answers { IfOk result (λ a. (draw : Option (List ℕ)) → Answers hub.now now draw asked.now (answer_view a)) }
-    ensures looked { Looked rights.old hub.now (decider hub.now now asked.now) result rights.new }
-    ensures current { IsCurrent rights.new hub.now }
+    ensures looked { Looked rights.old stamp (decider hub.now now asked.now) result rights.new }
+    ensures current { IsCurrent rights.new hub.now.tables stamp }
 {
     let caller = good_token(alloc, hub, now, &asked.token)?;
     match caller {
         None => Ok(Answer::Refuses(Refusal::NoValidToken)),
-        Some(token) => by_rights(alloc, hub, rights, now, token, &asked.call),
+        Some(token) => by_rights(alloc, hub, rights, stamp, now, token, &asked.call),
     }
 }
 
@@ -453,17 +459,19 @@ fn by_rights(
     alloc: Global,
     hub: &Machine,
     rights: &mut RightsCache,
+    stamp: u64,
     now: Moment,
     token: &Token,
     call: &Call,
 ) -> Result<Answer, AllocError>
-    requires current { IsCurrent rights.old hub.now }
+    requires current { IsCurrent rights.old hub.now.tables stamp }
+    requires numbered { AreNumbered hub.now.tables }
     requires kept { map.get hub.now.tables.tokens token.now.id ≡ Some token.now }
     ensures answers { IfOk result (λ a. ByRights hub.now now token.now call.now (answer_view a)) }
-    ensures looked { Looked rights.old hub.now (Some token.now) result rights.new }
-    ensures current { IsCurrent rights.new hub.now }
+    ensures looked { Looked rights.old stamp (Some token.now) result rights.new }
+    ensures current { IsCurrent rights.new hub.now.tables stamp }
 {
-    let grant = rights.look(alloc, hub.tables(), token, hub.length())?;
+    let grant = rights.look(alloc, hub.tables(), token, stamp)?;
     judged(alloc, hub, now, token, grant, call)
 }
 

@@ -6,4 +6,9 @@
 pub mod ask;
 pub mod book;
 mod decide;
+mod laws;
 mod need;
+pub mod start;
+mod stamps;
+
+pub use laws::{a_call_has_one_answer, entries_lead_to_one_state};

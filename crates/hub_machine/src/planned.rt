@@ -63,6 +63,14 @@ impl Planned {
         }
     }
 
+    /// The change itself.
+    pub fn change(&self) -> &Change
+        ensures { result.now ≡ self.now }
+    {
+        let _ = &self.written;
+        &self.change
+    }
+
     /// The change, and its batch, which is written now if it wasn't yet.
     pub(crate) fn write(self, alloc: Global) -> Result<(Change, Written), AllocError>
         ensures change { IfOk result (λ p. p.0 ≡ self) }

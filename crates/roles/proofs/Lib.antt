@@ -6,4 +6,5 @@ mod GroupsOf
 pub mod Looked
 mod RolesOf
 mod SharesOf
+pub mod Sources
 pub mod Walks

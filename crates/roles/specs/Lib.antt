@@ -3,3 +3,4 @@ pub mod Looks
 pub mod Naming
 pub mod Received
 pub mod Rights
+pub mod Sources

@@ -6,5 +6,8 @@
 pub mod cache;
 pub mod grants;
 pub mod held;
+mod laws;
 pub mod naming;
 mod received;
+
+pub use laws::rights_come_from_their_sources;

@@ -1,7 +1,23 @@
-use Rattle.std.proofs.Common.{◌≡◌, ◌∙◌, ap, inr, refl, Ok}
-use Rattle.hub_machine.specs.Replies.{refusal_reply}
+use Rattle.std.proofs.Common.{◌≡◌, ◌∙◌, ◌+◌, ℕ, Bool, ap, inl, inr, refl, Ok}
+use Rattle.std.specs.Prelude.{if◌then◌else◌}
+use Rattle.hub_tables.specs.State.{State}
+use Rattle.hub_machine.specs.Replies.{good_reply, refusal_reply}
+use Rattle.hub_machine.specs.Answers.{good_view}
+use Rattle.hub_core.specs.Stamps.{is_of_rights}
 use Rattle.hub_machine.specs.declared.refusal.Refusal.TheVariants.{KeeperFault}
 use Rattle.hub_core.proofs.book.carry_change.Goals as goal
+
+pub returns-in-Ok-true-clause-carried : goal.returns-in-Ok-true-clause-carried
+returns-in-Ok-true-clause-carried g c =
+    let same = rw c.in-Ok-true.field-0-test at c.in-Ok-true.ensures.entered in
+    inl (record {
+      hub = same.0;
+      telling = same.1;
+      longer = same.2;
+      stamped = c.raised.ensures ∙ ap (λ (b : Bool). if b then c.args.stamp.now + 1 else c.args.stamp.now)
+          (c.is_of_rights-of_rights.ensures ∙ ap (λ (t : State). is_of_rights t c.args.change) c.tables.ensures);
+      said = c.good_reply.ensures ∙ ap (λ n. good_reply n (good_view c.args.good)) c.length-in-Ok-true.ensures.value;
+    })
 
 pub returns-in-Ok-false-clause-carried : goal.returns-in-Ok-false-clause-carried
 returns-in-Ok-false-clause-carried g c =
@@ -10,6 +26,6 @@ returns-in-Ok-false-clause-carried g c =
       change = c.args.change;
       has = refl;
       said = c.in-Ok.ensures ∙ ap (λ n. refusal_reply n KeeperFault) c.length.ensures.value;
-      stays = record { hub = same.0; telling = same.1; longer = same.2 };
+      stays = record { hub = same.0; telling = same.1; longer = same.2; stamped = refl };
       rises = c.in-Ok-false.ensures.cause (ap Ok c.in-Ok-false.field-0-test);
     })

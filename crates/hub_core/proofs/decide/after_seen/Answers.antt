@@ -11,5 +11,5 @@ returns-clause-answers c = IfOk-weaker c.get_version.result _ _
     c.get_version.ensures
 
 pub returns-clause-looked : goal.returns-clause-looked
-returns-clause-looked c = not_looked c.args.rights.now c.args.hub.now _ c.get_version.result
+returns-clause-looked c = not_looked c.args.rights.now c.args.stamp _ c.get_version.result
     (version_decides c.args.hub.now c.args.now c.args.asked.now c.requires.past (sym c.needs_token-needed.ensures ∙ c.if-needed.false))

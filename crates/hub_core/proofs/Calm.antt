@@ -1,0 +1,279 @@
+-- No row that an answer changes is one that a test finds, where the test finds none of the kinds of rows that answers change.
+use Rattle.std.proofs.Common.{◌≡◌, ℕ, Bool, true, false, ◌||◌, not, cond, List, [], ◌∷◌, ◌++◌, map, filter, length, Option, refl, sym, subst}
+use Rattle.std.specs.Prelude.{Some, None, Ok, Err}
+use Rattle.std.specs.List.{list_any}
+use Rattle.std.specs.FinMap.{get, contains_key, len, values}
+use Rattle.hub_kit.specs.KeyOrder.{name_cmp}
+use Rattle.hub_kit.specs.declared.names.ServerKey.{ServerKey}
+use Rattle.keyed_rows.specs.Sorted.{in_order, with_keys, without_keys}
+use Rattle.hub_rows.specs.declared.keys.ShareKey.{ShareKey}
+use Rattle.hub_rows.specs.declared.changes.RowChange.{RowChange}
+use Rattle.hub_rows.specs.declared.changes.RowChange.TheVariants.{Put, Remove}
+use Rattle.hub_rows.specs.declared.rows.Row.TheVariants as Row
+use Rattle.hub_rows.specs.declared.rows.RowKey.TheVariants as RowKey
+use Rattle.hub_rows.specs.declared.records.User.{User}
+use Rattle.hub_rows.specs.declared.records.Group.{Group}
+use Rattle.hub_rows.specs.declared.records.Service.{Service}
+use Rattle.hub_rows.specs.declared.records.Role.{Role}
+use Rattle.hub_rows.specs.declared.records.Token.{Token}
+use Rattle.hub_rows.specs.declared.records.ServerRow.{ServerRow}
+use Rattle.hub_rows.specs.declared.records.Share.{Share}
+use Rattle.hub_rows.specs.declared.records.ShareCode.{ShareCode}
+use Rattle.hub_rows.specs.declared.records.OAuthClient.{OAuthClient}
+use Rattle.hub_rows.specs.declared.records.OAuthCode.{OAuthCode}
+use Rattle.hub_tables.specs.State.{State}
+use Rattle.admin_rules.specs.declared.refusals.RuleRefusal.{RuleRefusal}
+use Rattle.admin_rules.specs.declared.refusals.RuleRefusal.TheVariants.{Exists, LiveServers, FixedRole}
+use Rattle.admin_rules.specs.Rules as rules
+use Rattle.admin_rules.specs.Users as users
+use Rattle.admin_rules.specs.Users.{new_user}
+use Rattle.admin_rules.specs.Groups as groups
+use Rattle.admin_rules.specs.Services as services
+use Rattle.admin_rules.specs.Roles as roles
+use Rattle.admin_rules.specs.Purges.{changes_of, has_member, without_member, is_held_by_user, without_user, is_token_of_user, is_server_of_user, is_share_of_user, is_code_of_user, is_called, clients_of_user, is_grant_of_user, user_rows, is_held_by_group, without_group, is_share_to_group, group_rows, is_held_by_service, without_service, is_token_of_service, is_client, client_of_service, service_rows}
+use Rattle.hub_view.specs.Fields.{Rights}
+use Rattle.hub_machine.specs.State.{Hub, has_live_server}
+use Rattle.hub_machine.specs.Replies.{Answer, refuses, gives, changes, Good, good, rows_then, or_refusal, first_refusal, if_so}
+use Rattle.hub_machine.specs.Trails.{in_trail}
+use Rattle.hub_machine.specs.Apply.{is_past_trail}
+use Rattle.hub_calls.specs.Calling.{after_rows, by_rules, done}
+use Rattle.hub_calls.specs.Facts.{user_at}
+use Rattle.hub_calls.specs.Roles.{role_of}
+use Rattle.hub_calls.specs.Users.{get_version}
+use Rattle.hub_core.specs.Needs.{needs, needs_token, is_there}
+use Rattle.hub_core.specs.Answer.{Judgement, row, if_there, by_token, by_call, action_rules, caller, is_past, named}
+use Rattle.hub_core.specs.History.{Answers}
+use Rattle.hub_machine.specs.declared.change.Change.TheVariants.{Rows}
+use Rattle.hub_machine.specs.declared.refusal.Refusal.{Refusal}
+use Rattle.hub_machine.specs.declared.refusal.Refusal.TheVariants.{SeenPast, NotFound, TrailFull}
+use Rattle.hub_machine.specs.declared.call.Asked.{Asked}
+use Rattle.hub_machine.specs.declared.call.Call.{Call}
+use Rattle.hub_machine.specs.declared.call.Call.TheVariants.{PostUsers, PostUser, PatchUser, DeleteUser, PostGroup, DeleteGroup, JoinGroup, LeaveGroup, PostService, DeleteService, PutRole, DeleteRole}
+
+-- the test finds none of the kinds of rows that answers change
+pub record IsCalm (test : RowChange → Bool) : Type 0 where
+  pub put_user : (x : User) → test (Put (Row.User x)) ≡ false
+  pub remove_user : (x : List ℕ) → test (Remove (RowKey.User x)) ≡ false
+  pub put_group : (x : Group) → test (Put (Row.Group x)) ≡ false
+  pub remove_group : (x : List ℕ) → test (Remove (RowKey.Group x)) ≡ false
+  pub put_service : (x : Service) → test (Put (Row.Service x)) ≡ false
+  pub remove_service : (x : List ℕ) → test (Remove (RowKey.Service x)) ≡ false
+  pub put_role : (x : Role) → test (Put (Row.Role x)) ≡ false
+  pub remove_role : (x : List ℕ) → test (Remove (RowKey.Role x)) ≡ false
+  pub remove_token : (x : ℕ) → test (Remove (RowKey.Token x)) ≡ false
+  pub remove_server : (x : ServerKey) → test (Remove (RowKey.ServerRow x)) ≡ false
+  pub remove_share : (x : ShareKey) → test (Remove (RowKey.Share x)) ≡ false
+  pub remove_code : (x : ℕ) → test (Remove (RowKey.ShareCode x)) ≡ false
+  pub remove_client : (x : List ℕ) → test (Remove (RowKey.OAuthClient x)) ≡ false
+  pub remove_grant : (x : List ℕ) → test (Remove (RowKey.OAuthCode x)) ≡ false
+
+-- it finds no row of the answer's change
+abbrev pub Calm : (RowChange → Bool) → Answer → Type 0
+Calm test (changes (Rows rows) g) = list_any test rows ≡ false
+Calm test _ = Unit {0}
+
+module _ (test : RowChange → Bool) (calm : IsCalm test) where
+  abbrev AreCalm : List RowChange → Type 0
+  AreCalm rows = list_any test rows ≡ false
+
+  both : (a b : Bool) → a ≡ false → b ≡ false → (a || b) ≡ false
+  both true b h k = h
+  both false b h k = k
+
+  one : (r : RowChange) → test r ≡ false → AreCalm (r ∷ [])
+  one r h = both (test r) false h refl
+
+  calm-append : (xs ys : List RowChange) → AreCalm xs → AreCalm ys → AreCalm (xs ++ ys)
+  calm-append [] ys h k = k
+  calm-append (x ∷ xs) ys h k = split (test x) (list_any test xs) h (calm-append xs ys)
+    where
+      split : (a b : Bool) → (a || b) ≡ false → (b ≡ false → AreCalm ys → AreCalm (xs ++ ys)) → (a || list_any test (xs ++ ys)) ≡ false
+      split true b e f = e
+      split false b e f = f e k
+
+  calm-map : {X : Type 0} (change : X → RowChange) → ((x : X) → test (change x) ≡ false) → (rows : List X) → AreCalm (map change rows)
+  calm-map change h [] = refl
+  calm-map change h (x ∷ xs) = both (test (change x)) (list_any test (map change xs)) (h x) (calm-map change h xs)
+
+  calm_users : (admin : Bool) (now : ℕ) (names : List (List ℕ)) → AreCalm (map (new_user admin now) names)
+  calm_users admin now names = calm-map (new_user admin now) (λ _. calm.put_user _) names
+
+  changed : {X : Type 0} (takes : X → Bool) (change : X → RowChange) → ((x : X) → test (change x) ≡ false) → (rows : List X) → AreCalm (changes_of takes change rows)
+  changed takes change h rows = calm-map change h (filter takes rows)
+
+  three : (a b c : List RowChange) → AreCalm a → AreCalm b → AreCalm c → AreCalm (a ++ b ++ c)
+  three a b c pa pb pc = calm-append (a ++ b) c (calm-append a b pa pb) pc
+
+  five : (a b c d e : List RowChange) → AreCalm a → AreCalm b → AreCalm c → AreCalm d → AreCalm e → AreCalm (a ++ b ++ c ++ d ++ e)
+  five a b c d e pa pb pc pd pe = calm-append (a ++ b ++ c ++ d) e (calm-append (a ++ b ++ c) d (three a b c pa pb pc) pd) pe
+
+  calm_user : (s : State) (user : List ℕ) → AreCalm (user_rows s user)
+  calm_user s user =
+      let groups : List RowChange = changes_of (has_member user) (without_member user) (values s.groups) in
+      let roles : List RowChange = changes_of (is_held_by_user user) (without_user user) (values s.roles) in
+      let row : List RowChange = Remove (RowKey.User user) ∷ [] in
+      let of_tokens : Token → RowChange = λ token. Remove (RowKey.Token token.id) in
+      let of_servers : ServerRow → RowChange = λ row. Remove (RowKey.ServerRow row.key) in
+      let of_shares : Share → RowChange = λ share. Remove (RowKey.Share share.key) in
+      let of_codes : ShareCode → RowChange = λ code. Remove (RowKey.ShareCode code.id) in
+      let of_clients : OAuthClient → RowChange = λ client. Remove (RowKey.OAuthClient client.id) in
+      let of_grants : OAuthCode → RowChange = λ code. Remove (RowKey.OAuthCode code.hash) in
+      let tokens : List RowChange = changes_of (is_token_of_user user) of_tokens (values s.tokens) in
+      let servers : List RowChange = changes_of (is_server_of_user user) of_servers (values s.servers) in
+      let first : List RowChange = groups ++ roles ++ row ++ tokens ++ servers in
+      let shares : List RowChange = changes_of (is_share_of_user user) of_shares (values s.shares) in
+      let codes : List RowChange = changes_of (is_code_of_user user) of_codes (values s.codes) in
+      let clients : List RowChange = changes_of (is_called (clients_of_user user)) of_clients (values s.clients) in
+      let grants : List RowChange = changes_of (is_grant_of_user user) of_grants (values s.grant_codes) in
+      five first shares codes clients grants
+      (five groups roles row tokens servers
+      (changed (has_member user) (without_member user) (λ _. calm.put_group _) (values s.groups))
+      (changed (is_held_by_user user) (without_user user) (λ _. calm.put_role _) (values s.roles))
+      (one (Remove (RowKey.User user)) (calm.remove_user user))
+      (changed (is_token_of_user user) of_tokens (λ _. calm.remove_token _) (values s.tokens))
+      (changed (is_server_of_user user) of_servers (λ _. calm.remove_server _) (values s.servers)))
+      (changed (is_share_of_user user) of_shares (λ _. calm.remove_share _) (values s.shares))
+      (changed (is_code_of_user user) of_codes (λ _. calm.remove_code _) (values s.codes))
+      (changed (is_called (clients_of_user user)) of_clients (λ _. calm.remove_client _) (values s.clients))
+      (changed (is_grant_of_user user) of_grants (λ _. calm.remove_grant _) (values s.grant_codes))
+
+  calm_group : (s : State) (group : List ℕ) → AreCalm (group_rows s group)
+  calm_group s group =
+      let of_shares : Share → RowChange = λ share. Remove (RowKey.Share share.key) in
+      let row : List RowChange = Remove (RowKey.Group group) ∷ [] in
+      three (changes_of (is_held_by_group group) (without_group group) (values s.roles)) row (changes_of (is_share_to_group group) of_shares (values s.shares))
+      (changed (is_held_by_group group) (without_group group) (λ _. calm.put_role _) (values s.roles))
+      (one (Remove (RowKey.Group group)) (calm.remove_group group))
+      (changed (is_share_to_group group) of_shares (λ _. calm.remove_share _) (values s.shares))
+
+  calm_service : (s : State) (service : List ℕ) → AreCalm (service_rows s service)
+  calm_service s service =
+      let of_tokens : Token → RowChange = λ token. Remove (RowKey.Token token.id) in
+      let of_clients : OAuthClient → RowChange = λ client. Remove (RowKey.OAuthClient client.id) in
+      let roles : List RowChange = changes_of (is_held_by_service service) (without_service service) (values s.roles) in
+      let row : List RowChange = Remove (RowKey.Service service) ∷ [] in
+      let tokens : List RowChange = changes_of (is_token_of_service service) of_tokens (values s.tokens) in
+      let clients : List RowChange = changes_of (is_client (client_of_service service)) of_clients (values s.clients) in
+      calm-append (roles ++ row ++ tokens) clients
+      (three roles row tokens
+      (changed (is_held_by_service service) (without_service service) (λ _. calm.put_role _) (values s.roles))
+      (one (Remove (RowKey.Service service)) (calm.remove_service service))
+      (changed (is_token_of_service service) of_tokens (λ _. calm.remove_token _) (values s.tokens)))
+      (changed (is_client (client_of_service service)) of_clients (λ _. calm.remove_client _) (values s.clients))
+
+  -- ---- what the rules make
+
+  calm_by_then : (rows : List RowChange) (g : Good) → AreCalm rows → Calm test (rows_then rows g)
+  calm_by_then [] g h = tt
+  calm_by_then (r ∷ rest) g h = h
+
+  same_ok : (x y : List RowChange) → (let a : rules.Answer = Ok x in let b : rules.Answer = Ok y in a ≡ b) → x ≡ y
+  same_ok x y e = cc
+
+  not_ok : (x : List RowChange) (r : RuleRefusal) → (let a : rules.Answer = Err r in let b : rules.Answer = Ok x in a ≡ b) → ⊥
+  not_ok x r e = cc
+
+  -- the rows that no rule refuses
+  ruled : (checks : List (Option RuleRefusal)) (made rows : List RowChange) → rules.by_rules checks made ≡ Ok rows → made ≡ rows
+  ruled [] made rows e = same_ok made rows e
+  ruled (None ∷ checks) made rows e = ruled checks made rows e
+  ruled (Some r ∷ checks) made rows e = absurd (not_ok rows r e)
+
+  calm_by_rules : (s : Hub) (made : rules.Answer) (reply : Hub → Good) → ((rows : List RowChange) → made ≡ Ok rows → AreCalm rows) → Calm test (by_rules s made reply)
+  calm_by_rules s (Ok rows) reply h = calm_by_then rows (reply (after_rows rows s)) (h rows refl)
+  calm_by_rules s (Err e) reply h = tt
+
+  -- ---- what the rules make
+
+  calm_by_if : (b : Bool) (made : List RowChange) → AreCalm made → AreCalm (cond b made [])
+  calm_by_if true made h = h
+  calm_by_if false made h = refl
+
+  calm_by_unless : (b : Bool) (made : List RowChange) → AreCalm made → AreCalm (cond b [] made)
+  calm_by_unless true made h = refl
+  calm_by_unless false made h = h
+
+  calm_by_ruled : (checks : List (Option RuleRefusal)) (made rows : List RowChange) → AreCalm made → rules.by_rules checks made ≡ Ok rows → AreCalm rows
+  calm_by_ruled checks made rows h e = subst AreCalm (ruled checks made rows e) h
+
+  calm_by_ok : (made rows : List RowChange) → AreCalm made → (let a : rules.Answer = Ok made in let b : rules.Answer = Ok rows in a ≡ b) → AreCalm rows
+  calm_by_ok made rows h e = subst AreCalm (same_ok made rows e) h
+
+  new_users : (t : State) (names : List (List ℕ)) (admin : Bool) (now : ℕ) (rows : List RowChange) → users.add_users t names admin now ≡ Ok rows → AreCalm rows
+  new_users t names admin now rows e =
+      let new : List (List ℕ) = users.unkept_users t names in
+      calm_by_ruled (users.if_none_new new names ∷ rules.if_full 1 t.limits.users (len t.users) (length new) ∷ []) (map (users.new_user admin now) new) rows
+      (calm_users admin now new) e
+
+  one_admin : (admin : Bool) (kept : Option User) → AreCalm (users.with_admin admin kept)
+  one_admin admin None = refl
+  one_admin admin (Some x) = calm_by_unless (users.same_bool x.admin admin) (Put (Row.User (record x { admin = admin })) ∷ []) (one _ (calm.put_user _))
+
+  one_group : (change : List (List ℕ) → List (List ℕ)) (kept : Option Group) → AreCalm (groups.with_members change kept)
+  one_group change None = refl
+  one_group change (Some x) = calm_by_unless (groups.same_names (change x.users) x.users) (Put (Row.Group (record x { users = change x.users })) ∷ []) (one _ (calm.put_group _))
+
+  one_role : (r : Role) (kept : Option Role) → AreCalm (roles.role_put r kept)
+  one_role r None = one (Put (Row.Role r)) (calm.put_role r)
+  one_role r (Some k) = calm_by_unless (roles.same_role r k) (Put (Row.Role r) ∷ []) (one _ (calm.put_role _))
+
+  -- ---- each call
+
+  calm_by_row : (s : Hub) (may : Rights) (now : ℕ) (k : Token) (call : Call) → Calm test (row s may now k call)
+  calm_by_row s may now k (PostUsers names admin) = calm_by_rules s (users.add_users s.tables names admin now) _ (new_users s.tables names admin now)
+  calm_by_row s may now k (PostUser user) = calm_by_rules s (users.add_users s.tables (user ∷ []) false now) _ (new_users s.tables (user ∷ []) false now)
+  calm_by_row s may now k (PatchUser user admin) = calm_by_rules s (users.set_admin s.tables user admin) (λ after. good 200 (user_at may after user)) (λ rows e. calm_by_ok _ rows (one_admin admin (get s.tables.users user)) e)
+  calm_by_row s may now k (DeleteUser user) = calm_by_rules s (users.delete_user s.tables user (has_live_server s.lives user)) _
+      (λ rows e. calm_by_ruled (rules.if_so (has_live_server s.lives user) LiveServers ∷ []) _ rows (calm_by_if (contains_key s.tables.users user) (user_rows s.tables user) (calm_user s.tables user)) e)
+  calm_by_row s may now k (PostGroup group names) = calm_by_rules s (groups.add_group s.tables group names) _
+      (λ rows e. calm_by_ruled (rules.if_so (contains_key s.tables.groups group) (Exists group) ∷ groups.if_unknown_user s.tables names ∷ rules.if_full 2 s.tables.limits.groups (len s.tables.groups) 1 ∷ []) (Put (Row.Group (record { name = group; users = in_order name_cmp names })) ∷ []) rows (one _ (calm.put_group _)) e)
+  calm_by_row s may now k (DeleteGroup group) = calm_by_rules s (groups.delete_group s.tables group) done
+      (λ rows e. calm_by_ok _ rows (calm_by_if (contains_key s.tables.groups group) (group_rows s.tables group) (calm_group s.tables group)) e)
+  calm_by_row s may now k (JoinGroup group names) = calm_by_rules s (groups.join_group s.tables group names) _
+      (λ rows e. calm_by_ruled (groups.if_unknown_user s.tables names ∷ []) _ rows (one_group (with_keys name_cmp names) (get s.tables.groups group)) e)
+  calm_by_row s may now k (LeaveGroup group names) = calm_by_rules s (groups.leave_group s.tables group names) _
+      (λ rows e. calm_by_ruled (groups.if_unknown_user s.tables names ∷ []) _ rows (one_group (without_keys name_cmp names) (get s.tables.groups group)) e)
+  calm_by_row s may now k (PostService service) = calm_by_rules s (services.add_service s.tables service) _
+      (λ rows e. calm_by_ruled (rules.if_so (contains_key s.tables.services service) (Exists service) ∷ rules.if_full 3 s.tables.limits.services (len s.tables.services) 1 ∷ []) (Put (Row.Service (record { name = service })) ∷ []) rows (one _ (calm.put_service _)) e)
+  calm_by_row s may now k (DeleteService service) = calm_by_rules s (services.delete_service s.tables service) done
+      (λ rows e. calm_by_ok _ rows (calm_by_if (contains_key s.tables.services service) (service_rows s.tables service) (calm_service s.tables service)) e)
+  calm_by_row s may now k (PutRole role scopes us gs vs) =
+      let x : Role = role_of role scopes us gs vs in
+      calm_by_rules s (roles.put_role s.tables x) _
+      (λ rows e. calm_by_ruled (rules.if_so (roles.is_fixed_role x.name) FixedRole ∷ roles.if_unknown_scope s.tables.scopes x.scopes ∷ roles.if_unknown_holder s.tables x
+      ∷ rules.if_full 4 s.tables.limits.roles (len s.tables.roles) (cond (contains_key s.tables.roles x.name) 0 1) ∷ []) _ rows (one_role x (get s.tables.roles x.name)) e)
+  calm_by_row s may now k (DeleteRole role) = calm_by_rules s (roles.delete_role s.tables role) _
+      (λ rows e. calm_by_ruled (rules.if_so (roles.is_fixed_role role) FixedRole ∷ []) _ rows (calm_by_if (contains_key s.tables.roles role) (Remove (RowKey.Role role) ∷ []) (one _ (calm.remove_role _))) e)
+  calm_by_row s may now k _ = tt
+
+  -- ---- the frame
+
+  calm_by_or : (o : Option Refusal) (r : Answer) → Calm test r → Calm test (or_refusal r o)
+  calm_by_or None r h = h
+  calm_by_or (Some x) r h = tt
+
+  calm_by_token : (s : Hub) (j : Judgement) (now : ℕ) (call : Call) (k : Option Token) → Calm test (by_token s j now call k)
+  calm_by_token s j now call None = tt
+  calm_by_token s j now call (Some k) =
+      calm_by_or (first_refusal (action_rules j (needs call))) (if_there s j.may now k call)
+      (calm_by_or (first_refusal (if_so (not (is_there s.tables call)) NotFound ∷ [])) (row s j.may now k call) (calm_by_row s j.may now k call))
+
+  pub calm_by_call : (s : Hub) (j : Judgement) (now : ℕ) (call : Call) (k : Option Token) (b : Bool) → Calm test (cond b (by_token s j now call k) get_version)
+  calm_by_call s j now call k true = calm_by_token s j now call k
+  calm_by_call s j now call k false = tt
+
+  calm_if : (rows : List RowChange) (g : Good) (b : Bool) → AreCalm rows → Calm test (cond b (refuses TrailFull) (changes (Rows rows) g))
+  calm_if rows g true h = tt
+  calm_if rows g false h = h
+
+  calm_in_trail : (s : Hub) (r : Answer) → Calm test r → Calm test (in_trail s r)
+  calm_in_trail s (refuses x) h = tt
+  calm_in_trail s (gives g) h = tt
+  calm_in_trail s (changes (Rows rows) g) h = calm_if rows g (is_past_trail s (Rows rows)) h
+
+  pub calm_answer : (s : Hub) (now : ℕ) (draw : Option (List ℕ)) (asked : Asked) (r : Answer) → Answers s now draw asked r → Calm test r
+  calm_answer s now draw asked r a =
+      let by : Answer = by_call s a.judgement now (caller s now asked) asked.call in
+      subst (Calm test) (sym a.is)
+      (calm_by_or (first_refusal (if_so (is_past s.length asked.seen) (SeenPast (named asked.seen) s.length) ∷ [])) (in_trail s by)
+      (calm_in_trail s by (calm_by_call s a.judgement now asked.call (caller s now asked) (needs_token asked.call))))

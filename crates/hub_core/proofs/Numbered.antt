@@ -1,0 +1,215 @@
+-- Numbers of tokens: what a change has to keep of them, and that the changes of all answers keep it.
+use Rattle.std.proofs.Common.{◌≡◌, ◌≤◌, ◌<◌, ◌+◌, ℕ, Bool, true, false, ◌||◌, cond, List, [], ◌∷◌, filter, All, Option, refl, sym, ◌∙◌, ap, subst, ◌⊎◌, inl, inr, codes, arith}
+use Rattle.std.specs.Prelude.{Some, None}
+use Rattle.std.specs.List.{list_any}
+use Rattle.std.specs.Cmp.{nat_cmp_total, tied_itself}
+use Rattle.std.specs.Cmp.Lexicographic.{nat_list_cmp_total}
+use Rattle.std.specs.Ordering.{nat_cmp, is_eq, eq_by_cmp}
+use Rattle.std.specs.FinMap.{get, get-insert, get-remove, get-empty, nat_cmp-IsAntisymmetric}
+use Rattle.std.proofs.lemmas.List.Elements.{All-nil, All-cons, All-head, All-tail, All-filter}
+use Rattle.keyed_rows.proofs.Finite.{tied}
+use Rattle.hub_rows.specs.declared.changes.RowChange.{RowChange}
+use Rattle.hub_rows.specs.declared.changes.RowChange.TheVariants.{Put, Remove}
+use Rattle.hub_rows.specs.declared.rows.Row.TheVariants as Row
+use Rattle.hub_rows.specs.declared.rows.RowKey.TheVariants as RowKey
+use Rattle.hub_rows.specs.RowKeys.{is_put}
+use Rattle.hub_rows.specs.declared.records.Next.{Next}
+use Rattle.hub_rows.specs.declared.records.Token.{Token}
+use Rattle.hub_tables.specs.Changes.{row_done, rows_done, puts_of, removals_of}
+use Rattle.hub_tables.specs.Lookups.{number_of}
+use Rattle.hub_tables.specs.State.{State}
+use Rattle.hub_machine.specs.State.{Hub}
+use Rattle.hub_machine.specs.Apply.{change_done}
+use Rattle.hub_machine.specs.Replies.{Answer, refuses, gives, changes}
+use Rattle.hub_opening.specs.Opening.{next_token, opened_tables, no_tables, added, token_row}
+use Rattle.hub_opening.specs.declared.config.ConfigToken.{ConfigToken}
+use Rattle.hub_opening.specs.declared.config.HubConfig.{HubConfig}
+use Rattle.hub_opening.proofs.Opened.{opened_keeps}
+use Rattle.hub_core.specs.Current.{AreNumbered}
+use Rattle.hub_core.specs.History.{Answers, change_of}
+use Rattle.hub_core.proofs.Calm.{IsCalm, Calm, calm_answer}
+use Rattle.hub_machine.specs.declared.call.Asked.{Asked}
+use Rattle.hub_machine.specs.declared.change.Change.{Change}
+use Rattle.hub_machine.specs.declared.change.Change.TheVariants.{Rows}
+
+-- a token that is put has a number that was never given before, and that won't be given again
+abbrev pub IsNumbered : (t t' : State) → RowChange → Type 0
+IsNumbered t t' (Put (Row.Token k)) = (next_token t ≤ k.id) × (k.id < next_token t')
+IsNumbered t t' _ = Unit {0}
+
+-- all that a change has to keep for the kept rights: each token that it puts is new, and no number is given twice
+pub record NumbersTokens (rows : List RowChange) (t : State) : Type 0 where
+  pub each : All (IsNumbered t (change_done rows t)) rows
+  pub rises : next_token t ≤ next_token (change_done rows t)
+
+abbrev pub NumbersIn : State → Option Change → Type 0
+NumbersIn t None = Unit {0}
+NumbersIn t (Some (Rows rows)) = NumbersTokens rows t
+
+-- ---- rows that neither put a token nor change a next number
+
+numbers : RowChange → Bool
+numbers (Put (Row.Token row)) = true
+numbers (Put (Row.Next row)) = true
+numbers (Remove (RowKey.Next key)) = true
+numbers _ = false
+
+none_numbered : IsCalm numbers
+unfolding numbers
+none_numbered = record {
+  put_user = λ x. refl;
+  remove_user = λ x. refl;
+  put_group = λ x. refl;
+  remove_group = λ x. refl;
+  put_service = λ x. refl;
+  remove_service = λ x. refl;
+  put_role = λ x. refl;
+  remove_role = λ x. refl;
+  remove_token = λ x. refl;
+  remove_server = λ x. refl;
+  remove_share = λ x. refl;
+  remove_code = λ x. refl;
+  remove_client = λ x. refl;
+  remove_grant = λ x. refl;
+}
+
+true_false : true ≡ false → ⊥
+true_false h = cc
+
+pub either : (a b : Bool) → (a || b) ≡ false → (a ≡ false) × (b ≡ false)
+either true b h = absurd (true_false h)
+either false b h = (refl, h)
+
+neither : (a b : Bool) → a ≡ false → b ≡ false → (a || b) ≡ false
+neither true b h k = h
+neither false b h k = k
+
+pub none_filtered : (q test : RowChange → Bool) (rows : List RowChange) → list_any test rows ≡ false → list_any test (filter q rows) ≡ false
+none_filtered q test [] h = refl
+none_filtered q test (r ∷ rows) h =
+    let parts = either (test r) (list_any test rows) h in
+    let rest = none_filtered q test rows parts.1 in
+    elim (q r) as (λ b. list_any test (cond b (r ∷ filter q rows) (filter q rows)) ≡ false) [
+      | true ↦ neither (test r) (list_any test (filter q rows)) parts.0 rest
+      | false ↦ rest
+    ]
+
+next_same : (r : RowChange) (t : State) → numbers r ≡ false → (row_done r t).nexts ≡ t.nexts
+unfolding numbers
+next_same (Put (Row.Next row)) t h = absurd (true_false h)
+next_same (Remove (RowKey.Next key)) t h = absurd (true_false h)
+next_same _ t h = refl
+
+nexts_same : (rows : List RowChange) (t : State) → list_any numbers rows ≡ false → (rows_done rows t).nexts ≡ t.nexts
+nexts_same [] t h = refl
+nexts_same (r ∷ rows) t h =
+    let parts = either (numbers r) (list_any numbers rows) h in
+    nexts_same rows (row_done r t) parts.1 ∙ next_same r t parts.0
+
+is_numbered : (t t' : State) (r : RowChange) → numbers r ≡ false → IsNumbered t t' r
+unfolding numbers
+is_numbered t t' (Put (Row.Token k)) h = absurd (true_false h)
+is_numbered t t' _ h = tt
+
+are_numbered : (t t' : State) (rows : List RowChange) → list_any numbers rows ≡ false → All (IsNumbered t t') rows
+are_numbered t t' [] h = All-nil (IsNumbered t t')
+are_numbered t t' (r ∷ rows) h =
+    let parts = either (numbers r) (list_any numbers rows) h in
+    All-cons (IsNumbered t t') r rows (is_numbered t t' r parts.0) (are_numbered t t' rows parts.1)
+
+numbers_tokens : (rows : List RowChange) (t : State) → list_any numbers rows ≡ false → NumbersTokens rows t
+numbers_tokens rows t h =
+    let puts = rows_done (puts_of rows) t in
+    let same : (change_done rows t).nexts ≡ t.nexts =
+        nexts_same (removals_of rows) puts (none_filtered _ numbers rows h) ∙ nexts_same (puts_of rows) t (none_filtered is_put numbers rows h) in
+    record {
+      each = are_numbered t (change_done rows t) rows h;
+      rises = let n : next_token t ≤ next_token t = omega arith in subst (λ m. next_token t ≤ number_of (get m (codes "token"))) (sym same) n;
+    }
+
+numbered_by : (t : State) (r : Answer) → Calm numbers r → NumbersIn t (change_of r)
+numbered_by t (refuses x) h = tt
+numbered_by t (gives g) h = tt
+numbered_by t (changes (Rows rows) g) h = numbers_tokens rows t h
+
+-- no answer puts a token or changes a next number, whatever it is
+pub answer_numbers : (s : Hub) (now : ℕ) (draw : Option (List ℕ)) (asked : Asked) (r : Answer) → Answers s now draw asked r → NumbersIn s.tables (change_of r)
+answer_numbers s now draw asked r a = numbered_by s.tables r (calm_answer numbers none_numbered s now draw asked r a)
+
+-- ---- what a change that numbers its tokens makes of them
+
+none_some : (k : Token) → None ≡ Some k → ⊥
+none_some k h = cc
+
+-- a token of the tables afterwards is one of those before, or has a number of the change
+token_step : (t0 t1 : State) (r : RowChange) (t : State) (id : ℕ) (k : Token) → IsNumbered t0 t1 r → get (row_done r t).tokens id ≡ Some k
+    → (get t.tokens id ≡ Some k) ⊎ ((next_token t0 ≤ id) × (id < next_token t1))
+token_step t0 t1 (Put (Row.Token row)) t id k new e = by_test (eq_by_cmp nat_cmp id row.id) refl (sym (get-insert nat_cmp_total t.tokens row.id row id) ∙ e)
+  where
+    by_test : (b : Bool) → eq_by_cmp nat_cmp id row.id ≡ b → cond b (Some row) (get t.tokens id) ≡ Some k → (get t.tokens id ≡ Some k) ⊎ ((next_token t0 ≤ id) × (id < next_token t1))
+    by_test true same h = inr (subst (λ n. (next_token t0 ≤ n) × (n < next_token t1)) (sym (nat_cmp-IsAntisymmetric id row.id (tied (nat_cmp id row.id) same))) new)
+    by_test false same h = inl h
+token_step t0 t1 (Remove (RowKey.Token key)) t id k new e = by_test (eq_by_cmp nat_cmp id key) (sym (get-remove nat_cmp_total t.tokens key id) ∙ e)
+  where
+    by_test : (b : Bool) → cond b None (get t.tokens id) ≡ Some k → (get t.tokens id ≡ Some k) ⊎ ((next_token t0 ≤ id) × (id < next_token t1))
+    by_test true h = absurd (none_some k h)
+    by_test false h = inl h
+token_step t0 t1 _ t id k new e = inl e
+
+token_after : (t0 t1 : State) (rows : List RowChange) (t : State) (id : ℕ) (k : Token) → All (IsNumbered t0 t1) rows → get (rows_done rows t).tokens id ≡ Some k
+    → (get t.tokens id ≡ Some k) ⊎ ((next_token t0 ≤ id) × (id < next_token t1))
+token_after t0 t1 [] t id k new e = inl e
+token_after t0 t1 (r ∷ rows) t id k new e =
+    elim (token_after t0 t1 rows (row_done r t) id k (All-tail (IsNumbered t0 t1) r rows new) e) as (λ _. (get t.tokens id ≡ Some k) ⊎ ((next_token t0 ≤ id) × (id < next_token t1))) [
+      | inl h ↦ token_step t0 t1 r t id k (All-head (IsNumbered t0 t1) r rows new) h
+      | inr h ↦ inr h
+    ]
+
+token_changed : (rows : List RowChange) (t : State) (id : ℕ) (k : Token) → NumbersTokens rows t → get (change_done rows t).tokens id ≡ Some k
+    → (get t.tokens id ≡ Some k) ⊎ ((next_token t ≤ id) × (id < next_token (change_done rows t)))
+token_changed rows t id k new e =
+    let t' = change_done rows t in
+    elim (token_after t t' (removals_of rows) (rows_done (puts_of rows) t) id k (All-filter _ (IsNumbered t t') rows new.each) e)
+    as (λ _. (get t.tokens id ≡ Some k) ⊎ ((next_token t ≤ id) × (id < next_token t'))) [
+      | inl h ↦ token_after t t' (puts_of rows) t id k (All-filter is_put (IsNumbered t t') rows new.each) h
+      | inr h ↦ inr h
+    ]
+
+-- a token that was numbered before is the one of before
+pub token_kept : (rows : List RowChange) (t : State) (id : ℕ) (k : Token) → NumbersTokens rows t → id < next_token t → get (change_done rows t).tokens id ≡ Some k → get t.tokens id ≡ Some k
+token_kept rows t id k new below e = elim (token_changed rows t id k new e) as (λ _. get t.tokens id ≡ Some k) [
+  | inl h ↦ h
+  | inr h ↦ let not_below : next_token t ≤ id = h.0 in absurd (omega (arith, not_below, below))
+]
+
+pub numbered_after : (rows : List RowChange) (t : State) → NumbersTokens rows t → AreNumbered t → AreNumbered (change_done rows t)
+numbered_after rows t new all id k e = elim (token_changed rows t id k new e) as (λ _. id < next_token (change_done rows t)) [
+  | inl h ↦ let below : id < next_token t = all id k h in let more : next_token t ≤ next_token (change_done rows t) = new.rises in omega (arith, below, more)
+  | inr h ↦ h.1
+]
+
+-- ---- at opening
+
+next_put : (now : ℕ) (k : ConfigToken) (t : State) → next_token (added now k t) ≡ next_token t + 1
+next_put now k t =
+    let name = codes "token" in
+    ap number_of (get-insert nat_list_cmp_total t.nexts name (record { name = name; next = next_token t + 1 }) name
+    ∙ ap (λ o. cond (is_eq o) (Some (record { name = name; next = next_token t + 1 })) (get t.nexts name)) (tied_itself nat_list_cmp_total name))
+
+added_numbered : (now : ℕ) (k : ConfigToken) (t : State) → AreNumbered t → AreNumbered (added now k t)
+added_numbered now k t all id row e = by_test (eq_by_cmp nat_cmp id (next_token t)) refl (sym (get-insert nat_cmp_total t.tokens (next_token t) (token_row (next_token t) now k) id) ∙ e)
+  where
+    next : next_token (added now k t) ≡ next_token t + 1
+    next = next_put now k t
+    by_test : (b : Bool) → eq_by_cmp nat_cmp id (next_token t) ≡ b → cond b (Some (token_row (next_token t) now k)) (get t.tokens id) ≡ Some row → id < next_token (added now k t)
+    by_test true same h = let a : id ≡ next_token t = nat_cmp-IsAntisymmetric id (next_token t) (tied (nat_cmp id (next_token t)) same) in omega (arith, a, next)
+    by_test false same h = let below : id < next_token t = all id row h in omega (arith, below, next)
+
+pub numbered_opened : (c : HubConfig) (now : ℕ) → AreNumbered (opened_tables c now)
+numbered_opened c now = opened_keeps AreNumbered c now (record {
+  user = λ t u all. all;
+  group = λ t g all. all;
+  service = λ t v all. all;
+  role = λ t r all. all;
+  token = λ t k all. added_numbered now k t all;
+}) (λ id k e. absurd (none_some k (sym (get-empty nat_cmp id) ∙ e)))

@@ -1,0 +1,171 @@
+-- A change keeps the cache of rights: its entries are right, or of an earlier stamp.
+use Rattle.std.proofs.Common.{◌≡◌, ◌≤◌, ◌<◌, ◌+◌, ℕ, Bool, true, false, not, cond, List, [], ◌∷◌, Option, refl, sym, ◌∙◌, ap, subst, ◌⊎◌, inl, inr, arith}
+use Rattle.std.specs.Prelude.{Some, None, Result, Ok, Err}
+use Rattle.std.specs.List.{list_any}
+use Rattle.std.specs.Cmp.Lexicographic.{nat_list_cmp_total}
+use Rattle.std.specs.Ordering.{eq_by_cmp}
+use Rattle.std.specs.FinMap.{get, get-insert}
+use Rattle.keyed_rows.proofs.Finite.{tied}
+use Rattle.scope_filters.specs.declared.holder.Owner.{Owner}
+use Rattle.scope_filters.specs.declared.holder.Owner.TheVariants as Own
+use Rattle.hub_kit.specs.KeyOrder.{name_cmp}
+use Rattle.admin_rules.specs.Users.{same_bool}
+use Rattle.hub_rows.specs.ShareOrder.{names_exact}
+use Rattle.hub_rows.specs.declared.changes.RowChange.{RowChange}
+use Rattle.hub_rows.specs.declared.changes.RowChange.TheVariants.{Put, Remove}
+use Rattle.hub_rows.specs.declared.rows.Row.TheVariants as Row
+use Rattle.hub_rows.specs.declared.rows.RowKey.TheVariants as RowKey
+use Rattle.hub_rows.specs.RowKeys.{is_put}
+use Rattle.hub_rows.specs.declared.records.Token.{Token}
+use Rattle.hub_rows.specs.declared.records.User.{User}
+use Rattle.hub_tables.specs.Changes.{row_done, rows_done, puts_of, removals_of}
+use Rattle.hub_tables.specs.Lookups.{is_admin, is_admin_row}
+use Rattle.hub_tables.specs.State.{State}
+use Rattle.roles.specs.declared.cache.KeptGrant.{KeptGrant}
+use Rattle.roles.specs.Looks.{Cache}
+use Rattle.roles.specs.Rights.{IsAllowed, IsGrantOf}
+use Rattle.roles.specs.Sources.{HaveSameSources, is_admin_owner}
+use Rattle.roles.proofs.Sources.{same_grant}
+use Rattle.hub_machine.specs.State.{Hub}
+use Rattle.hub_machine.specs.Apply.{apply, change_done}
+use Rattle.hub_machine.specs.Replies.{Answer}
+use Rattle.hub_opening.specs.Opening.{next_token}
+use Rattle.hub_core.specs.Carrying.{Carrier, Carried}
+use Rattle.hub_core.specs.Current.{IsRightIn, IsCurrent, AreNumbered, IsStamped}
+use Rattle.hub_core.specs.History.{change_of}
+use Rattle.hub_core.specs.Stamps.{is_kept_as, touches_rights, changes_rights, stamp_after}
+use Rattle.hub_core.specs.Visits.{noted}
+use Rattle.hub_core.proofs.Numbered.{NumbersTokens, NumbersIn, either, none_filtered, token_kept, numbered_after}
+use Rattle.hub_machine.specs.declared.change.Change.{Change}
+use Rattle.hub_machine.specs.declared.change.Change.TheVariants.{Rows}
+use Rattle.hub_machine.specs.declared.reply.Reply.{Reply}
+
+true_false : true ≡ false → ⊥
+true_false h = cc
+
+-- ---- rows that don't touch rights
+
+-- the same groups, roles, shares and declared scopes, and the same admins
+record AreAlike (t t' : State) : Type 0 where
+  groups : t.groups ≡ t'.groups
+  roles : t.roles ≡ t'.roles
+  shares : t.shares ≡ t'.shares
+  declared : t.scopes ≡ t'.scopes
+  admins : (user : List ℕ) → is_admin t user ≡ is_admin t' user
+
+kept_as : (admin : Bool) (user : Option User) → not (is_kept_as admin user) ≡ false → is_admin_row user ≡ admin
+kept_as admin None h = absurd (true_false h)
+kept_as admin (Some user) h = by_tests user.admin admin h
+  where
+    by_tests : (a b : Bool) → not (same_bool a b) ≡ false → a ≡ b
+    by_tests true true h = refl
+    by_tests true false h = absurd (true_false h)
+    by_tests false true h = absurd (true_false h)
+    by_tests false false h = refl
+
+admin_put : (t0 t : State) (row : User) (user : List ℕ) → is_admin t0 row.name ≡ row.admin → is_admin t0 user ≡ is_admin t user → is_admin t0 user ≡ is_admin (row_done (Put (Row.User row)) t) user
+admin_put t0 t row user put before = by_test (eq_by_cmp name_cmp user row.name) refl ∙ ap is_admin_row (sym (get-insert nat_list_cmp_total t.users row.name row user))
+  where
+    by_test : (b : Bool) → eq_by_cmp name_cmp user row.name ≡ b → is_admin t0 user ≡ is_admin_row (cond b (Some row) (get t.users user))
+    by_test true same = ap (is_admin t0) (names_exact user row.name (tied (name_cmp user row.name) same)) ∙ put
+    by_test false same = before
+
+alike_step : (t0 t : State) (r : RowChange) → touches_rights t0 r ≡ false → AreAlike t0 t → AreAlike t0 (row_done r t)
+alike_step t0 t (Put (Row.User row)) h a = record {
+  groups = a.groups;
+  roles = a.roles;
+  shares = a.shares;
+  declared = a.declared;
+  admins = λ user. admin_put t0 t row user (kept_as row.admin (get t0.users row.name) h) (a.admins user);
+}
+alike_step t0 t (Remove (RowKey.User name)) h a = absurd (true_false h)
+alike_step t0 t (Put (Row.Group row)) h a = absurd (true_false h)
+alike_step t0 t (Remove (RowKey.Group name)) h a = absurd (true_false h)
+alike_step t0 t (Put (Row.Service row)) h a = absurd (true_false h)
+alike_step t0 t (Remove (RowKey.Service name)) h a = absurd (true_false h)
+alike_step t0 t (Put (Row.Role row)) h a = absurd (true_false h)
+alike_step t0 t (Remove (RowKey.Role name)) h a = absurd (true_false h)
+alike_step t0 t (Put (Row.Share row)) h a = absurd (true_false h)
+alike_step t0 t (Remove (RowKey.Share key)) h a = absurd (true_false h)
+alike_step t0 t _ h a = record { groups = a.groups; roles = a.roles; shares = a.shares; declared = a.declared; admins = a.admins }
+
+alike_after : (t0 : State) (rows : List RowChange) (t : State) → list_any (touches_rights t0) rows ≡ false → AreAlike t0 t → AreAlike t0 (rows_done rows t)
+alike_after t0 [] t h a = a
+alike_after t0 (r ∷ rows) t h a =
+    let parts = either (touches_rights t0 r) (list_any (touches_rights t0) rows) h in
+    alike_after t0 rows (row_done r t) parts.1 (alike_step t0 t r parts.0 a)
+
+alike : (t : State) (rows : List RowChange) → changes_rights t rows ≡ false → AreAlike t (change_done rows t)
+alike t rows h =
+    alike_after t (removals_of rows) (rows_done (puts_of rows) t) (none_filtered _ (touches_rights t) rows h)
+    (alike_after t (puts_of rows) t (none_filtered is_put (touches_rights t) rows h)
+    (record { groups = refl; roles = refl; shares = refl; declared = refl; admins = λ user. refl }))
+
+admin_alike : (t t' : State) (w : Owner) → AreAlike t t' → is_admin_owner t w ≡ is_admin_owner t' w
+admin_alike t t' (Own.User u) a = a.admins u
+admin_alike t t' (Own.Service v) a = refl
+
+sources_alike : (t t' : State) (k : Token) → AreAlike t t' → HaveSameSources t t' k k
+sources_alike t t' k a = record {
+  groups = a.groups;
+  roles = a.roles;
+  shares = a.shares;
+  declared = a.declared;
+  owner = refl;
+  issued_for = refl;
+  scopes = refl;
+  admin = admin_alike t t' k.owner a;
+}
+
+-- ---- an entry
+
+older : (b : Bool) (stamp : ℕ) → stamp ≤ cond b (stamp + 1) stamp
+older true stamp = omega arith
+older false stamp = omega arith
+
+entry_after : (rows : List RowChange) (t : State) (stamp id : ℕ) (kept : KeptGrant) → NumbersTokens rows t → IsRightIn t stamp id kept
+    → IsRightIn (change_done rows t) (stamp_after t (Some (Rows rows)) stamp) id kept
+entry_after rows t stamp id kept new r = record {
+  older = let a : kept.stamp ≤ stamp = r.older in let b = older (changes_rights t rows) stamp in omega (arith, a, b);
+  numbered = let a : id < next_token t = r.numbered in let b : next_token t ≤ next_token (change_done rows t) = new.rises in omega (arith, a, b);
+  right = λ e k at. by_test (changes_rights t rows) refl e k at;
+}
+  where
+    by_test : (b : Bool) → changes_rights t rows ≡ b → kept.stamp ≡ cond b (stamp + 1) stamp → (k : Token) → get (change_done rows t).tokens id ≡ Some k
+        → IsGrantOf (change_done rows t) (IsAllowed (change_done rows t) k) kept.grant
+    by_test true same e k at = let a : kept.stamp ≤ stamp = r.older in let b : kept.stamp ≡ stamp + 1 = e in absurd (omega (arith, a, b))
+    by_test false same e k at =
+        same_grant t (change_done rows t) k k kept.grant (sources_alike t (change_done rows t) k (alike t rows same))
+        (r.right e k (token_kept rows t id k new r.numbered at))
+
+-- ---- the whole
+
+more : (b : Bool) (stamp length : ℕ) → stamp ≤ length → cond b (stamp + 1) stamp ≤ length + 1
+more true stamp length h = omega (arith, h)
+more false stamp length h = omega (arith, h)
+
+stamped_noted : (c : Cache) (s : Hub) (stamp : ℕ) (ch : Option Change) → NumbersIn s.tables ch → IsStamped c s.tables stamp s.length
+    → IsStamped c (noted ch s).tables (stamp_after s.tables ch stamp) (noted ch s).length
+stamped_noted c s stamp None new h = h
+stamped_noted c s stamp (Some (Rows rows)) new h = record {
+  current =
+      (λ id kept at. entry_after rows s.tables stamp id kept new (h.current.0 id kept at), λ id kept at. entry_after rows s.tables stamp id kept new (h.current.1 id kept at));
+  numbered = numbered_after rows s.tables new h.numbered;
+  room = more (changes_rights s.tables rows) stamp s.length h.room;
+}
+
+moved : (c : Cache) (s s' : Hub) (stamp stamp' : ℕ) → s' ≡ s → stamp' ≡ stamp → IsStamped c s.tables stamp s.length → IsStamped c s'.tables stamp' s'.length
+moved c s s' stamp stamp' hub same h =
+    let P : Hub → Type 0 = λ x. IsStamped c x.tables stamp' x.length in
+    let Q : ℕ → Type 0 = λ n. IsStamped c s.tables n s.length in
+    subst P (sym hub) (subst Q (sym same) h)
+
+-- whatever came of carrying an answer out
+pub stamped_carried : {E : Type 0} (c : Cache) (a : Answer) (r : Result Reply E) (b b' : Carrier) → NumbersIn b.hub.tables (change_of a) → Carried a r b b'
+    → IsStamped c b.hub.tables b.stamp b.hub.length → IsStamped c b'.hub.tables b'.stamp b'.hub.length
+stamped_carried c a (Ok reply) b b' new carried h = elim carried as (λ _. IsStamped c b'.hub.tables b'.stamp b'.hub.length) [
+  | inl d ↦ moved c (noted (change_of a) b.hub) b'.hub (stamp_after b.hub.tables (change_of a) b.stamp) b'.stamp d.hub d.stamped
+      (stamped_noted c b.hub b.stamp (change_of a) new h)
+  | inr u ↦ moved c b.hub b'.hub b.stamp b'.stamp u.stays.hub u.stays.stamped h
+]
+stamped_carried c a (Err e) b b' new carried h = moved c b.hub b'.hub b.stamp b'.stamp carried.hub carried.stamped h

@@ -1,0 +1,10 @@
+-- What is true of every book: its state is what its history left, and has its length.
+use Rattle.std.specs.Prelude.{◌≡◌, ℕ, List, length, Option, Some}
+use Rattle.hub_machine.specs.State.{Hub}
+use Rattle.hub_core.specs.Visits.{Follows}
+use Rattle.hub_machine.specs.declared.change.Change.{Change}
+
+pub record IsTied (start hub : Hub) (told : Option (List Change)) (long : ℕ) : Type 0 where
+  pub followed : (h : List Change) → told ≡ Some h → Follows start hub h
+  pub longer : hub.length ≡ long
+  pub counted : (h : List Change) → told ≡ Some h → hub.length ≡ length h

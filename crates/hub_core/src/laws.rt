@@ -1,0 +1,18 @@
+//! What a place of the history decides.
+ghost use Rattle.std.specs.Prelude.{◌≡◌, ℕ, true, List, Option};
+ghost use Rattle.hub_machine.specs.State.{Hub};
+ghost use Rattle.hub_machine.specs.Replies.{Answer};
+ghost use Rattle.hub_machine.specs.declared.call.Asked.{Asked};
+ghost use Rattle.hub_core.specs.History.{Answers};
+ghost use Rattle.hub_core.specs.Visits.{Entry, Reached};
+ghost use Rattle.hub_core.specs.declared.start.Start.{Start};
+
+/// Where the history is told, its entries lead to one state. It does nothing: its contract is the law.
+pub fn entries_lead_to_one_state()
+    ensures { (start : Start) (before : List Entry) (s t : Hub) → start.tells ≡ true → Reached start before s → Reached start before t → s ≡ t }
+{}
+
+/// An asked call has one answer in a state at a moment, whatever is drawn. It does nothing: its contract is the law.
+pub fn a_call_has_one_answer()
+    ensures { (s : Hub) (now : ℕ) (draw draw' : Option (List ℕ)) (asked : Asked) (r r' : Answer) → Answers s now draw asked r → Answers s now draw' asked r' → r ≡ r' }
+{}
