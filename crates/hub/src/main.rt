@@ -1,10 +1,11 @@
-//! The hub: a thin main over `hub_main::run`, with the process's words, standard input and standard output.
+//! The hub: a thin main over `hub_main::run`, with the process's words, standard input and standard output, and a store in memory.
 //! What it does is the contract of `run`; the two devices tell no content, so what the system gave and took isn't known.
 #![tactic(auto)]
 
+use hub_devices::streams::{ReaderSource, WriterSink};
 use hub_kit::text::Text;
 use hub_main::run::{Outside, run};
-use hub_main::standard::{ReaderSource, WriterSink};
+use keeper::mem_keeper::MemKeeper;
 use std::io::ErrorKind;
 use std::process::ExitCode;
 use std::{env, io};
@@ -25,15 +26,23 @@ fn words(rt: &HostRuntime) -> Result<Vec<Text>, u8> {
     Ok(words)
 }
 
+/// The status of the command that the words name, over standard input and output and a store in memory.
+fn status_of(rt: &HostRuntime, words: &[Text]) -> u8 {
+    let alloc = rt.alloc();
+    let Ok(store) = MemKeeper::new(alloc, Vec::new(alloc), Vec::new(alloc)) else {
+        return 7;
+    };
+    let mut outside = Outside {
+        input: ReaderSource::new(rt.reader()),
+        output: WriterSink::new(io::writer(rt)),
+        store: Some(store),
+    };
+    run(rt, alloc, words, &mut outside)
+}
+
 fn main(rt: HostRuntime) -> ExitCode {
     let status = match words(&rt) {
-        Ok(words) => {
-            let mut outside = Outside {
-                input: ReaderSource::new(rt.reader()),
-                output: WriterSink::new(io::writer(&rt)),
-            };
-            run(&rt, rt.alloc(), words.as_slice(), &mut outside)
-        }
+        Ok(words) => status_of(&rt, words.as_slice()),
         Err(status) => status,
     };
     ExitCode::from(status)

@@ -1,17 +1,21 @@
 -- What a command does, and with which status it ends.
-use Rattle.std.specs.Prelude.{◌≡◌, ◌⊎◌, ℕ, false, List, [], ◌∷◌, Option, Some, None, Result, Ok, Err}
+use Rattle.std.specs.Prelude.{◌≡◌, ◌≤◌, ◌⊎◌, ℕ, true, false, List, [], ◌∷◌, Option, Some, None, Result, Ok, Err}
 use Rattle.atomic_table.specs.Seated.{TableId}
 use Rattle.desk.specs.Passes.{opening}
 use Rattle.http_wire.specs.declared.error.SessionFault.{SessionFault}
 use Rattle.http_wire.specs.declared.error.SessionFault.TheVariants.{ReadFault, WriteFault}
+use Rattle.hub_devices.specs.Faults.{Rises}
 use Rattle.scope_filters.specs.declared.holder.Owner.TheVariants as Own
 use Rattle.scope_filters.specs.declared.scope.RawScope.TheVariants.{Inherit}
-use Rattle.keeper.specs.Rows.{Rows, AreSame, no_rows}
+use Rattle.keeper.specs.Rows.{Rows, AreSame}
+use Rattle.hub_machine.specs.KeptRows.{Keeps}
 use Rattle.hub_machine.specs.State.{Hub}
-use Rattle.hub_opening.specs.Opening.{opened, greatest_limits, IsRefused}
+use Rattle.hub_opening.specs.Opening.{opened, opened_tables, greatest_limits, IsFirst, IsRefused}
 use Rattle.hub_opening.specs.declared.config.HubConfig.{HubConfig}
 use Rattle.hub_opening.specs.declared.open_error.OpenError.{OpenError}
 use Rattle.hub_opening.specs.declared.open_error.OpenError.TheVariants.{KeeperFault, BadRow, Full, Memory}
+use Rattle.hub_core.specs.Visits.{Reached}
+use Rattle.hub_core.specs.declared.start.Start.{Start}
 use Rattle.hub_run.specs.Connections.{ConnectionEnds}
 use Rattle.hub_run.specs.Turns.{View}
 use Rattle.hub_run.specs.declared.served.Served as served
@@ -25,10 +29,11 @@ status_of (Ok (Cut n)) = 10
 status_of (Err (ReadFault n)) = 5
 status_of (Err (WriteFault n)) = 6
 
--- one connection was served from the view x, for a book that began with `start`, and this is its status
-abbrev pub Served : Hub → View → Option (List ℕ) → Option (List ℕ) → Option (List ℕ) → Option (List ℕ) → ℕ → Type 0
-Served start x left held left' held' status =
-    (y : View) × (end : Result served.Served SessionFault) × ConnectionEnds start x left held y left' held' end × (status ≡ status_of end)
+abbrev pub refusal_status : OpenError → ℕ
+refusal_status (Full kind limit) = 3
+refusal_status KeeperFault = 4
+refusal_status (BadRow kind key) = 4
+refusal_status Memory = 7
 
 -- the hub of a session has the user of the words, and a token of this user that holds all that the user holds
 abbrev pub config_of : SessionWords → HubConfig
@@ -44,32 +49,57 @@ config_of words = record {
   tokens = record { text = words.token; owner = Own.User words.user; scopes = Inherit ∷ [] } ∷ [];
 }
 
--- its book is opened at NOW
-abbrev pub start_of : SessionWords → Hub
-start_of words = opened (config_of words) words.now
+-- its book is opened at NOW, and tells its entries
+abbrev pub start_of : SessionWords → Start
+start_of words = record { machine = opened (config_of words) words.now; tells = true }
 
--- why it isn't opened, over a keeper without rows whose count of faults is 0
-abbrev pub IsUnopened : SessionWords → OpenError → Type 0
-IsUnopened words e = (rows : Rows) × (faults : ℕ) × AreSame rows no_rows × IsRefused (config_of words) words.now (Unit {0}) rows 0 faults e
+-- a session is served by a pass that is alone, with an empty history and this count of faults, by a clock that gives NOW for ever
+abbrev pub first_view : TableId → SessionWords → (faults : ℕ) → View
+first_view table words faults = record { pass = opening table (start_of words) [] faults; clock = Some (λ k. words.now) }
 
-abbrev pub refusal_status : OpenError → ℕ
-refusal_status (Full kind limit) = 3
-refusal_status KeeperFault = 4
-refusal_status (BadRow kind key) = 4
-refusal_status Memory = 7
+-- what the input has left and the output holds, where they are told, and the store
+pub record Sides (K : Type 0) : Type 0 where
+  pub left : Option (List ℕ)
+  pub held : Option (List ℕ)
+  pub store : K
 
--- a session is served by a pass that is alone, with an empty history, by a clock that gives NOW for ever
-abbrev pub first_view : TableId → SessionWords → View
-first_view table words = record { pass = opening table (start_of words) []; clock = Some (λ k. words.now) }
+-- nothing was read or written
+pub record IsQuiet {K : Type 0} (s s' : Sides K) : Type 0 where
+  pub left : s'.left ≡ s.left
+  pub held : s'.held ≡ s.held
 
--- memory was wanting before the session, or its book wasn't opened, or it was served
-abbrev pub SessionEnds : SessionWords → Option (List ℕ) → Option (List ℕ) → Option (List ℕ) → Option (List ℕ) → ℕ → Type 0
-SessionEnds words left held left' held' status =
-    ((status ≡ 7) × (left' ≡ left) × (held' ≡ held))
-    ⊎ ((e : OpenError) × IsUnopened words e × (status ≡ refusal_status e) × (left' ≡ left) × (held' ≡ held))
-    ⊎ ((table : TableId) × Served (start_of words) (first_view table words) left held left' held' status)
+-- of stores of a kind that tells of each whether its rows are told, its rows and its count of faults
+module _ {K : Type 0} (Tells : K → Type 0) (rows : K → Rows) (faults : K → ℕ) where
+  -- why the book isn't opened over the store k, which is k' then, with the rows that it had
+  pub record IsUnopened (words : SessionWords) (k k' : K) (e : OpenError) : Type 0 where
+    pub cause : IsRefused (config_of words) words.now (Tells k') (rows k) (faults k) (faults k') e
+    pub kept : Tells k' → Tells k × AreSame (rows k') (rows k)
 
--- the words are refused or memory was wanting to read them, or they are a session's
-abbrev pub RunEnds : Option SessionWords → Option (List ℕ) → Option (List ℕ) → Option (List ℕ) → Option (List ℕ) → ℕ → Type 0
-RunEnds None left held left' held' status = ((status ≡ 2) ⊎ (status ≡ 7)) × (left' ≡ left) × (held' ≡ held)
-RunEnds (Some words) left held left' held' status = SessionEnds words left held left' held' status
+  -- the store has exactly the rows of the state that the entries seen last left, and the count that was seen last
+  pub record HasKept (start : Start) (y : View) (k : K) : Type 0 where
+    pub state : Hub
+    pub reached : Reached start y.pass.seen state
+    pub kept : Tells k → Keeps (rows k) state.tables
+    pub count : faults k ≡ y.pass.faults
+
+  -- one connection was served from the view x, for a book that began with `start`, and this is its status
+  abbrev pub IsServed : Start → View → Sides K → Sides K → ℕ → Type 0
+  IsServed start x s s' status =
+      (y : View) × (end : Result served.Served SessionFault) × ConnectionEnds start x s.left s.held y s'.left s'.held end × (status ≡ status_of end)
+      × HasKept start y s'.store
+
+  -- the book wasn't opened; or it was, and memory was wanting for its desk; or it was, with a store whose count is n then, and its connection was served
+  abbrev pub SessionEnds : SessionWords → Sides K → Sides K → ℕ → Type 0
+  SessionEnds words s s' status =
+      ((e : OpenError) × IsUnopened words s.store s'.store e × (status ≡ refusal_status e) × IsQuiet s s')
+      ⊎ ((status ≡ 7) × (Tells s'.store → Keeps (rows s'.store) (opened_tables (config_of words) words.now)) × IsQuiet s s')
+      ⊎ ((table : TableId) × (n : ℕ) × (faults s.store ≤ n) × IsServed (start_of words) (first_view table words n) s s' status)
+
+  -- the words are refused, or memory was wanting to read them; or they are a session's
+  abbrev pub RunEnds : Option SessionWords → Sides K → Sides K → ℕ → Type 0
+  RunEnds None s s' status = ((status ≡ 2) ⊎ (status ≡ 7)) × (s' ≡ s)
+  RunEnds (Some words) s s' status = ((status ≡ 7) × (s' ≡ s)) ⊎ SessionEnds words s s' status
+
+  -- the count rose, or the store had a row, where it tells them: none reads yet
+  abbrev pub IsBad : K → K → Type 0
+  IsBad k k' = Rises (faults k) (faults k') ⊎ (Tells k' → (kind : ℕ) × (key : List ℕ) × IsFirst (rows k) kind key)

@@ -5,4 +5,3 @@
 
 mod opening;
 pub mod run;
-pub mod standard;

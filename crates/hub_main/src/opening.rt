@@ -1,6 +1,6 @@
-//! The book of a session: what it is set up with, over a keeper and a trail in memory.
-ghost use Rattle.std.specs.Prelude.{◌≡◌, [], IfOk, IfErr};
-ghost use Rattle.hub_core.specs.Visits.{entries_of};
+//! The book of a session: what it is set up with, over the store that is handed in and a trail in memory.
+ghost use Rattle.std.specs.Prelude.{◌≡◌, ◌≤◌, [], Some, IfOk, IfErr};
+ghost use Rattle.hub_core.specs.Opened.{HasOpened};
 ghost use Rattle.hub_main.specs.Sessions as spec;
 
 use hub_core::book::Book;
@@ -9,14 +9,11 @@ use hub_machine::change::Change;
 use hub_opening::config::{ConfigToken, ConfigUser, HubConfig, greatest_limits};
 use hub_opening::open_error::OpenError;
 use hub_words::session::SessionWords;
-use keeper::mem_keeper::MemKeeper;
+use keeper::keeper::Keeper;
 use keeper::trail::ListTrail;
 use scope_filters::holder::Owner;
 use scope_filters::scope::RawScope;
 use std::alloc::{AllocError, Global};
-
-/// The book of a session.
-pub(crate) type SessionBook = Book<MemKeeper, ListTrail<Change>>;
 
 /// One user, and one token of this user that holds all that the user holds.
 fn config_of(alloc: Global, words: SessionWords) -> Result<HubConfig, AllocError>
@@ -47,29 +44,25 @@ fn config_of(alloc: Global, words: SessionWords) -> Result<HubConfig, AllocError
     })
 }
 
-/// A new book with the user and the token of the words, the user made at NOW.
-pub(crate) fn open_book(alloc: Global, words: SessionWords) -> Result<SessionBook, OpenError>
-    ensures ok { IfOk result (λ book. (book.start ≡ spec.start_of words) × (entries_of book ≡ [])) }
-    ensures err { IfErr result (spec.IsUnopened words) }
+/// A new book with the user and the token of the words, the user made at NOW, whose rows the store keeps from now on. A refusal
+/// hands the store back.
+pub(crate) fn open_book<K: Keeper>(
+    alloc: Global,
+    store: K,
+    words: SessionWords,
+) -> Result<Book<K, ListTrail<Change>>, (K, OpenError)>
+    ensures ok { IfOk result (HasOpened (spec.config_of words) words.now (Some []) (K.faults store)) }
+    ensures err { IfErr result (λ e. spec.IsUnopened K.Tells K.rows K.faults words store e.0 e.1) }
+    ensures counted { IfErr result (λ e. K.faults store ≤ K.faults e.0) }
 {
     let now = words.now;
     let Ok(config) = config_of(alloc, words) else {
-        return Err(OpenError::Memory);
+        return Err((store, OpenError::Memory));
     };
-    // What isn't given is dropped in one call each, since it has many parts.
-    let Ok(keeper) = MemKeeper::new(alloc, Vec::new(alloc), Vec::new(alloc)) else {
-        drop(config);
-        return Err(OpenError::Memory);
-    };
-    let opened = Book::open(alloc, keeper, ListTrail::new(alloc), &config, now);
+    let opened = Book::open(alloc, store, ListTrail::new(alloc), &config, now);
+    // in one call, since it has many parts
     drop(config);
-    match opened {
-        Ok(book) => Ok(book),
-        Err((keeper, error)) => {
-            drop(keeper);
-            Err(error)
-        }
-    }
+    opened
 }
 
 /// The exit status where no book was opened.

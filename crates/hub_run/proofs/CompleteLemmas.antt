@@ -1,5 +1,5 @@
--- Requests get their turns, good ones their answer, and each 503 is counted.
-use Rattle.std.proofs.Common.{◌≡◌, inl, inr, ◌<◌, ◌+◌, ◌-◌, ◌^◌, ◌++◌, ℕ, Bool, List, [], length, false, Option, Some, None, Result, Ok, Err, refl, sym, ap, ◌∙◌, lt-ltb, if◌then◌else◌}
+-- Requests get their turns and their answers, and each 503 is counted.
+use Rattle.std.proofs.Common.{◌≡◌, inl, inr, ⊎_elim, ◌<◌, ◌⊎◌, ◌+◌, ◌-◌, ◌^◌, ◌++◌, ◌∷◌, ℕ, Bool, true, List, [], length, Option, Some, None, Result, Ok, Err, refl, sym, ap, ◌∙◌, subst, lt-ltb, arith, if◌then◌else◌}
 use Rattle.std.proofs.lemmas.List.{append-nil}
 use Rattle.http_wire.specs.Body.{RequestRefusedAt, NoBody}
 use Rattle.http_wire.specs.Request.{IsRequestText, body_due_of}
@@ -7,23 +7,20 @@ use Rattle.http_wire.specs.Requests.{RequestNext, BodyRefused}
 use Rattle.http_wire.specs.declared.error.WireError.{WireError}
 use Rattle.http_wire.specs.declared.error.WireError.TheVariants as wire
 use Rattle.http_wire.specs.declared.request.Request.{Request}
-use Rattle.hub_api.specs.Calls.{call_read, asked}
+use Rattle.hub_api.specs.Calls.{call_read}
 use Rattle.hub_api.specs.Refusals.{wire_refusal}
 use Rattle.hub_api.specs.declared.refusal.ApiRefusal.{ApiRefusal}
-use Rattle.hub_calls.specs.Users.{get_identity}
-use Rattle.hub_core.specs.Answer.{answer, is_past, good_token, Judgement}
 use Rattle.hub_core.specs.History.{Answers, change_of}
+use Rattle.hub_core.specs.Visits.{Entry, Reached, with_entry}
+use Rattle.hub_core.specs.declared.start.Start.{Start}
 use Rattle.hub_core.proofs.Statuses.{never_503}
-use Rattle.hub_machine.specs.Replies.{Reply, Answer, Good, gives, answered, reply_of}
+use Rattle.hub_machine.specs.Replies.{Reply, Answer, answered, reply_of, refusal_reply}
 use Rattle.hub_machine.specs.State.{Hub}
-use Rattle.hub_core.specs.Visits.{Reached}
-use Rattle.hub_kit.specs.declared.names.ServerKey.{ServerKey}
-use Rattle.hub_machine.specs.declared.change.Change.{Change}
 use Rattle.hub_machine.specs.declared.call.Asked.{Asked}
-use Rattle.hub_machine.specs.declared.call.Call.TheVariants.{GetIdentity}
-use Rattle.hub_rows.specs.declared.records.Token.{Token}
-use Rattle.hub_run.specs.Complete.{IsOf, MayBeTold}
-use Rattle.hub_run.specs.Turns.{Turn, View, Visit, Visits, visited, declined, refused, wanting, TurnAt, IsAnswered}
+use Rattle.hub_machine.specs.declared.refusal.Refusal.TheVariants.{KeeperFault}
+use Rattle.hub_run.specs.Complete.{IsOf, IsDue, IsDone, IsUndone, IsServed}
+use Rattle.hub_run.specs.Turns.{Turn, View, Visit, Visits, visited, declined, refused, unsaid, wanting, TurnAt, IsAnswered, Turns}
+use Rattle.hub_run.proofs.CountLemmas.{between, never_risen}
 
 -- what the wire knows: one thing stands next
 abbrev pub NextIsOne : Type 0
@@ -72,7 +69,7 @@ refused_next left bytes wire.Cut r is at = absurd (cc)
 refused_next left bytes wire.ReadFault r is at = absurd (cc)
 refused_next left bytes wire.Memory r is at = absurd (cc)
 
-pub its_turn : NextIsOne → (start : Hub) (left : Option (List ℕ)) (text more rest : List ℕ) (request : Request) (turn : Turn)
+pub its_turn : NextIsOne → (start : Start) (left : Option (List ℕ)) (text more rest : List ℕ) (request : Request) (turn : Turn)
     → IsRequestText request text → TurnAt start left (text ++ more) turn rest → IsOf request turn
 its_turn one start left text more rest request (visited text' q v r) is at =
     same_request q request (one (text ++ more) (Ok q) (Ok request) (text', rest, at.0.0, at.1) (text, more, is, refl))
@@ -80,15 +77,18 @@ its_turn one start left text more rest request (declined text' q e) is at =
     same_request q request (one (text ++ more) (Ok q) (Ok request) (text', rest, at.0.0, at.1) (text, more, is, refl))
 its_turn one start left text more rest request (refused e) is at =
     not_refused e request (one (text ++ more) (Err e) (Ok request) (refused_next left (text ++ more) e at.0 at.2 at.5) (text, more, is, refl))
+its_turn one start left text more rest request (unsaid text' q v) is at =
+    same_request q request (one (text ++ more) (Ok q) (Ok request) (text', rest, at.0, at.2) (text, more, is, refl))
 its_turn one start left text more rest request wanting is at = _
 
--- ---- a good request
+-- ---- the answer
 
--- what a good token is answered to the call for its owner
-good_answer_is : (state : Hub) (moment : ℕ) (j : Judgement) (request : Request) (server : Option ServerKey) (token : Token)
-    → is_past state.length request.seen ≡ false → good_token state.tables moment request.token ≡ Some token
-    → answer state moment None j (asked request (GetIdentity server)) ≡ get_identity state j.may token server
-good_answer_is state moment j request server token past good = rw (past, good) refl
+-- what the machine knows: one state is reached by entries that are told, and one answer is given in it
+abbrev pub StateIsOne : Type 0
+StateIsOne = (start : Start) (before : List Entry) (s s' : Hub) → start.tells ≡ true → Reached start before s → Reached start before s' → s ≡ s'
+
+abbrev pub AnswerIsOne : Type 0
+AnswerIsOne = (s : Hub) (now : ℕ) (draw draw' : Option (List ℕ)) (asked : Asked) (a b : Answer) → Answers s now draw asked a → Answers s now draw' asked b → a ≡ b
 
 same_asked : (a b : Asked) (e : Result Asked ApiRefusal) → e ≡ Ok a → e ≡ Ok b → a ≡ b
 same_asked a b e first second = cc
@@ -96,41 +96,65 @@ same_asked a b e first second = cc
 same_reply : (a b : Reply) → answered a ≡ answered b → a ≡ b
 same_reply a b e = cc
 
--- a visit that answered a good request answered who the owner is
-its_answer : (start : Hub) (request : Request) (v : Visit) (state : Hub) (call : Asked) (r : Answer)
-    → Reached start v.before state → Answers state v.moment None call r → call_read request ≡ Ok call → (good : MayBeTold start request v)
-    → (g : Good) × (r ≡ gives g) × (g.status ≡ 200)
-its_answer start request v state call r reached answers read good =
-    let token = good.token state reached in
-    let is : call ≡ asked request (GetIdentity good.server) = same_asked call (asked request (GetIdentity good.server)) (call_read request) read good.call in (
-      _,
-      answers.is ∙ (ap (λ (c : Asked). answer state v.moment None answers.judgement c) is
-          ∙ good_answer_is state v.moment answers.judgement request good.server token.0 (good.seen state reached) token.1),
-      refl,
+-- an answer in a state that the entries before the visit left is the one that is due
+due_answer : StateIsOne → AnswerIsOne → (start : Start) (request : Request) (v : Visit) (state : Hub) (call : Asked) (r a : Answer) → start.tells ≡ true
+    → Reached start v.before state → Answers state v.moment None call r → call_read request ≡ Ok call → IsDue start request v a → r ≡ a
+due_answer states answers start request v state call r a tells reached given read due =
+    let here : state ≡ due.state = states start v.before state due.state tells reached due.reached in
+    let asks : call ≡ due.asked = same_asked call due.asked (call_read request) read due.read in
+    let there : Answers due.state v.moment None due.asked r = subst (λ (c : Asked). Answers due.state v.moment None c r) asks
+    (subst (λ (s : Hub). Answers s v.moment None call r) here given) in
+    answers due.state v.moment None None due.asked r a there due.answers
+
+pub its_answer : StateIsOne → AnswerIsOne → (start : Start) (request : Request) (v : Visit) (r : Reply) (a : Answer) → start.tells ≡ true
+    → IsAnswered start request v r → IsDue start request v a → IsDone start v r a ⊎ IsUndone v r a
+its_answer states answers start request v r a tells (call, o, read, inl at, viewed) due =
+    let is = due_answer states answers start request v at.state call at.answer a tells at.reached at.answers read due in
+    inl (record {
+      entry = at.noted ∙ ap (λ (b : Answer). with_entry start.tells (change_of b) v.before) is;
+      reply = same_reply r (reply_of (length v.after) at.answer) (sym viewed ∙ at.outcome) ∙ ap (λ (b : Answer). reply_of (length v.after) b) is;
+    })
+its_answer states answers start request v r a tells (call, o, read, inr at, viewed) due =
+    let is = due_answer states answers start request v at.state call at.answer a tells at.reached at.answers read due in
+    inr (record {
+      change = at.change;
+      has = ap change_of (sym is) ∙ at.has;
+      entry = at.noted;
+      reply = same_reply r (refusal_reply (length v.after) KeeperFault) (sym viewed ∙ at.outcome);
+      rises = at.rises;
+    })
+
+-- ---- a connection without faults
+
+pub its_reply : NextIsOne → StateIsOne → AnswerIsOne → (start : Start) (x y : View) (before after : List Turn) (turn : Turn) (left : Option (List ℕ))
+    (text more rest : List ℕ) (request : Request) → start.tells ≡ true → Turns x (before ++ turn ∷ after) y → y.pass.failed ≡ x.pass.failed
+    → y.pass.faults < 2 ^ 64 - 1 → IsRequestText request text → TurnAt start left (text ++ more) turn rest → IsServed start request turn
+its_reply one states answers start x y before after (visited text' q v r) left text more rest request tells turns same below is at =
+    let mine : q ≡ request = its_turn one start left text more rest request (visited text' q v r) is at in (
+      mine,
+      λ a due. ⊎_elim (λ done. done)
+          (λ undone. absurd (never_risen x y text' q v r (between x y before (visited text' q v r) after turns) same below undone.rises))
+          (its_answer states answers start request v r a tells (subst (λ (p : Request). IsAnswered start p v r) mine at.0.1) due),
     )
-
--- it makes no entry, so no keeper was asked
-no_change : (r : Answer) (g : Good) (c : Change) → r ≡ gives g → change_of r ≡ Some c → ⊥
-no_change r g c is has = none_is_some c (ap change_of (sym is) ∙ has)
-  where
-    none_is_some : (c : Change) → change_of (gives g) ≡ Some c → ⊥
-    none_is_some c e = cc
-
-pub good_answer : (start : Hub) (request : Request) (v : Visit) (r : Reply) → IsAnswered start request v r → MayBeTold start request v → r.status ≡ 200
-good_answer start request v r (call, o, read, inl at, viewed) good =
-    let said : r ≡ reply_of (length v.after) at.answer = same_reply r (reply_of (length v.after) at.answer) (sym viewed ∙ at.outcome) in
-    let found = its_answer start request v at.state call at.answer at.reached at.answers read good in
-    ap (λ (x : Reply). x.status) (said ∙ ap (λ (a : Answer). reply_of (length v.after) a) found.1) ∙ found.2
-good_answer start request v r (call, o, read, inr at, viewed) good =
-    let found = its_answer start request v at.state call at.answer at.reached at.answers read good in
-    absurd (no_change at.answer found.0 at.change found.1 at.has)
+its_reply one states answers start x y before after (declined text' q e) left text more rest request tells turns same below is at =
+    let mine : q ≡ request = its_turn one start left text more rest request (declined text' q e) is at in
+    (mine, subst (λ (p : Request). call_read p ≡ Err e) mine at.0.1)
+its_reply one states answers start x y before after (refused e) left text more rest request tells turns same below is at =
+    its_turn one start left text more rest request (refused e) is at
+its_reply one states answers start x y before after (unsaid text' q v) left text more rest request tells turns same below is at =
+    its_turn one start left text more rest request (unsaid text' q v) is at
+its_reply one states answers start x y before after wanting left text more rest request tells turns same below is at = _
 
 -- ---- a 503
 
-pub counted : (start : Hub) (x y : View) (request : Request) (v : Visit) (r : Reply)
-    → IsAnswered start request v r → Visits x v y → r.status ≡ 503 → v.faults < 2 ^ 64 - 1 → y.pass.failed ≡ x.pass.failed + 1
+pub counted : (start : Start) (x y : View) (request : Request) (v : Visit) (r : Reply)
+    → IsAnswered start request v r → Visits x v y → r.status ≡ 503 → v.faults < 2 ^ 64 - 1
+    → (y.pass.failed ≡ x.pass.failed + 1) × (x.pass.faults < y.pass.faults)
 counted start x y request v r (call, o, read, inl at, viewed) visits is below =
     let said : r ≡ reply_of (length v.after) at.answer = same_reply r (reply_of (length v.after) at.answer) (sym viewed ∙ at.outcome) in
     absurd (never_503 (length v.after) at.state v.moment None call at.answer at.answers (ap (λ (q : Reply). q.status) (sym said) ∙ is))
 counted start x y request v r (call, o, read, inr at, viewed) visits is below =
-    visits.failed ∙ ap (λ (b : Bool). x.pass.failed + (if b then 1 else 0)) (lt-ltb v.faults v.faults_after (at.rises below))
+    let up = at.rises below in (
+      visits.failed ∙ ap (λ (b : Bool). x.pass.failed + (if b then 1 else 0)) (lt-ltb v.faults v.faults_after up),
+      omega (arith, visits.known, visits.count, up),
+    )

@@ -1,5 +1,6 @@
 pub mod AnswerLemmas
 pub mod CompleteLemmas
+pub mod CountLemmas
 pub mod EndLemmas
 pub mod RanLemmas
 pub mod StopLemmas

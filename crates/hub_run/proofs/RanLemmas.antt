@@ -6,15 +6,15 @@ use Rattle.std.proofs.lemmas.List.Elements.{All-nil, All-push}
 use Rattle.hub_devices.specs.Streams.{Appends}
 use Rattle.hub_devices.proofs.StreamLemmas.{Takes_none, Takes_then, Appends_none, Appends_then}
 use Rattle.http_wire.specs.Took.{Took}
-use Rattle.hub_machine.specs.State.{Hub}
-use Rattle.hub_run.specs.Turns.{Turn, visited, declined, refused, wanting, TurnAt, closes, turn_text, request_bytes}
+use Rattle.hub_core.specs.declared.start.Start.{Start}
+use Rattle.hub_run.specs.Turns.{Turn, visited, declined, refused, unsaid, wanting, TurnAt, closes, turn_text, request_bytes}
 use Rattle.hub_run.specs.Connections.{Ran, IsOpenTurn}
 
 abbrev pub open_text : Turn → List ℕ
 open_text t = turn_text t false
 
 -- at the start
-pub Ran_start : (start : Hub) (left held : Option (List ℕ)) → Ran start left held left held [] [] []
+pub Ran_start : (start : Start) (left held : Option (List ℕ)) → Ran start left held left held [] [] []
 Ran_start start left held = record {
   each = All-nil (IsOpenTurn start);
   took = record { taken = []; takes = Takes_none left; whole = refl };
@@ -22,12 +22,12 @@ Ran_start start left held = record {
 }
 
 -- at the start, with an empty buffer
-pub Ran_empty : (start : Hub) (left held : Option (List ℕ)) (kept : List ℕ) → kept ≡ [] → Ran start left held left held [] kept []
+pub Ran_empty : (start : Start) (left held : Option (List ℕ)) (kept : List ℕ) → kept ≡ [] → Ran start left held left held [] kept []
 Ran_empty start left held kept none =
     subst (λ (bytes : List ℕ). Ran start left held left held [] bytes []) (sym none) (Ran_start start left held)
 
 -- more bytes came
-pub Ran_took : (start : Hub) (left held left' held' left'' : Option (List ℕ)) (turns : List Turn) (kept all tail : List ℕ)
+pub Ran_took : (start : Start) (left held left' held' left'' : Option (List ℕ)) (turns : List Turn) (kept all tail : List ℕ)
     → Ran start left held left' held' turns kept tail → Took left' kept left'' all → Ran start left held left'' held' turns all tail
 Ran_took start left held left' held' left'' turns kept all tail ran took = record {
   each = ran.each;
@@ -43,7 +43,7 @@ Ran_took start left held left' held' left'' turns kept all tail ran took = recor
 }
 
 -- a text was written
-pub Ran_wrote : (start : Hub) (left held left' held' held'' : Option (List ℕ)) (turns : List Turn) (ahead text : List ℕ)
+pub Ran_wrote : (start : Start) (left held left' held' held'' : Option (List ℕ)) (turns : List Turn) (ahead text : List ℕ)
     → Ran start left held left' held' turns ahead [] → Appends held' text held'' → Ran start left held left' held'' turns ahead text
 Ran_wrote start left held left' held' held'' turns ahead text ran wrote = record {
   each = ran.each;
@@ -54,7 +54,7 @@ Ran_wrote start left held left' held' held'' turns ahead text ran wrote = record
 }
 
 -- the text was the reply to a request that leaves the connection open
-pub Ran_next : (start : Hub) (left held left' held' : Option (List ℕ)) (turns : List Turn) (ahead rest : List ℕ) (t : Turn)
+pub Ran_next : (start : Start) (left held left' held' : Option (List ℕ)) (turns : List Turn) (ahead rest : List ℕ) (t : Turn)
     → Ran start left held left' held' turns ahead (turn_text t false) → IsOpenTurn start t → ahead ≡ request_bytes t ++ rest
     → Ran start left held left' held' (turns ++ t ∷ []) rest []
 Ran_next start left held left' held' turns ahead rest t ran stays is = record {
@@ -79,7 +79,7 @@ not_first true b e = e
 not_first false b e = refl
 
 -- a turn after which the connection stays open is a request with its reply
-pub Ran_turn : (start : Hub) (left held left' held' : Option (List ℕ)) (turns : List Turn) (ahead rest : List ℕ) (t : Turn) (close last : Bool)
+pub Ran_turn : (start : Start) (left held left' held' : Option (List ℕ)) (turns : List Turn) (ahead rest : List ℕ) (t : Turn) (close last : Bool)
     → Ran start left held left' held' turns ahead (turn_text t close) → TurnAt start left' ahead t rest
     → close ≡ (closes t || last) → close ≡ false → Ran start left held left' held' (turns ++ t ∷ []) rest []
 Ran_turn start left held left' held' turns ahead rest (visited text q v r) close last ran at is goes =
@@ -93,17 +93,18 @@ Ran_turn start left held left' held' turns ahead rest (declined text q e) close 
     (subst (λ (c : Bool). Ran start left held left' held' turns ahead (turn_text t c)) goes ran)
     (at.0, not_first (closes t) last (sym is ∙ goes)) at.1
 Ran_turn start left held left' held' turns ahead rest (refused e) close last ran at is goes = absurd (cc)
+Ran_turn start left held left' held' turns ahead rest (unsaid text q v) close last ran at is goes = absurd (cc)
 Ran_turn start left held left' held' turns ahead rest wanting close last ran at is goes = absurd (cc)
 
 -- what came and what was written in one turn, or a part of it
-pub Ran_reply : {start : Hub} {left held left1 held1 left2 held2 : Option (List ℕ)} {turns : List Turn} {kept : List ℕ} → (bytes text : List ℕ)
+pub Ran_reply : {start : Start} {left held left1 held1 left2 held2 : Option (List ℕ)} {turns : List Turn} {kept : List ℕ} → (bytes text : List ℕ)
     → Ran start left held left1 held1 turns kept [] → Took left1 kept left2 bytes → Appends held1 text held2
     → Ran start left held left2 held2 turns bytes text
 Ran_reply {start} {left} {held} {left1} {held1} {left2} {held2} {turns} {kept} bytes text ran took wrote =
     Ran_wrote start left held left2 held1 held2 turns bytes text (Ran_took start left held left1 held1 left2 turns kept bytes [] ran took) wrote
 
 -- bytes came, and nothing was written
-pub Ran_stop : {start : Hub} {left held left1 held1 left2 held2 : Option (List ℕ)} {turns : List Turn} {kept : List ℕ} → (bytes : List ℕ)
+pub Ran_stop : {start : Start} {left held left1 held1 left2 held2 : Option (List ℕ)} {turns : List Turn} {kept : List ℕ} → (bytes : List ℕ)
     → Ran start left held left1 held1 turns kept [] → Took left1 kept left2 bytes → held2 ≡ held1
     → Ran start left held left2 held2 turns bytes []
 Ran_stop {start} {left} {held} {left1} {held1} {left2} {held2} {turns} {kept} bytes ran took same =
@@ -111,13 +112,13 @@ Ran_stop {start} {left} {held} {left1} {held1} {left2} {held2} {turns} {kept} by
     (Ran_took start left held left1 held1 left2 turns kept bytes [] ran took)
 
 -- nothing is ahead
-pub Ran_ended : {start : Hub} {left held left1 held1 : Option (List ℕ)} {turns : List Turn} {bytes : List ℕ}
+pub Ran_ended : {start : Start} {left held left1 held1 : Option (List ℕ)} {turns : List Turn} {bytes : List ℕ}
     → Ran start left held left1 held1 turns bytes [] → bytes ≡ [] → Ran start left held left1 held1 turns [] []
 Ran_ended {start} {left} {held} {left1} {held1} {turns} {bytes} ran none =
     subst (λ (b : List ℕ). Ran start left held left1 held1 turns b []) none ran
 
 -- the turn after which the connection is closed
-pub Ran_last : {start : Hub} {left held left1 held1 : Option (List ℕ)} {turns : List Turn} {bytes : List ℕ} → (t : Turn) (close : Bool)
+pub Ran_last : {start : Start} {left held left1 held1 : Option (List ℕ)} {turns : List Turn} {bytes : List ℕ} → (t : Turn) (close : Bool)
     → Ran start left held left1 held1 turns bytes (turn_text t close) → close ≡ true → Ran start left held left1 held1 turns bytes (turn_text t true)
 Ran_last {start} {left} {held} {left1} {held1} {turns} {bytes} t close ran is =
     subst (λ (c : Bool). Ran start left held left1 held1 turns bytes (turn_text t c)) is ran

@@ -1,16 +1,17 @@
 -- What the parts of a turn say and leave.
-use Rattle.std.specs.Prelude.{◌≡◌, ◌⊎◌, ◌++◌, ℕ, Bool, true, List, Some, Result, Ok, Err, Option}
+use Rattle.std.specs.Prelude.{◌≡◌, ◌≤◌, ◌⊎◌, ◌||◌, ◌++◌, ℕ, Bool, true, List, length, Some, Result, Ok, Err, Option}
 use Rattle.hub_devices.specs.Streams.{Appends}
 use Rattle.http_wire.specs.Body.{RequestRefusedAt}
+use Rattle.http_wire.specs.Wire.{head_limit}
 use Rattle.http_wire.specs.declared.error.WireError.{WireError}
 use Rattle.http_wire.specs.declared.error.WireError.TheVariants as wire
-use Rattle.hub_machine.specs.State.{Hub}
+use Rattle.hub_core.specs.declared.start.Start.{Start}
 use Rattle.hub_machine.specs.Replies as spec
 use Rattle.hub_machine.specs.Answers.{outcome_view}
 use Rattle.hub_machine.specs.declared.reply.Outcome.{Outcome}
 use Rattle.hub_api.specs.Refusals.{wire_refusal}
 use Rattle.hub_api.specs.ReplyText.{reply_text, no_memory}
-use Rattle.hub_run.specs.Turns.{Turn, View, Moves, TurnAt, turn_text}
+use Rattle.hub_run.specs.Turns.{Turn, View, Moves, TurnAt, turn_text, closes}
 use Rattle.hub_run.specs.declared.served.TurnEnd.{TurnEnd}
 use Rattle.hub_run.specs.declared.served.TurnEnd.TheVariants as end
 
@@ -34,21 +35,21 @@ StopsAt left bytes end.Cut = RequestRefusedAt left bytes wire.Cut
 StopsAt left bytes end.ReadFault = RequestRefusedAt left bytes wire.ReadFault
 StopsAt left bytes end.WriteFault = ⊥
 
--- a turn whose reply was written in part
-pub record IsBroken (start : Hub) (x y : View) (left held held' : Option (List ℕ)) (bytes : List ℕ) : Type 0 where
+-- a turn whose reply was written in part, and which would have closed the connection where `last` says so
+pub record IsBroken (start : Start) (last : Bool) (x y : View) (left held held' : Option (List ℕ)) (bytes : List ℕ) : Type 0 where
   pub turn : Turn
   pub rest : List ℕ
-  pub close : Bool
   pub part : List ℕ
   pub more : List ℕ
   pub at : TurnAt start left bytes turn rest
-  pub moves : Moves start x turn y
-  pub text : turn_text turn close ≡ part ++ more
+  pub kept : length rest ≤ head_limit
+  pub moves : Moves x turn y
+  pub text : turn_text turn (closes turn || last) ≡ part ++ more
   pub wrote : Appends held part held'
 
 -- how a turn ended without a whole reply
-abbrev pub TurnEnds : Hub → View → View → Option (List ℕ) → Option (List ℕ) → Option (List ℕ) → List ℕ → TurnEnd → Type 0
-TurnEnds start x y left held held' bytes end.Ended = RequestRefusedAt left bytes wire.Ended × (y ≡ x) × (held' ≡ held)
-TurnEnds start x y left held held' bytes end.Cut = RequestRefusedAt left bytes wire.Cut × (y ≡ x) × (held' ≡ held)
-TurnEnds start x y left held held' bytes end.ReadFault = RequestRefusedAt left bytes wire.ReadFault × (y ≡ x) × (held' ≡ held)
-TurnEnds start x y left held held' bytes end.WriteFault = IsBroken start x y left held held' bytes
+abbrev pub TurnEnds : Start → Bool → View → View → Option (List ℕ) → Option (List ℕ) → Option (List ℕ) → List ℕ → TurnEnd → Type 0
+TurnEnds start last x y left held held' bytes end.Ended = RequestRefusedAt left bytes wire.Ended × (y ≡ x) × (held' ≡ held)
+TurnEnds start last x y left held held' bytes end.Cut = RequestRefusedAt left bytes wire.Cut × (y ≡ x) × (held' ≡ held)
+TurnEnds start last x y left held held' bytes end.ReadFault = RequestRefusedAt left bytes wire.ReadFault × (y ≡ x) × (held' ≡ held)
+TurnEnds start last x y left held held' bytes end.WriteFault = IsBroken start last x y left held held' bytes

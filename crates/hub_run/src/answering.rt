@@ -2,7 +2,7 @@
 ghost use Rattle.std.specs.Prelude.{◌≡◌, ◌||◌, ◌++◌, ℕ, true, List, Option, Some};
 ghost use Rattle.http_wire.specs.Request.{IsRequestText};
 ghost use Rattle.hub_api.specs.Paths.{IsRouter};
-ghost use Rattle.hub_machine.specs.State.{Hub};
+ghost use Rattle.hub_core.specs.declared.start.Start.{Start};
 ghost use Rattle.hub_run.specs.Turns.{Turn, TurnAt, Moves, turn_text, closes};
 ghost use Rattle.hub_run.specs.Written.{written_bytes};
 
@@ -34,10 +34,11 @@ pub(crate) fn answer<K: Keeper, T: Trail<Entry = Change>, C: Clock, W: Wait>(
     requires routed { IsRouter router.now }
     ensures of { pass.new.of ≡ pass.old.of }
     ensures base { pass.new.base ≡ pass.old.base }
+    ensures alone { pass.new.alone ≡ pass.old.alone }
     ensures last { last ≡ true → result.1 ≡ true }
-    ensures answers { (start : Hub) → pass.old.base ≡ Some start → (text : List ℕ) → IsRequestText request text
+    ensures answers { (start : Start) → pass.old.base ≡ Some start → (text : List ℕ) → IsRequestText request text
         → (turn : Turn) × ((left : Option (List ℕ)) (rest : List ℕ) → TurnAt start left (text ++ rest) turn rest)
-        × Moves start (record { pass = pass.old; clock = C.to_come clock.old }) turn (record { pass = pass.new; clock = C.to_come clock.new })
+        × Moves (record { pass = pass.old; clock = C.to_come clock.old }) turn (record { pass = pass.new; clock = C.to_come clock.new })
         × (result.1 ≡ (closes turn || last)) × (written_bytes result.0 ≡ turn_text turn result.1) }
 {
     let close = closes_after(&request, last);

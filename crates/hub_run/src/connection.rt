@@ -1,7 +1,7 @@
 //! One connection from its first request to its end.
 ghost use Rattle.std.specs.Prelude.{◌≡◌, ◌≤◌, ℕ, [], Some, Ok, Err};
 ghost use Rattle.hub_api.specs.Paths.{IsRouter};
-ghost use Rattle.hub_machine.specs.State.{Hub};
+ghost use Rattle.hub_core.specs.declared.start.Start.{Start};
 ghost use Rattle.hub_devices.specs.Faults.{Rises};
 ghost use Rattle.hub_run.specs.Connections.{ConnectionEnds};
 
@@ -40,7 +40,8 @@ pub fn serve_connection<K: Keeper, T: Trail<Entry = Change>, I: Source, O: Sink,
     requires { pass.old.of ≡ desk.now }
     ensures of { pass.new.of ≡ pass.old.of }
     ensures base { pass.new.base ≡ pass.old.base }
-    ensures ends { (start : Hub) → pass.old.base ≡ Some start
+    ensures alone { pass.new.alone ≡ pass.old.alone }
+    ensures ends { (start : Start) → pass.old.base ≡ Some start
         → ConnectionEnds start
         (record { pass = pass.old; clock = C.to_come clock.old }) (I.left input.old) (O.held output.old)
         (record { pass = pass.new; clock = C.to_come clock.new }) (I.left input.new) (O.held output.new) result }
@@ -83,7 +84,8 @@ fn serve_turns<K: Keeper, T: Trail<Entry = Change>, I: Source, O: Sink, C: Clock
     requires kept { kept.old ≡ [] }
     ensures of { pass.new.of ≡ pass.old.of }
     ensures base { pass.new.base ≡ pass.old.base }
-    ensures ends { (start : Hub) → pass.old.base ≡ Some start
+    ensures alone { pass.new.alone ≡ pass.old.alone }
+    ensures ends { (start : Start) → pass.old.base ≡ Some start
         → ConnectionEnds start
         (record { pass = pass.old; clock = C.to_come clock.old }) (I.left input.old) (O.held output.old)
         (record { pass = pass.new; clock = C.to_come clock.new }) (I.left input.new) (O.held output.new) result }

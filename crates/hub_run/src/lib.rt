@@ -12,5 +12,8 @@ mod visit;
 mod written;
 
 pub use connection::{REPLY_LIMIT, serve_connection};
-pub use laws::{a_503_is_counted, a_good_request_is_answered, a_request_gets_its_turn};
+pub use laws::{
+    a_503_is_counted, a_request_gets_its_turn, a_request_without_faults_is_served,
+    a_visited_request_gets_its_answer,
+};
 pub use served::Served;

@@ -1,11 +1,12 @@
 //! One turn: what comes next is read, and its reply is written.
-ghost use Rattle.std.specs.Prelude.{◌≡◌, ◌≤◌, ◌||◌, ◌++◌, ℕ, true, List, Some, IfOk, IfErr};
+ghost use Rattle.std.specs.Prelude.{◌≡◌, ◌≤◌, ◌||◌, ◌++◌, ℕ, true, List, length, Some, IfOk, IfErr};
 ghost use Rattle.hub_devices.specs.Streams.{Appends};
 ghost use Rattle.hub_devices.specs.Faults.{Rises};
 ghost use Rattle.http_wire.specs.Took.{Took};
 ghost use Rattle.http_wire.specs.Request.{IsRequestText};
+ghost use Rattle.http_wire.specs.Wire.{head_limit};
 ghost use Rattle.hub_api.specs.Paths.{IsRouter};
-ghost use Rattle.hub_machine.specs.State.{Hub};
+ghost use Rattle.hub_core.specs.declared.start.Start.{Start};
 ghost use Rattle.hub_run.specs.Steps.{StopsAt, TurnEnds};
 ghost use Rattle.hub_run.specs.Turns.{Turn, TurnAt, Moves, turn_text, closes};
 ghost use Rattle.hub_run.specs.Written.{written_bytes};
@@ -45,13 +46,15 @@ fn next_reply<K: Keeper, T: Trail<Entry = Change>, I: Source, C: Clock, W: Wait>
     requires routed { IsRouter router.now }
     ensures of { pass.new.of ≡ pass.old.of }
     ensures base { pass.new.base ≡ pass.old.base }
+    ensures alone { pass.new.alone ≡ pass.old.alone }
     ensures last { IfOk result (λ r. last ≡ true → r.1 ≡ true) }
-    ensures ok { (start : Hub) → pass.old.base ≡ Some start → IfOk result (λ r. (turn : Turn) × (bytes : List ℕ)
+    ensures ok { (start : Start) → pass.old.base ≡ Some start → IfOk result (λ r. (turn : Turn) × (bytes : List ℕ)
         × Took (I.left input.old) kept.old (I.left input.new) bytes × TurnAt start (I.left input.new) bytes turn kept.new
-        × Moves start (record { pass = pass.old; clock = C.to_come clock.old }) turn (record { pass = pass.new; clock = C.to_come clock.new })
+        × Moves (record { pass = pass.old; clock = C.to_come clock.old }) turn (record { pass = pass.new; clock = C.to_come clock.new })
         × (r.1 ≡ (closes turn || last)) × (written_bytes r.0 ≡ turn_text turn r.1)) }
     ensures err { IfErr result (λ e. (bytes : List ℕ) × Took (I.left input.old) kept.old (I.left input.new) bytes
         × StopsAt (I.left input.new) bytes e × (pass.new ≡ pass.old) × (C.to_come clock.new ≡ C.to_come clock.old)) }
+    ensures kept { length kept.new ≤ head_limit }
     ensures counted { I.faults input.old ≤ I.faults input.new }
     ensures cause { result ≡ Err TurnEnd.ReadFault → Rises (I.faults input.old) (I.faults input.new) }
 {
@@ -81,16 +84,18 @@ pub(crate) fn turn<K: Keeper, T: Trail<Entry = Change>, I: Source, O: Sink, C: C
     requires routed { IsRouter router.now }
     ensures of { pass.new.of ≡ pass.old.of }
     ensures base { pass.new.base ≡ pass.old.base }
+    ensures alone { pass.new.alone ≡ pass.old.alone }
     ensures last { IfOk result (λ close. last ≡ true → close ≡ true) }
-    ensures ok { (start : Hub) → pass.old.base ≡ Some start → IfOk result (λ close. (turn : Turn) × (bytes : List ℕ)
+    ensures ok { (start : Start) → pass.old.base ≡ Some start → IfOk result (λ close. (turn : Turn) × (bytes : List ℕ)
         × Took (I.left input.old) kept.old (I.left input.new) bytes × TurnAt start (I.left input.new) bytes turn kept.new
-        × Moves start (record { pass = pass.old; clock = C.to_come clock.old }) turn (record { pass = pass.new; clock = C.to_come clock.new })
+        × Moves (record { pass = pass.old; clock = C.to_come clock.old }) turn (record { pass = pass.new; clock = C.to_come clock.new })
         × (close ≡ (closes turn || last))
         × Appends (O.held output.old) (turn_text turn close) (O.held output.new)) }
-    ensures err { (start : Hub) → pass.old.base ≡ Some start → IfErr result (λ e. (bytes : List ℕ)
+    ensures err { (start : Start) → pass.old.base ≡ Some start → IfErr result (λ e. (bytes : List ℕ)
         × Took (I.left input.old) kept.old (I.left input.new) bytes
-        × TurnEnds start (record { pass = pass.old; clock = C.to_come clock.old }) (record { pass = pass.new; clock = C.to_come clock.new })
+        × TurnEnds start last (record { pass = pass.old; clock = C.to_come clock.old }) (record { pass = pass.new; clock = C.to_come clock.new })
         (I.left input.new) (O.held output.old) (O.held output.new) bytes e) }
+    ensures kept { length kept.new ≤ head_limit }
     ensures reads { I.faults input.old ≤ I.faults input.new }
     ensures writes { O.faults output.old ≤ O.faults output.new }
     ensures read_fault { result ≡ Err TurnEnd.ReadFault → Rises (I.faults input.old) (I.faults input.new) }

@@ -1,6 +1,6 @@
 //! The visit of an asked call.
 ghost use Rattle.std.specs.Prelude.{◌≡◌, Some, None};
-ghost use Rattle.hub_machine.specs.State.{Hub};
+ghost use Rattle.hub_core.specs.declared.start.Start.{Start};
 ghost use Rattle.hub_core.specs.Visits.{VisitedAt};
 ghost use Rattle.hub_run.specs.Turns.{Visit, Visits};
 
@@ -28,7 +28,8 @@ pub(crate) fn ask<K: Keeper, T: Trail<Entry = Change>, C: Clock, W: Wait>(
     requires { pass.old.of ≡ desk.now }
     ensures of { pass.new.of ≡ pass.old.of }
     ensures base { pass.new.base ≡ pass.old.base }
-    ensures answers { (start : Hub) → pass.old.base ≡ Some start → (v : Visit)
+    ensures alone { pass.new.alone ≡ pass.old.alone }
+    ensures answers { (start : Start) → pass.old.base ≡ Some start → (v : Visit)
         × Visits (record { pass = pass.old; clock = C.to_come clock.old }) v (record { pass = pass.new; clock = C.to_come clock.new })
         × VisitedAt start v.before v.after v.faults v.faults_after v.moment None asked result }
 {

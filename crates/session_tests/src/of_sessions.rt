@@ -1,10 +1,13 @@
 //! Whole sessions, from their words to the status and the bytes that are written, by hand.
+ghost use Rattle.std.specs.Prelude.{IsSome};
+
 use crate::check::check;
 use crate::repeated::repeated;
 use hub_devices::mem_bytes::{MemSink, MemSource};
 use hub_kit::bytes::Bytes;
 use hub_kit::text::Text;
 use hub_main::run::{Outside, run};
+use keeper::mem_keeper::MemKeeper;
 use std::alloc::Global;
 use std::process::Abort;
 use std::sync::Wait;
@@ -226,7 +229,13 @@ fn words_of(rt: &impl Abort, alloc: Global, line: &str) -> Vec<Text> {
     words
 }
 
-fn outside(rt: &impl Abort, alloc: Global, session: &Session) -> Outside<MemSource, MemSink> {
+fn outside(
+    rt: &impl Abort,
+    alloc: Global,
+    session: &Session,
+) -> Outside<MemSource, MemSink, MemKeeper>
+    ensures { IsSome result.store }
+{
     let mut input = Bytes::from_slice(alloc, session.input).expect(rt, "there is memory");
     let spaces = repeated(rt, alloc, b" ", session.spaces);
     input
@@ -234,9 +243,11 @@ fn outside(rt: &impl Abort, alloc: Global, session: &Session) -> Outside<MemSour
         .expect(rt, "there is memory");
     let reads = Vec::from_slice(alloc, &[session.failing_read]);
     let writes = Vec::from_slice(alloc, &[session.failing_write]);
+    let store = MemKeeper::new(alloc, Vec::new(alloc), Vec::new(alloc));
     Outside {
         input: MemSource::new(input, session.cut, reads.expect(rt, "there is memory")),
         output: MemSink::new(alloc, writes.expect(rt, "there is memory")),
+        store: Some(store.expect(rt, "there is memory")),
     }
 }
 

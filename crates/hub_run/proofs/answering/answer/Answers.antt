@@ -1,4 +1,4 @@
-use Rattle.std.proofs.Common.{rules, ◌≢◌, inl, refl, Bool, subst}
+use Rattle.std.proofs.Common.{rules, ◌≢◌, refl, Bool, subst}
 use Rattle.hub_run.proofs.AnswerLemmas.{made_visited, made_wanting, made_declined}
 use Rattle.hub_run.specs.Steps.{Says, SaysOutcome}
 use Rattle.hub_run.specs.Written.{written_bytes}
@@ -16,7 +16,7 @@ returns-in-Ok-clause-answers g c = λ start base text is.
 
 pub returns-in-Err-Memory-clause-answers : goal.returns-in-Err-Memory-clause-answers
 returns-in-Err-Memory-clause-answers g c = λ start base text is.
-    made_wanting start _ _ c.args.request text c.args.last _ _ is (inl refl) refl refl
+    made_wanting start _ c.args.request text c.args.last _ _ is refl refl
 
 pub returns-in-Err-clause-answers : goal.returns-in-Err-clause-answers
 returns-in-Err-clause-answers g c = λ start base text is.

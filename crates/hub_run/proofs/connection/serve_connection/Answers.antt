@@ -1,4 +1,4 @@
-use Rattle.std.proofs.Common.{◌∙◌, inl, ℕ, List, [], true, refl, sym, subst}
+use Rattle.std.proofs.Common.{◌∙◌, inl, ℕ, List, [], refl, sym, arith, subst}
 use Rattle.hub_devices.specs.Streams.{Appends}
 use Rattle.hub_run.proofs.EndLemmas.{only_wanting}
 use Rattle.hub_run.specs.Turns.{wanting}
@@ -11,11 +11,12 @@ returns-in-Ok-write_all-clause-ends g c = λ start base. (
   [],
   [],
   refl,
+  omega arith,
   only_wanting start _ _ _ _
       (subst (λ (text : List ℕ). Appends (g.O.Sink.held c.args.output.now) text (g.O.Sink.held c.write_all.new.output))
       c.no_memory.ensures c.in-Ok-write_all.ensures.ok),
-  (_, inl refl, refl),
-  ([], inl refl, refl),
+  (_, refl, refl),
+  (([], inl refl, refl), omega arith),
   refl,
 )
 
@@ -28,10 +29,9 @@ returns-in-Err-write_all-clause-ends g c = λ start base.
       [],
       broken.0,
       broken.1,
-      true,
-      refl,
+      (refl, omega arith),
       only_wanting start _ _ _ broken.0 broken.3,
-      (_, inl refl, refl),
-      ([], inl refl, refl),
+      (_, refl, refl),
+      (([], inl refl, refl), omega arith),
       sym c.no_memory.ensures ∙ broken.2,
     )

@@ -36,11 +36,13 @@ returns-in-Err g c =
     let found = rw c.in-Err.error-is at c.in-Err.ensures.err in record {
       of = refl;
       base = refl;
+      alone = refl;
       last = λ e. refl;
       ok = λ start base.
           let made = made_refused start _ _ found.0 c.read_request.new.kept c.in-Err.error c.args.last (written_bytes c.text_of_wire.result) found.1 found.3 c.text_of_wire.ensures in
           (made.0, found.0 ++ c.read_request.new.kept, found.2, made.1, made.2, made.3, made.4);
       err = search rules;
+      kept = c.read_request.ensures.short;
       counted = c.in-Err.ensures.counted;
       cause = λ e. absurd (cc);
     }

@@ -1,5 +1,6 @@
-use Rattle.std.proofs.Common.{◌∙◌, ℕ, List, sym, subst}
+use Rattle.std.proofs.Common.{◌∙◌, ℕ, Bool, List, ap, sym, subst}
 use Rattle.hub_devices.specs.Streams.{Appends}
+use Rattle.hub_run.specs.Turns.{turn_text}
 use Rattle.hub_run.proofs.AnswerLemmas.{stops, same_view}
 use Rattle.hub_run.proofs.turn.turn.Goals as goal
 
@@ -25,12 +26,12 @@ returns-in-Err-write_all-clause-err g c = λ start base.
       record {
         turn = found.0;
         rest = c.next_reply.new.kept;
-        close = c.in-Ok.close;
         part = broken.0;
         more = broken.1;
         at = found.3;
+        kept = c.in-Ok.ensures.kept;
         moves = found.4;
-        text = sym found.6 ∙ (sym c.as_slice.ensures ∙ broken.2);
+        text = ap (λ (b : Bool). turn_text found.0 b) (sym found.5) ∙ (sym found.6 ∙ (sym c.as_slice.ensures ∙ broken.2));
         wrote = broken.3;
       },
     )
@@ -38,4 +39,4 @@ returns-in-Err-write_all-clause-err g c = λ start base.
 pub returns-in-Err-clause-err : goal.returns-in-Err-clause-err
 returns-in-Err-clause-err g c = λ start base.
     let found = c.in-Err.ensures.err in
-    (found.0, found.1, stops start _ _ _ _ found.0 c.in-Err.end found.2 (same_view _ _ _ _ found.3 found.4))
+    (found.0, found.1, stops start _ _ _ _ _ found.0 c.in-Err.end found.2 (same_view _ _ _ _ found.3 found.4))

@@ -19,6 +19,10 @@ returns-clause-answers g c = λ start base.
         seen = found.seen;
         mine = found.mine;
         failed = found.failed;
+        known = found.known;
+        exact = found.exact;
+        grown = found.grown;
+        count = found.count;
         told = c.now-now.ensures;
       },
       from_start c.args.pass.now.base visit.0.start start made c.args.asked c.visit-outcome.result found.found_base base
