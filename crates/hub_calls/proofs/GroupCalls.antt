@@ -6,7 +6,7 @@ use Rattle.hub_machine.specs.State.{Hub}
 use Rattle.hub_machine.specs.Replies.{good}
 use Rattle.hub_calls.specs.Calling.{done}
 use Rattle.hub_calls.specs.Facts.{group_at}
-use Rattle.hub_calls.specs.Groups as calls
+use Rattle.hub_calls.specs.GroupCalls as calls
 use Rattle.hub_calls.proofs.Statuses.{is_503, ruled}
 
 pub post_group : (s : Hub) (may : Rights) (group : List ℕ) (names : List (List ℕ)) → is_503 (calls.post_group s may group names) ≡ false

@@ -7,7 +7,7 @@ use Rattle.hub_view.specs.Records.{role_body}
 use Rattle.hub_machine.specs.State.{Hub}
 use Rattle.hub_machine.specs.Replies.{good}
 use Rattle.hub_calls.specs.Calling.{done}
-use Rattle.hub_calls.specs.Roles as calls
+use Rattle.hub_calls.specs.RoleCalls as calls
 use Rattle.hub_calls.proofs.Statuses.{is_503, ruled}
 
 put_or_made : (b : Bool) → (cond b 200 201 == 503) ≡ false

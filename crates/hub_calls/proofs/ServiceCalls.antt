@@ -6,7 +6,7 @@ use Rattle.hub_machine.specs.State.{Hub}
 use Rattle.hub_machine.specs.Replies.{good}
 use Rattle.hub_calls.specs.Calling.{done}
 use Rattle.hub_calls.specs.Facts.{service_body}
-use Rattle.hub_calls.specs.Groups as calls
+use Rattle.hub_calls.specs.ServiceCalls as calls
 use Rattle.hub_calls.proofs.Statuses.{is_503, ruled}
 
 pub post_service : (s : Hub) (may : Rights) (service : List ℕ) → is_503 (calls.post_service s may service) ≡ false

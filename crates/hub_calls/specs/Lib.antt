@@ -2,6 +2,7 @@ pub mod Rights
 pub mod Facts
 pub mod Calling
 pub mod Puts
-pub mod Users
-pub mod Groups
-pub mod Roles
+pub mod UserCalls
+pub mod GroupCalls
+pub mod ServiceCalls
+pub mod RoleCalls

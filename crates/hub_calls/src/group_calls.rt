@@ -10,7 +10,7 @@ ghost use Rattle.hub_calls.specs.Calling.{after_rows, by_rules};
 ghost use Rattle.hub_calls.specs.Facts.{group_at};
 ghost use Rattle.hub_calls.specs.Puts.{PutsGroup, group_put, with_put_group};
 ghost use Rattle.hub_calls.specs.Rights.{may_of};
-ghost use Rattle.hub_calls.specs.Groups as spec;
+ghost use Rattle.hub_calls.specs.GroupCalls as spec;
 
 use crate::bodies::{group_at, group_body};
 use crate::lists::list_of;

@@ -4,7 +4,7 @@ ghost use Rattle.std.specs.FinMap as map;
 ghost use Rattle.hub_view.specs.Body.{bodies};
 ghost use Rattle.hub_machine.specs.Answers.{answer_view};
 ghost use Rattle.hub_calls.specs.Facts.{role_at};
-ghost use Rattle.hub_calls.specs.Roles as spec;
+ghost use Rattle.hub_calls.specs.RoleCalls as spec;
 
 use crate::bodies::role_at;
 use crate::lists::listed;

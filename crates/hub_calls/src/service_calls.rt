@@ -3,7 +3,7 @@ ghost use Rattle.std.specs.Prelude.{◌≡◌, IfOk};
 ghost use Rattle.std.specs.FinMap as map;
 ghost use Rattle.hub_machine.specs.Answers.{answer_view};
 ghost use Rattle.hub_calls.specs.Rights.{may_of};
-ghost use Rattle.hub_calls.specs.Groups as spec;
+ghost use Rattle.hub_calls.specs.ServiceCalls as spec;
 
 use crate::bodies::service_body;
 use crate::lists::list_of;

@@ -11,7 +11,7 @@ ghost use Rattle.hub_calls.specs.Calling.{after_rows, by_rules};
 ghost use Rattle.hub_calls.specs.Facts.{user_at};
 ghost use Rattle.hub_calls.specs.Puts.{PutsUser, user_put, with_put_user, bodies_put};
 ghost use Rattle.hub_calls.specs.Rights.{may_of};
-ghost use Rattle.hub_calls.specs.Users as spec;
+ghost use Rattle.hub_calls.specs.UserCalls as spec;
 
 use crate::bodies::{user_at, user_body};
 use crate::facts::facts_of;

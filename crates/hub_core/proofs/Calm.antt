@@ -38,8 +38,8 @@ use Rattle.hub_machine.specs.Trails.{in_trail}
 use Rattle.hub_machine.specs.Apply.{is_past_trail}
 use Rattle.hub_calls.specs.Calling.{after_rows, by_rules, done}
 use Rattle.hub_calls.specs.Facts.{user_at}
-use Rattle.hub_calls.specs.Roles.{role_of}
-use Rattle.hub_calls.specs.Users.{get_version}
+use Rattle.hub_calls.specs.RoleCalls.{role_of}
+use Rattle.hub_calls.specs.UserCalls.{get_version}
 use Rattle.hub_core.specs.Needs.{needs, needs_token, is_there}
 use Rattle.hub_core.specs.Answer.{Judgement, row, if_there, by_token, by_call, action_rules, caller, is_past, named}
 use Rattle.hub_core.specs.History.{Answers}

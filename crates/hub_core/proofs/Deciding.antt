@@ -10,7 +10,7 @@ use Rattle.roles.specs.Rights.{context, IsAllowed, Holds, IsGrantOf}
 use Rattle.hub_machine.specs.State.{Hub}
 use Rattle.hub_machine.specs.Replies.{Answer, refuses}
 use Rattle.hub_core.specs.Needs.{needs_token}
-use Rattle.hub_calls.specs.Users.{get_version}
+use Rattle.hub_calls.specs.UserCalls.{get_version}
 use Rattle.hub_core.specs.Answer.{Judgement, caller, is_past, named}
 use Rattle.hub_core.specs.Judged.{HeldOf, HasHeld, JudgesToken, ByRights}
 use Rattle.hub_core.specs.History.{Answers}

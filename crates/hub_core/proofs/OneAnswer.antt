@@ -7,7 +7,7 @@ use Rattle.hub_tables.specs.State.{State}
 use Rattle.hub_machine.specs.State.{Hub}
 use Rattle.hub_machine.specs.Trails.{in_trail}
 use Rattle.hub_machine.specs.Replies.{Answer, rules, if_so}
-use Rattle.hub_calls.specs.Users.{get_version}
+use Rattle.hub_calls.specs.UserCalls.{get_version}
 use Rattle.hub_core.specs.Needs.{needs, needs_token}
 use Rattle.hub_core.specs.Answer.{Judgement, answer, action_rules, if_there, by_token, caller, is_past, named}
 use Rattle.hub_core.specs.Judged.{HeldOf, JudgesToken, JudgesCaller}

@@ -8,8 +8,8 @@ use Rattle.hub_machine.specs.Apply.{is_past_trail}
 use Rattle.hub_machine.specs.Replies as replies
 use Rattle.hub_machine.specs.Replies.{Answer, refuses, gives, changes, Good, if_so, reply_of, status_of}
 use Rattle.hub_machine.specs.Trails.{in_trail}
-use Rattle.hub_calls.specs.Roles.{role_of}
-use Rattle.hub_calls.specs.Users.{get_version}
+use Rattle.hub_calls.specs.RoleCalls.{role_of}
+use Rattle.hub_calls.specs.UserCalls.{get_version}
 use Rattle.hub_calls.proofs.Statuses.{is_503}
 use Rattle.hub_calls.proofs.UserCalls as users
 use Rattle.hub_calls.proofs.GroupCalls as groups

@@ -11,9 +11,10 @@ use Rattle.hub_machine.specs.State.{Hub}
 use Rattle.hub_machine.specs.Trails.{in_trail}
 use Rattle.hub_machine.specs.Replies.{Answer, refuses, gives, rules, if_so}
 use Rattle.hub_core.specs.Needs.{needs, needs_token, is_there}
-use Rattle.hub_calls.specs.Users.{get_version, get_info, get_identity, get_users, post_users, get_user, post_user, patch_user, delete_user}
-use Rattle.hub_calls.specs.Groups.{get_groups, get_group, post_group, delete_group, join_group, leave_group, get_services, get_service, post_service, delete_service}
-use Rattle.hub_calls.specs.Roles.{get_roles, get_role, role_of, put_role, delete_role}
+use Rattle.hub_calls.specs.UserCalls.{get_version, get_info, get_identity, get_users, post_users, get_user, post_user, patch_user, delete_user}
+use Rattle.hub_calls.specs.GroupCalls.{get_groups, get_group, post_group, delete_group, join_group, leave_group}
+use Rattle.hub_calls.specs.ServiceCalls.{get_services, get_service, post_service, delete_service}
+use Rattle.hub_calls.specs.RoleCalls.{get_roles, get_role, role_of, put_role, delete_role}
 use Rattle.hub_core.specs.declared.need.Need.{Need}
 use Rattle.hub_core.specs.declared.need.Need.TheVariants.{GoodToken, Held, On}
 use Rattle.hub_machine.specs.declared.refusal.Refusal.{Refusal}

@@ -15,7 +15,7 @@ ghost use Rattle.scope_names.specs.declared.action.Action.{Action};
 ghost use Rattle.hub_core.specs.Needs as need;
 ghost use Rattle.hub_machine.specs.Replies.{first_refusal};
 ghost use Rattle.hub_calls.specs.Rights.{may_of};
-ghost use Rattle.hub_calls.specs.Roles as calls;
+ghost use Rattle.hub_calls.specs.RoleCalls as calls;
 
 use crate::need::Need;
 use admin_rules::roles::is_fixed_role;

@@ -31,7 +31,7 @@ use Rattle.hub_machine.specs.declared.call.Asked.{Asked}
 use Rattle.hub_machine.specs.declared.call.Call.{Call}
 use Rattle.hub_machine.specs.declared.call.Call.TheVariants.{GetVersion, GetInfo, GetIdentity, GetUsers, GetUser, GetGroups, GetGroup, GetServices, GetService, GetRoles, GetRole}
 use Rattle.hub_calls.specs.Facts.{body_of_user, body_of_group, body_of_role, user_body, group_body, service_body, users_shown, groups_shown, services_shown}
-use Rattle.hub_calls.specs.Users.{get_version, get_info, identity, identity_of_user}
+use Rattle.hub_calls.specs.UserCalls.{get_version, get_info, identity, identity_of_user}
 use Rattle.hub_core.specs.Needs.{needs, needs_token}
 use Rattle.hub_tables.specs.Ends.{is_over}
 use Rattle.hub_core.specs.Answer.{Judgement, answer, by_call, caller, good_token, if_good, is_past, named}

@@ -1,13 +1,12 @@
--- The calls on groups and services.
+-- The calls on groups.
 use Rattle.std.specs.Prelude.{ℕ, List, codes}
 use Rattle.std.specs.FinMap.{values}
 use Rattle.hub_view.specs.Fields.{Rights}
 use Rattle.hub_view.specs.Pages.{paged_list}
 use Rattle.hub_view.specs.declared.pages.Page.{Page}
 use Rattle.admin_rules.specs.Groups as groups
-use Rattle.admin_rules.specs.Services as services
 use Rattle.hub_machine.specs.State.{Hub}
-use Rattle.hub_calls.specs.Facts.{groups_shown, group_at, services_shown, service_body}
+use Rattle.hub_calls.specs.Facts.{groups_shown, group_at}
 use Rattle.hub_machine.specs.Replies.{Answer, gives, good}
 use Rattle.hub_calls.specs.Calling.{by_rules, done}
 
@@ -34,19 +33,3 @@ join_group s may g users = by_rules s (groups.join_group s.tables g users) (λ a
 -- DELETE /groups/{group}/users
 abbrev pub leave_group : Hub → Rights → List ℕ → List (List ℕ) → Answer
 leave_group s may g users = by_rules s (groups.leave_group s.tables g users) (λ after. good 200 (group_at may after g))
-
--- GET /services: those that the caller may list
-abbrev pub get_services : Hub → Rights → Page → Answer
-get_services s may page = gives (good 200 (paged_list (codes "/services") page (services_shown may s (values s.tables.services))))
-
--- GET /services/{service}
-abbrev pub get_service : Hub → Rights → List ℕ → Answer
-get_service s may v = gives (good 200 (service_body may s v))
-
--- POST /services/{service}
-abbrev pub post_service : Hub → Rights → List ℕ → Answer
-post_service s may v = by_rules s (services.add_service s.tables v) (λ after. good 201 (service_body may after v))
-
--- DELETE /services/{service}
-abbrev pub delete_service : Hub → List ℕ → Answer
-delete_service s v = by_rules s (services.delete_service s.tables v) done
