@@ -121,7 +121,7 @@ numbers_tokens : (rows : List RowChange) (t : State) → list_any numbers rows �
 numbers_tokens rows t h =
     let puts = rows_done (puts_of rows) t in
     let same : (change_done rows t).nexts ≡ t.nexts =
-        nexts_same (removals_of rows) puts (none_filtered _ numbers rows h) ∙ nexts_same (puts_of rows) t (none_filtered is_put numbers rows h) in
+    nexts_same (removals_of rows) puts (none_filtered _ numbers rows h) ∙ nexts_same (puts_of rows) t (none_filtered is_put numbers rows h) in
     record {
       each = are_numbered t (change_done rows t) rows h;
       rises = let n : next_token t ≤ next_token t = omega arith in subst (λ m. next_token t ≤ number_of (get m (codes "token"))) (sym same) n;
@@ -201,6 +201,7 @@ added_numbered now k t all id row e = by_test (eq_by_cmp nat_cmp id (next_token 
   where
     next : next_token (added now k t) ≡ next_token t + 1
     next = next_put now k t
+
     by_test : (b : Bool) → eq_by_cmp nat_cmp id (next_token t) ≡ b → cond b (Some (token_row (next_token t) now k)) (get t.tokens id) ≡ Some row → id < next_token (added now k t)
     by_test true same h = let a : id ≡ next_token t = nat_cmp-IsAntisymmetric id (next_token t) (tied (nat_cmp id (next_token t)) same) in omega (arith, a, next)
     by_test false same h = let below : id < next_token t = all id row h in omega (arith, below, next)

@@ -197,7 +197,14 @@ impl<K: Keeper, T: Trail<Entry = Change>> Book<K, T> {
         // the same in words of places: the answer is that of the state that the entries before it left
         ensures placed { VisitedAt self.old.start (entries_of self.old) (entries_of self.new) self.old.faults self.new.faults now draw asked.now result }
     {
-        let answer = decide(alloc, &self.machine, &mut self.rights, self.stamp, now, asked)?;
+        let answer = decide(
+            alloc,
+            &self.machine,
+            &mut self.rights,
+            self.stamp,
+            now,
+            asked,
+        )?;
         let reply = carry(
             alloc,
             &mut self.machine,

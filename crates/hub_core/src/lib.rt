@@ -5,10 +5,13 @@
 
 pub mod ask;
 pub mod book;
+mod caller;
 mod decide;
+mod dispatch;
 mod laws;
 mod need;
-pub mod start;
+mod needs;
 mod stamps;
+pub mod start;
 
 pub use laws::{a_call_has_one_answer, entries_lead_to_one_state};

@@ -46,18 +46,18 @@ pub returns-in_err-reply-clause-start : goal.returns-in_err-reply-clause-start
 returns-in_err-reply-clause-start g c =
     let P : Standing → Type 0 = λ b. (record { machine = c.self.inside.start.value; tells = is_some (g.T.Trail.told c.carry.new.trail) }) ≡ b.start in
     let same = tells_same (answer_view c.in_ok-answer.answer) c.carry.result
-      (record { hub = c.self.inside.machine; told = g.T.Trail.told c.self.inside.trail; long = g.T.Trail.long c.self.inside.trail; stamp = c.self.inside.stamp; faults = g.K.Keeper.faults c.self.inside.keeper })
-      (record { hub = c.carry.new.machine; told = g.T.Trail.told c.carry.new.trail; long = g.T.Trail.long c.carry.new.trail; stamp = c.carry.new.stamp; faults = g.K.Keeper.faults c.carry.new.keeper })
-      c.carry.ensures.carried in
+    (record { hub = c.self.inside.machine; told = g.T.Trail.told c.self.inside.trail; long = g.T.Trail.long c.self.inside.trail; stamp = c.self.inside.stamp; faults = g.K.Keeper.faults c.self.inside.keeper })
+    (record { hub = c.carry.new.machine; told = g.T.Trail.told c.carry.new.trail; long = g.T.Trail.long c.carry.new.trail; stamp = c.carry.new.stamp; faults = g.K.Keeper.faults c.carry.new.keeper })
+    c.carry.ensures.carried in
     subst P c.self.view_is (λ i. record { machine = c.self.inside.start.value; tells = same i })
 
 pub returns-clause-start : goal.returns-clause-start
 returns-clause-start g c =
     let P : Standing → Type 0 = λ b. (record { machine = c.self.inside.start.value; tells = is_some (g.T.Trail.told c.carry.new.trail) }) ≡ b.start in
     let same = tells_same (answer_view c.in_ok-answer.answer) c.carry.result
-      (record { hub = c.self.inside.machine; told = g.T.Trail.told c.self.inside.trail; long = g.T.Trail.long c.self.inside.trail; stamp = c.self.inside.stamp; faults = g.K.Keeper.faults c.self.inside.keeper })
-      (record { hub = c.carry.new.machine; told = g.T.Trail.told c.carry.new.trail; long = g.T.Trail.long c.carry.new.trail; stamp = c.carry.new.stamp; faults = g.K.Keeper.faults c.carry.new.keeper })
-      c.carry.ensures.carried in
+    (record { hub = c.self.inside.machine; told = g.T.Trail.told c.self.inside.trail; long = g.T.Trail.long c.self.inside.trail; stamp = c.self.inside.stamp; faults = g.K.Keeper.faults c.self.inside.keeper })
+    (record { hub = c.carry.new.machine; told = g.T.Trail.told c.carry.new.trail; long = g.T.Trail.long c.carry.new.trail; stamp = c.carry.new.stamp; faults = g.K.Keeper.faults c.carry.new.keeper })
+    c.carry.ensures.carried in
     subst P c.self.view_is (λ i. record { machine = c.self.inside.start.value; tells = same i })
 
 pub returns-clause-visited : goal.returns-clause-visited
@@ -78,9 +78,9 @@ returns-clause-visited g c =
 pub returns-clause-followed : goal.returns-clause-followed
 returns-clause-followed g c =
     (tied_carried c.self.inside.start.value c.args.now c.args.draw c.args.asked.now (answer_view c.in_ok-answer.answer) c.carry.result
-      (record { hub = c.self.inside.machine; told = g.T.Trail.told c.self.inside.trail; long = g.T.Trail.long c.self.inside.trail; stamp = c.self.inside.stamp; faults = g.K.Keeper.faults c.self.inside.keeper })
-      (record { hub = c.carry.new.machine; told = g.T.Trail.told c.carry.new.trail; long = g.T.Trail.long c.carry.new.trail; stamp = c.carry.new.stamp; faults = g.K.Keeper.faults c.carry.new.keeper })
-      (c.in_ok-answer.ensures.answers c.args.draw) c.self.invariant.0 c.carry.ensures.carried).followed
+    (record { hub = c.self.inside.machine; told = g.T.Trail.told c.self.inside.trail; long = g.T.Trail.long c.self.inside.trail; stamp = c.self.inside.stamp; faults = g.K.Keeper.faults c.self.inside.keeper })
+    (record { hub = c.carry.new.machine; told = g.T.Trail.told c.carry.new.trail; long = g.T.Trail.long c.carry.new.trail; stamp = c.carry.new.stamp; faults = g.K.Keeper.faults c.carry.new.keeper })
+    (c.in_ok-answer.ensures.answers c.args.draw) c.self.invariant.0 c.carry.ensures.carried).followed
 
 pub returns-clause-placed : goal.returns-clause-placed
 returns-clause-placed g c =
@@ -88,9 +88,9 @@ returns-clause-placed g c =
     AnsweredAt b.start (entries_of b) (listed (g.T.Trail.told c.carry.new.trail) c.carry.new.machine.length) c.args.now c.args.draw c.args.asked.now (given.Answer c.in_ok-reply.reply)
     ⊎ FaultedAt b.start (entries_of b) (listed (g.T.Trail.told c.carry.new.trail) c.carry.new.machine.length) b.faults (g.K.Keeper.faults c.carry.new.keeper) c.args.now c.args.draw c.args.asked.now (given.Answer c.in_ok-reply.reply) in
     let tied = tied_carried c.self.inside.start.value c.args.now c.args.draw c.args.asked.now (answer_view c.in_ok-answer.answer) c.carry.result
-      (record { hub = c.self.inside.machine; told = g.T.Trail.told c.self.inside.trail; long = g.T.Trail.long c.self.inside.trail; stamp = c.self.inside.stamp; faults = g.K.Keeper.faults c.self.inside.keeper })
-      (record { hub = c.carry.new.machine; told = g.T.Trail.told c.carry.new.trail; long = g.T.Trail.long c.carry.new.trail; stamp = c.carry.new.stamp; faults = g.K.Keeper.faults c.carry.new.keeper })
-      (c.in_ok-answer.ensures.answers c.args.draw) c.self.invariant.0 c.carry.ensures.carried in
+    (record { hub = c.self.inside.machine; told = g.T.Trail.told c.self.inside.trail; long = g.T.Trail.long c.self.inside.trail; stamp = c.self.inside.stamp; faults = g.K.Keeper.faults c.self.inside.keeper })
+    (record { hub = c.carry.new.machine; told = g.T.Trail.told c.carry.new.trail; long = g.T.Trail.long c.carry.new.trail; stamp = c.carry.new.stamp; faults = g.K.Keeper.faults c.carry.new.keeper })
+    (c.in_ok-answer.ensures.answers c.args.draw) c.self.invariant.0 c.carry.ensures.carried in
     subst P c.self.view_is
     (placed c.self.inside.start.value c.args.now c.args.draw c.args.asked.now (answer_view c.in_ok-answer.answer) c.in_ok-reply.reply
     (record { hub = c.self.inside.machine; told = g.T.Trail.told c.self.inside.trail; long = g.T.Trail.long c.self.inside.trail; stamp = c.self.inside.stamp; faults = g.K.Keeper.faults c.self.inside.keeper })

@@ -1,0 +1,151 @@
+//! What a call needs of its token, whether that is held and allowed, and whether what it speaks of is there.
+ghost use Rattle.std.specs.Prelude.{◌≡◌, Option, Some, None, true, false};
+ghost use Rattle.std.specs.FinMap as map;
+ghost use Rattle.hub_core.specs.Answer as spec;
+ghost use Rattle.hub_core.specs.Judged.{HasHeld};
+ghost use Rattle.scope_names.specs.declared.action.Action.{Action};
+ghost use Rattle.hub_core.specs.Needs as need;
+ghost use Rattle.hub_machine.specs.Replies.{first_refusal};
+ghost use Rattle.hub_calls.specs.Rights.{may_of};
+
+use crate::need::Need;
+use admin_rules::roles::is_fixed_role;
+use hub_kit::names::{GroupName, RoleName, ServiceName, UserName};
+use hub_machine::call::Call;
+use hub_machine::machine::Machine;
+use hub_machine::refusal::Refusal;
+use scope_filters::grant::Grant;
+use scope_filters::object::Object;
+use scope_meet::asks::{admits, holds_any};
+use scope_names::action::Action;
+
+/// What a call needs of its token.
+pub(crate) fn needs(call: &Call) -> Need
+    ensures { result ≡ need.needs call.now }
+{
+    match call {
+        Call::GetVersion | Call::GetIdentity { .. } => Need::GoodToken,
+        Call::GetInfo => Need::On(Action::ReadHub, Object::Hub),
+        Call::GetUsers { .. } => Need::Held(Action::ListUsers),
+        Call::PostUsers { .. } | Call::PatchUser { .. } => Need::On(
+            Action::AdminUsers,
+            Object::Hub,
+        ),
+        Call::GetUser { user } => Need::On(Action::ReadUsersName, Object::User(*user)),
+        Call::PostUser { user } => Need::On(Action::AdminUsers, Object::User(*user)),
+        Call::DeleteUser { user } => Need::On(Action::DeleteUsers, Object::User(*user)),
+        Call::GetGroups { .. } => Need::Held(Action::ListGroups),
+        Call::GetGroup { group } => Need::On(Action::ReadGroupsName, Object::Group(*group)),
+        Call::PostGroup { group, .. } => Need::On(Action::AdminGroups, Object::Group(*group)),
+        Call::DeleteGroup { group } => Need::On(Action::DeleteGroups, Object::Group(*group)),
+        Call::JoinGroup { group, .. } | Call::LeaveGroup { group, .. } => Need::On(
+            Action::Groups,
+            Object::Group(*group),
+        ),
+        Call::GetServices { .. } => Need::Held(Action::ListServices),
+        Call::GetService { service } => Need::On(
+            Action::ReadServicesName,
+            Object::Service(*service),
+        ),
+        Call::PostService { service } | Call::DeleteService { service } => {
+            Need::On(Action::AdminServices, Object::Service(*service))
+        }
+        Call::GetRoles { .. }
+        | Call::GetRole { .. }
+        | Call::PutRole { .. }
+        | Call::DeleteRole { .. } => { Need::On(Action::AdminRoles, Object::Hub) }
+    }
+}
+
+/// Whether the call needs a token.
+pub(crate) fn needs_token(call: &Call) -> bool
+    ensures { result ≡ need.needs_token call.now }
+{
+    match call {
+        Call::GetVersion => false,
+        _ => true,
+    }
+}
+
+/// Whether the grant has an action that is needed, on some object at all.
+pub(crate) fn is_held(rights: &Grant, need: Need) -> bool
+    ensures { HasHeld rights.now result need }
+{
+    match need {
+        Need::GoodToken => true,
+        Need::Held(action) => holds_any(rights, action),
+        Need::On(action, _) => holds_any(rights, action),
+    }
+}
+
+fn has_user(hub: &Machine, user: &UserName) -> bool
+    ensures { result ≡ map.contains_key hub.now.tables.users user.now }
+{
+    hub.tables().user(user).is_some()
+}
+
+fn has_group(hub: &Machine, group: &GroupName) -> bool
+    ensures { result ≡ map.contains_key hub.now.tables.groups group.now }
+{
+    hub.tables().group(group).is_some()
+}
+
+fn has_service(hub: &Machine, service: &ServiceName) -> bool
+    ensures { result ≡ map.contains_key hub.now.tables.services service.now }
+{
+    hub.tables().service(service).is_some()
+}
+
+fn has_role(hub: &Machine, role: &RoleName) -> bool
+    ensures { result ≡ map.contains_key hub.now.tables.roles role.now }
+{
+    hub.tables().role(role).is_some()
+}
+
+/// Whether what the call speaks of is there.
+pub(crate) fn is_there(hub: &Machine, call: &Call) -> bool
+    ensures { result ≡ need.is_there hub.now.tables call.now }
+{
+    match call {
+        Call::GetUser { user } | Call::PatchUser { user, .. } | Call::DeleteUser { user } =>
+            has_user(hub, user),
+        Call::GetGroup { group }
+        | Call::DeleteGroup { group }
+        | Call::JoinGroup { group, .. }
+        | Call::LeaveGroup { group, .. } => { has_group(hub, group) }
+        Call::GetService { service } | Call::DeleteService { service } => has_service(hub, service),
+        Call::GetRole { role } => has_role(hub, role),
+        Call::DeleteRole { role } => is_fixed_role(role) || has_role(hub, role),
+        _ => true,
+    }
+}
+
+/// The first refusal of the rights, if one comes.
+pub(crate) fn action_refusal(
+    hub: &Machine,
+    rights: &Grant,
+    is_held: bool,
+    need: Need,
+) -> Option<Refusal>
+    ensures { result ≡ first_refusal (spec.action_rules (record { may = may_of hub.now rights.now; is_held = is_held }) need) }
+{
+    match need {
+        Need::GoodToken => None,
+        Need::Held(action) => {
+            if is_held {
+                None
+            } else {
+                Some(Refusal::Needs(action))
+            }
+        }
+        Need::On(action, object) => {
+            if !is_held {
+                Some(Refusal::Needs(action))
+            } else if admits(rights, action, &object, hub.tables()) {
+                None
+            } else {
+                Some(Refusal::NotFound)
+            }
+        }
+    }
+}
