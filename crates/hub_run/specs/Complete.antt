@@ -1,5 +1,5 @@
 -- Which replies a request has to get.
-use Rattle.std.specs.Prelude.{◌≡◌, length, None, Ok, Err}
+use Rattle.std.specs.Prelude.{◌≡◌, length, Some, None, Ok, Err}
 use Rattle.http_wire.specs.declared.request.Request.{Request}
 use Rattle.hub_api.specs.Calls.{call_read}
 use Rattle.hub_core.specs.History.{Answers, change_of}
