@@ -44,7 +44,7 @@ true_false h = cc
 abbrev start_of : Hub → Option (List Change) → Start
 start_of start told = record { machine = start; tells = is_some told }
 
-reached : (start hub : Hub) (told : Option (List Change)) (long : ℕ) → IsTied start hub told long → Reached (start_of start told) (listed told hub.length) hub
+pub reached : (start hub : Hub) (told : Option (List Change)) (long : ℕ) → IsTied start hub told long → Reached (start_of start told) (listed told hub.length) hub
 reached start hub None long t = record {
   length = listed_length start hub None long t;
   told = λ e. absurd (true_false (sym e));

@@ -10,7 +10,7 @@ ghost use Rattle.hub_core.specs.Current.{Looked};
 ghost use Rattle.hub_core.specs.Judged.{decider};
 ghost use Rattle.hub_core.specs.Opened.{HasOpened};
 ghost use Rattle.hub_opening.specs.Opening.{IsRefused};
-ghost use Rattle.hub_core.specs.Visits.{Visited, VisitedAt, IsFollowed, entries_of};
+ghost use Rattle.hub_core.specs.Visits.{Visited, VisitedAt, IsFollowed, Reached, entries_of};
 ghost use Rattle.hub_core.specs.Carrying.{Carried, MayBeDone};
 ghost use Rattle.keeper.specs.Rows.{AreSame};
 
@@ -245,6 +245,7 @@ impl<K: Keeper, T: Trail<Entry = Change>> Book<K, T> {
     pub fn into_parts(self) -> (K, T)
         ensures told { T.told result.1 ≡ self.told }
         ensures followed { IsFollowed self }
+        ensures reached { Reached self.start (entries_of self) self.hub }
         ensures faults { K.faults result.0 ≡ self.faults }
         // the rows kept are those of the state, which is what the history leaves
         ensures rows { K.Tells result.0 → Keeps (K.rows result.0) self.hub.tables }
