@@ -1,6 +1,5 @@
 use Rattle.std.proofs.Common.{◌≡◌, ◌∙◌, ◌+◌, ℕ, Bool, ap, inl, inr, refl, Ok}
 use Rattle.std.specs.Prelude.{if◌then◌else◌}
-use Rattle.hub_tables.specs.State.{State}
 use Rattle.hub_machine.specs.Replies.{good_reply, refusal_reply}
 use Rattle.hub_machine.specs.Answers.{good_view}
 use Rattle.hub_core.specs.Stamps.{is_of_rights}
@@ -15,7 +14,7 @@ returns-in-Ok-true-clause-carried g c =
       telling = same.1;
       longer = same.2;
       stamped = c.raised.ensures ∙ ap (λ (b : Bool). if b then c.args.stamp.now + 1 else c.args.stamp.now)
-          (c.is_of_rights-of_rights.ensures ∙ ap (λ (t : State). is_of_rights t c.args.change) c.tables.ensures);
+          (c.is_of_rights-of_rights.ensures ∙ (λ i. is_of_rights (c.tables.ensures i) (c.change.ensures i)));
       said = c.good_reply.ensures ∙ ap (λ n. good_reply n (good_view c.args.good)) c.length-in-Ok-true.ensures.value;
     })
 
