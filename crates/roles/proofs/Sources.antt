@@ -78,9 +78,10 @@ same_parts t t' k k' s = λ i. (s.owner i, s.issued_for i, s.scopes i)
 -- ---- both
 
 pub same_allowed : (t t' : State) (k k' : Token) → HaveSameSources t t' k k' → (a : Action) (x : Object) → IsAllowed t k a x ↔ IsAllowed t' k' a x
-same_allowed t t' k k' s a x =
-    (λ h. subst (AllowedTo t' a x) (same_parts t t' k k' s) (subst (AllowedBy k a x) (same_sources t t' k k' s) h),
-     λ h. subst (AllowedBy k a x) (sym (same_sources t t' k k' s)) (subst (AllowedTo t' a x) (sym (same_parts t t' k k' s)) h))
+same_allowed t t' k k' s a x = (
+  λ h. subst (AllowedTo t' a x) (same_parts t t' k k' s) (subst (AllowedBy k a x) (same_sources t t' k k' s) h),
+  λ h. subst (AllowedBy k a x) (sym (same_sources t t' k k' s)) (subst (AllowedTo t' a x) (sym (same_parts t t' k k' s)) h),
+)
 
 -- a grant of what is allowed in one state is one of what is allowed in the other
 pub same_grant : (t t' : State) (k k' : Token) (grant : Rights) → HaveSameSources t t' k k' → IsGrantOf t (IsAllowed t k) grant → IsGrantOf t' (IsAllowed t' k') grant
