@@ -1,10 +1,9 @@
 -- The cache of rights: a look that may be made, and what is true of the cache after it.
-use Rattle.std.proofs.Common.{◌≡◌, ℕ, true, false, ◌+◌, ◌≤◌, ◌<◌, List, [], Contains, Option, refl, sym, ◌∙◌, subst, inl, inr, arith}
+use Rattle.std.proofs.Common.{◌≡◌, ℕ, true, false, ◌≤◌, ◌<◌, [], Contains, Option, refl, sym, ◌∙◌, subst, inl, inr, arith}
 use Rattle.std.specs.Prelude.{Some, None, Result, Ok, Err, IfOk}
 use Rattle.std.specs.FinMap.{get}
 use Rattle.scope_filters.specs.Grants.{Rights}
 use Rattle.hub_rows.specs.declared.records.Token.{Token}
-use Rattle.roles.specs.declared.cache.KeptGrant.{KeptGrant}
 use Rattle.std.specs.Borrow.{Bor}
 use Rattle.std.specs.declared.alloc.AllocError.{AllocError}
 use Rattle.hub_tables.specs.State.{State}

@@ -21,7 +21,7 @@ use Rattle.hub_tables.specs.State.{State}
 use Rattle.hub_machine.specs.State.{Hub}
 use Rattle.hub_machine.specs.Apply.{change_done}
 use Rattle.hub_machine.specs.Replies.{Answer, refuses, gives, changes}
-use Rattle.hub_opening.specs.Opening.{next_token, opened_tables, no_tables, added, token_row}
+use Rattle.hub_opening.specs.Opening.{next_token, opened_tables, added, token_row}
 use Rattle.hub_opening.specs.declared.config.ConfigToken.{ConfigToken}
 use Rattle.hub_opening.specs.declared.config.HubConfig.{HubConfig}
 use Rattle.hub_opening.proofs.Opened.{opened_keeps}

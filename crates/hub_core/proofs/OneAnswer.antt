@@ -1,5 +1,5 @@
 -- An asked call has one answer in a state.
-use Rattle.std.proofs.Common.{◌≡◌, ℕ, Bool, true, false, not, cond, List, [], ◌∷◌, Option, refl, sym, ◌∙◌, ap}
+use Rattle.std.proofs.Common.{◌≡◌, ℕ, Bool, true, false, not, cond, List, [], ◌∷◌, Option, refl, sym, ◌∙◌}
 use Rattle.std.specs.Prelude.{Some, None, IsTrue}
 use Rattle.scope_names.specs.declared.action.Action.{Action}
 use Rattle.hub_rows.specs.declared.records.Token.{Token}
@@ -16,7 +16,6 @@ use Rattle.hub_core.specs.declared.need.Need.{Need}
 use Rattle.hub_core.specs.declared.need.Need.TheVariants.{GoodToken, Held, On}
 use Rattle.hub_machine.specs.declared.refusal.Refusal.TheVariants.{SeenPast, Needs, NotFound}
 use Rattle.hub_machine.specs.declared.call.Asked.{Asked}
-use Rattle.hub_machine.specs.declared.call.Call.{Call}
 
 same_truth : (b c : Bool) → (IsTrue b → IsTrue c) → (IsTrue c → IsTrue b) → b ≡ c
 same_truth true true f g = refl

@@ -1,5 +1,5 @@
 -- What a visit gives stands at a place of the book's history.
-use Rattle.std.proofs.Common.{◌≡◌, ℕ, Bool, true, false, is_some, List, [], ◌∷◌, map, length, replicate, Option, refl, sym, ◌∙◌, ap, subst, ◌⊎◌, inl, inr}
+use Rattle.std.proofs.Common.{◌≡◌, ℕ, Bool, true, false, is_some, List, [], ◌∷◌, map, length, Option, refl, sym, ◌∙◌, ap, ◌⊎◌, inl, inr}
 use Rattle.std.specs.Prelude.{Some, None, Result, Ok, Err}
 use Rattle.std.proofs.lemmas.List.{length-map, map-append, append-nil, length-replicate}
 use Rattle.std.proofs.lemmas.Grind.{replicate_next}

@@ -1,5 +1,5 @@
 -- A change keeps the cache of rights: its entries are right, or of an earlier stamp.
-use Rattle.std.proofs.Common.{◌≡◌, ◌≤◌, ◌<◌, ◌+◌, ℕ, Bool, true, false, not, cond, List, [], ◌∷◌, Option, refl, sym, ◌∙◌, ap, subst, ◌⊎◌, inl, inr, arith}
+use Rattle.std.proofs.Common.{◌≡◌, ◌≤◌, ◌<◌, ◌+◌, ℕ, Bool, true, false, not, cond, List, [], ◌∷◌, Option, refl, sym, ◌∙◌, ap, subst, inl, inr, arith}
 use Rattle.std.specs.Prelude.{Some, None, Result, Ok, Err}
 use Rattle.std.specs.List.{list_any}
 use Rattle.std.specs.Cmp.Lexicographic.{nat_list_cmp_total}
@@ -27,11 +27,11 @@ use Rattle.roles.specs.Rights.{IsAllowed, IsGrantOf}
 use Rattle.roles.specs.Sources.{HaveSameSources, is_admin_owner}
 use Rattle.roles.proofs.Sources.{same_grant}
 use Rattle.hub_machine.specs.State.{Hub}
-use Rattle.hub_machine.specs.Apply.{apply, change_done}
+use Rattle.hub_machine.specs.Apply.{change_done}
 use Rattle.hub_machine.specs.Replies.{Answer}
 use Rattle.hub_opening.specs.Opening.{next_token}
 use Rattle.hub_core.specs.Carrying.{Carrier, Carried}
-use Rattle.hub_core.specs.Current.{IsRightIn, IsCurrent, AreNumbered, IsStamped}
+use Rattle.hub_core.specs.Current.{IsRightIn, IsStamped}
 use Rattle.hub_core.specs.History.{change_of}
 use Rattle.hub_core.specs.Stamps.{is_kept_as, touches_rights, changes_rights, stamp_after}
 use Rattle.hub_core.specs.Visits.{noted}

@@ -1,5 +1,5 @@
 -- A visit keeps a book's history and its state together.
-use Rattle.std.proofs.Common.{◌≡◌, ℕ, ◌+◌, List, [], ◌∷◌, ◌++◌, length, Option, refl, sym, ◌∙◌, ap, subst, ◌⊎◌, inl, inr, length-append, arith}
+use Rattle.std.proofs.Common.{◌≡◌, ℕ, ◌+◌, List, [], ◌∷◌, ◌++◌, length, Option, refl, sym, ◌∙◌, ap, subst, inl, inr, length-append, arith}
 use Rattle.std.specs.Prelude.{Some, None, Result, Ok, Err}
 use Rattle.hub_machine.specs.State.{Hub}
 use Rattle.hub_machine.specs.Apply.{apply}
@@ -7,7 +7,7 @@ use Rattle.hub_machine.specs.Replies.{Answer}
 use Rattle.hub_core.specs.History.{Answers, IsEntry, IsLegal, state_after, change_of}
 use Rattle.hub_core.specs.Visits.{Follows, noted, told_after}
 use Rattle.hub_core.specs.Tied.{IsTied}
-use Rattle.hub_core.specs.Carrying.{Carrier, Carried, Did, Undid, long_after}
+use Rattle.hub_core.specs.Carrying.{Carrier, Carried, long_after}
 use Rattle.hub_machine.specs.declared.call.Asked.{Asked}
 use Rattle.hub_machine.specs.declared.change.Change.{Change}
 use Rattle.hub_machine.specs.declared.change.Change.TheVariants.{Rows}

@@ -1,5 +1,5 @@
 -- What a token is allowed depends on nothing but what its rights come from.
-use Rattle.std.proofs.Common.{◌≡◌, ℕ, Bool, ◌||◌, List, [], ◌∷◌, ◌++◌, Option, refl, sym, subst, ◌⊎◌, filter, flat_map}
+use Rattle.std.proofs.Common.{◌≡◌, ◌||◌, List, [], ◌∷◌, ◌++◌, Option, refl, sym, subst, ◌⊎◌, filter, flat_map}
 use Rattle.std.specs.Prelude.{IsTrue, if◌then◌else◌, ◌↔◌}
 use Rattle.std.specs.List.{list_any}
 use Rattle.std.specs.FinMap.{values}

@@ -1,4 +1,4 @@
-use Rattle.std.proofs.Common.{◌≡◌, ◌∙◌, ◌+◌, ℕ, Bool, ap, inl, inr, refl, Ok}
+use Rattle.std.proofs.Common.{◌∙◌, ◌+◌, Bool, ap, inl, inr, refl, Ok}
 use Rattle.std.specs.Prelude.{if◌then◌else◌}
 use Rattle.hub_machine.specs.Replies.{good_reply, refusal_reply}
 use Rattle.hub_machine.specs.Answers.{good_view}

@@ -1,7 +1,7 @@
 use Rattle.std.proofs.Common.{◌≡◌, subst, ◌⊎◌, is_some}
 use Rattle.hub_machine.specs.Answers.{answer_view}
 use Rattle.hub_machine.specs.declared.reply.Outcome.TheVariants as given
-use Rattle.hub_core.specs.Visits.{Standing, Gave, Faulted, IsAsBefore, AnsweredAt, FaultedAt, entries_of, listed}
+use Rattle.hub_core.specs.Visits.{Standing, Gave, Faulted, AnsweredAt, FaultedAt, entries_of, listed}
 use Rattle.hub_core.proofs.Done.{may_be_done}
 use Rattle.hub_core.proofs.Numbered.{answer_numbers}
 use Rattle.hub_core.proofs.Stamped.{stamped_carried}
