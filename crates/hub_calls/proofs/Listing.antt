@@ -1,5 +1,5 @@
 -- What is shown of the names of a list, and of the keys of a user's servers.
-use Rattle.std.proofs.Common.{◌≡◌, ℕ, Bool, true, List, [], ◌∷◌, Option, Some, map, length, take, drop, sym, ap, ◌∙◌, subst}
+use Rattle.std.proofs.Common.{◌≡◌, ℕ, Bool, true, List, [], ◌∷◌, Option, Some, map, length, take, drop, refl, sym, ap, ◌∙◌, subst}
 use Rattle.std.proofs.lemmas.List.{length-map, take-map, drop-map}
 use Rattle.std.proofs.lemmas.List.Concat.{flat_map_single}
 use Rattle.std.proofs.lemmas.Simd.{map-map}
@@ -21,8 +21,11 @@ use Rattle.hub_rows.specs.declared.records.Group.{Group}
 use Rattle.hub_rows.specs.declared.records.Service.{Service}
 use Rattle.hub_rows.specs.declared.records.Role.{Role}
 use Rattle.hub_rows.specs.declared.records.ServerRow.{ServerRow}
+use Rattle.hub_rows.specs.declared.rows.Row.TheVariants as Row
+use Rattle.hub_rows.specs.declared.rows.RowKey.TheVariants as RowKey
 use Rattle.hub_tables.specs.Lookups as lookups
 use Rattle.hub_tables.specs.Own.{AreOwn}
+use Rattle.hub_tables.proofs.RowsAt.{own_kind, own_users, own_groups, own_services, own_roles}
 use Rattle.hub_tables.specs.State.{State}
 use Rattle.hub_view.specs.Fields.{Rights}
 use Rattle.hub_view.specs.Json.{Json}
@@ -67,36 +70,39 @@ pub users_listed : (may : Rights) (s : Hub) (t : State) (rows : FinMap name_cmp 
 users_listed may s t rows e own r =
     let here : AreOwn s.tables = subst AreOwn e own in
     ap (λ (m : FinMap name_cmp User). map (user_at may s) (kept (λ name. may ListUsers (Ob.User name)) m)) (r ∙ ap (λ (x : State). x.users) e)
-    ∙ shown_rows nat_list_cmp_total names_exact (λ (u : User). u.name) s.tables.users here.users (λ name. may ListUsers (Ob.User name)) (body_of_user may s)
+    ∙ shown_rows nat_list_cmp_total names_exact (λ (u : User). u.name) s.tables.users (own_users s.tables here) (λ name. may ListUsers (Ob.User name)) (body_of_user may s)
 
 pub groups_listed : (may : Rights) (s : Hub) (t : State) (rows : FinMap name_cmp Group) → t ≡ s.tables → AreOwn t → rows ≡ t.groups
     → map (group_at may s) (kept (λ name. may ListGroups (Ob.Group name)) rows) ≡ groups_shown may s (values s.tables.groups)
 groups_listed may s t rows e own r =
     let here : AreOwn s.tables = subst AreOwn e own in
     ap (λ (m : FinMap name_cmp Group). map (group_at may s) (kept (λ name. may ListGroups (Ob.Group name)) m)) (r ∙ ap (λ (x : State). x.groups) e)
-    ∙ shown_rows nat_list_cmp_total names_exact (λ (g : Group). g.name) s.tables.groups here.groups (λ name. may ListGroups (Ob.Group name)) (body_of_group may s)
+    ∙ shown_rows nat_list_cmp_total names_exact (λ (g : Group). g.name) s.tables.groups (own_groups s.tables here) (λ name. may ListGroups (Ob.Group name)) (body_of_group may s)
 
 pub services_listed : (may : Rights) (s : Hub) (t : State) (rows : FinMap name_cmp Service) → t ≡ s.tables → AreOwn t → rows ≡ t.services
     → map (service_body may s) (kept (λ name. may ListServices (Ob.Service name)) rows) ≡ services_shown may s (values s.tables.services)
 services_listed may s t rows e own r =
     let here : AreOwn s.tables = subst AreOwn e own in
     ap (λ (m : FinMap name_cmp Service). map (service_body may s) (kept (λ name. may ListServices (Ob.Service name)) m)) (r ∙ ap (λ (x : State). x.services) e)
-    ∙ shown_keys nat_list_cmp_total names_exact (λ (v : Service). v.name) s.tables.services here.services (λ name. may ListServices (Ob.Service name)) (service_body may s)
+    ∙ shown_keys nat_list_cmp_total names_exact (λ (v : Service). v.name) s.tables.services (own_services s.tables here) (λ name. may ListServices (Ob.Service name)) (service_body may s)
 
 pub roles_listed : (s : Hub) (t : State) (rows : FinMap name_cmp Role) → t ≡ s.tables → AreOwn t → rows ≡ t.roles
     → map (role_at s) (kept (λ name. true) rows) ≡ map role_body (values s.tables.roles)
 roles_listed s t rows e own r =
     let here : AreOwn s.tables = subst AreOwn e own in
     ap (λ (m : FinMap name_cmp Role). map (role_at s) (kept (λ name. true) m)) (r ∙ ap (λ (x : State). x.roles) e)
-    ∙ shown_rows nat_list_cmp_total names_exact (λ (x : Role). x.name) s.tables.roles here.roles (λ name. true) body_of_role
+    ∙ shown_rows nat_list_cmp_total names_exact (λ (x : Role). x.name) s.tables.roles (own_roles s.tables here) (λ name. true) body_of_role
     ∙ ap (map role_body) (all_pass (values s.tables.roles))
 
 -- ---- the servers of a user
+
+pub own_servers : (s : State) → AreOwn s → OwnKeys (λ (row : ServerRow). row.key) s.servers
+own_servers s own = own_kind s.servers s RowKey.ServerRow Row.ServerRow (λ row. row.key) (λ q. refl) (λ row. refl) (λ a b e. cc) own
 
 pub servers_shown : (s : Hub) (t : State) (u : List ℕ) → t ≡ s.tables → AreOwn t
     → flat_map (λ key. facts_at s.lives (get s.tables.servers key)) (lookups.servers_of t u) ≡ servers_of s u
 servers_shown s t u e own =
     let here : AreOwn s.tables = subst AreOwn e own in
     ap (λ (x : State). flat_map (λ key. facts_at s.lives (get s.tables.servers key)) (lookups.servers_of x u)) e
-    ∙ found_give server_key.total-law key_exact (λ (row : ServerRow). row.key) (λ (row : ServerRow). same row.key.user u) s.tables.servers here.servers (facts_at s.lives)
+    ∙ found_give server_key.total-law key_exact (λ (row : ServerRow). row.key) (λ (row : ServerRow). same row.key.user u) s.tables.servers (own_servers s.tables here) (facts_at s.lives)
     ∙ flat_map_single (server_facts s.lives) (filter (λ (row : ServerRow). same row.key.user u) (values s.tables.servers))

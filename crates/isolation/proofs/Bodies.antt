@@ -18,6 +18,7 @@ use Rattle.hub_rows.specs.declared.records.ServerRow.{ServerRow}
 use Rattle.hub_rows.specs.declared.records.Token.{Token}
 use Rattle.hub_rows.specs.declared.records.User.{User}
 use Rattle.hub_tables.specs.Own.{AreOwn}
+use Rattle.hub_calls.proofs.Listing.{own_servers}
 use Rattle.hub_tables.specs.Lookups.{groups_of, roles_naming_group, roles_naming_service}
 use Rattle.hub_view.specs.Json.{Json, Member, line, lines, truth, maybe, pairs, member}
 use Rattle.hub_view.specs.Servers.{at, is_live, is_ready, pending, server_url}
@@ -135,7 +136,7 @@ module _ (k : Token) (s t : Hub) (may : Rights) (says : Says s k may) (own : Are
   same_servers u seen =
       servers_picked may s u (values s.tables.servers)
       ∙ same_shown server_key.total-law key_exact (member_of may s u) (member_of may t u) s.tables.servers t.tables.servers (λ q.
-      seen_as may s u q (get s.tables.servers q) (own.servers q) ∙ server_at u seen q ∙ sym (seen_as may t u q (get t.tables.servers q) (own'.servers q)))
+      seen_as may s u q (get s.tables.servers q) (own_servers s.tables own q) ∙ server_at u seen q ∙ sym (seen_as may t u q (get t.tables.servers q) (own_servers t.tables own' q)))
       ∙ sym (servers_picked may t u (values t.tables.servers))
 
   -- ---- users

@@ -1,6 +1,7 @@
 use Rattle.std.proofs.Common.{subst}
 use Rattle.std.proofs.lemmas.Result.{IfOk-weaker}
 use Rattle.hub_tables.specs.State.{State}
+use Rattle.hub_tables.proofs.RowsAt.{own_groups}
 use Rattle.admin_rules.specs.Rules.{Says}
 use Rattle.admin_rules.specs.Groups.{leave_group}
 use Rattle.hub_calls.specs.Puts.{PutsGroup}
@@ -9,7 +10,7 @@ use Rattle.hub_calls.proofs.group_calls.leave_group.Goals as goal
 
 pub answer_of_group-requires : goal.answer_of_group-requires
 answer_of_group-requires c =
-    says_rows _ c.leave_group-rows.result (PutsGroup c.args.group.now) (λ rows. leave_group_puts c.tables-tables.result.now c.args.group.now c.args.users.now rows (c.own_keys.ensures.groups c.args.group.now)) c.leave_group-rows.ensures.answer
+    says_rows _ c.leave_group-rows.result (PutsGroup c.args.group.now) (λ rows. leave_group_puts c.tables-tables.result.now c.args.group.now c.args.users.now rows (own_groups c.tables-tables.result.now c.own_keys.ensures c.args.group.now)) c.leave_group-rows.ensures.answer
 
 pub returns : goal.returns
 returns c =
