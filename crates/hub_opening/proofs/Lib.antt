@@ -2,3 +2,4 @@ pub mod KeptNames
 pub mod Opened
 pub mod OpenedRows
 pub mod Reading
+mod InTurn
