@@ -1,5 +1,5 @@
 -- A store whose schema and rows were found to be those of this program.
-use Rattle.std.proofs.Common.{◌≡◌, ◌≤◌, ◌+◌, ℕ, suc, ℤ, Bool, true, false, cond, ◌&&◌, List, [], ◌∷◌, map, drop, sum_by, Some, Ordering, Less, Equal, Greater, refl, sym, ap, subst, ◌∙◌, arith, true≢false}
+use Rattle.std.proofs.Common.{◌≡◌, ◌≤◌, ◌+◌, ℕ, suc, ℤ, Bool, true, false, cond, ◌&&◌, List, [], ◌∷◌, map, drop, sum_by, None, Some, Ordering, Less, Equal, Greater, refl, sym, ap, subst, ◌∙◌, arith, true≢false}
 use Rattle.std.specs.List.Sorted.{IsPermutation}
 use Rattle.std.specs.Ordering.{is_ne}
 use Rattle.std.specs.FinMap.{int_cmp-IsAntisymmetric}
@@ -22,6 +22,7 @@ use Rattle.row_table.specs.Ours.{IsOurs, AreOurs}
 use Rattle.row_table.specs.Stored.{stored, whole, count_at, IsStored, IsRowTable, IsRowStore}
 use Rattle.row_table.specs.Tables.{row_table, store_schema}
 use Rattle.row_table.proofs.Edits.{AreApart, apart_same, moved, mapped}
+use Rattle.row_table.proofs.Rising.{each_ours, ours_apart}
 use Rattle.row_table.proofs.Tests.{is_same, same_itself, rowid_itself}
 
 -- ---- rowids
@@ -45,6 +46,12 @@ apart_from : (tree rows : List Row) → IsPermutation (map whole tree) rows → 
 apart_from tree rows same apart id =
     let n : count_at id rows ≡ count_at id tree =
     sym (count_is id rows) ∙ sum_by-IsPermutation (λ r. one_if (has_rowid id r)) (map whole tree) rows same ∙ count_is id (map whole tree) ∙ count_whole id tree in
+    subst (λ k. k ≤ 1) n (apart id)
+
+pub apart_listed : (tree rows : List Row) → IsPermutation (map whole tree) rows → AreApart tree → AreApart rows
+apart_listed tree rows same apart id =
+    let n : count_at id tree ≡ count_at id rows =
+    sym (count_whole id tree) ∙ sym (count_is id (map whole tree)) ∙ sym (sum_by-IsPermutation (λ r. one_if (has_rowid id r)) (map whole tree) rows same) ∙ count_is id rows in
     subst (λ k. k ≤ 1) n (apart id)
 
 -- ---- the shape of a row
@@ -89,9 +96,9 @@ one_id tree a b s t there free p q =
 known_table : (trees : Trees) → IsDatabase (record { schema = store_schema; trees = trees }) → (rows : List Row) → IsPermutation (map whole (trees 0)) rows → AreOurs rows → IsRowTable (trees 0)
 known_table trees sound rows same ours =
     let tree = trees 0 in
-    let apart : AreApart tree = apart_from tree rows same ours.apart in
+    let apart : AreApart tree = apart_from tree rows same (ours_apart None rows ours) in
     let formed : (row : Row) → Has tree row → IsStored row = λ row there.
-    let shown = ours.each (whole row) (moved (map whole tree) rows (whole row) same (mapped whole tree row there)) in
+    let shown = each_ours None rows ours (whole row) (moved (map whole tree) rows (whole row) same (mapped whole tree row there)) in
     let passed : passes Datatype store_schema trees row_table row ≡ true = all_has (λ r. passes Datatype store_schema trees row_table r ≡ true) tree row (sound.obeys.rules Datatype).0 there in
     four row shown.0 (record { id_is = shown.1.id_is; kind = shown.1.kind; key = shown.1.key; text = shown.1.text }) (and_parts _ _ passed).0 in
     record {

@@ -17,3 +17,5 @@ pub mod Rising
 pub mod Found
 pub mod Making
 pub mod Made
+mod Ordered
+mod Refused

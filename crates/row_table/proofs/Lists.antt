@@ -4,7 +4,7 @@ use Rattle.std.proofs.Math.Path.{subst₂}
 use Rattle.std.proofs.lemmas.List.Sorted.{IsPermutation-map}
 use Rattle.std.specs.List.Sorted.{IsPermutation}
 use Rattle.sqlite.specs.declared.types.Value.TheVariants.{Null}
-use Rattle.sqlite.specs.Order.{Row, column}
+use Rattle.sqlite.specs.Order.{Row}
 use Rattle.sqlite.specs.Term.{Env}
 use Rattle.sqlite.specs.Query.{IsAnswer, Output, output}
 use Rattle.sqlite.specs.Program.{overlay}
@@ -12,9 +12,11 @@ use Rattle.sqlite.specs.Command.TheVariants.{Select}
 use Rattle.sqlite.specs.Tree.{Trees}
 use Rattle.sqlite.specs.State.{State, Shown}
 use Rattle.sqlite.proofs.Callers.{reads_as}
-use Rattle.row_table.specs.Stored.{whole}
+use Rattle.row_table.specs.Ours.{AreOurs}
+use Rattle.row_table.specs.Stored.{whole, IsRowStore}
 use Rattle.row_table.specs.Tables.{store_schema}
 use Rattle.row_table.specs.Texts.{select_text, all_text}
+use Rattle.row_table.proofs.Ordered.{by_id, listed_ours}
 use Rattle.row_table.proofs.Words.{listed, in_list, IsListing}
 use Rattle.row_table.proofs.Upsert.{select_is, select_unlisted, select_plain, by_rowid, all_is, all_unlisted, all_plain}
 
@@ -36,9 +38,6 @@ lists old new rows has h =
 
 -- ---- with the rowids
 
-abbrev by_id : Row → Output
-by_id row = (column row 0 ∷ [], whole row)
-
 all_by_id : (rs : List Row) → map (output by_rowid) (flat_map alone rs) ≡ map by_id rs
 all_by_id [] = refl
 all_by_id (r ∷ rs) = ap (λ os. by_id r ∷ os) (all_by_id rs)
@@ -52,7 +51,17 @@ all_answered db rows a =
     let kept : a.kept ≡ map by_id (db 0) = a.distinct ∙ ap (map (output by_rowid)) a.grouped ∙ all_by_id (db 0) in
     subst₂ (λ xs ys. IsPermutation xs ys) (ap (map (λ (o : Output). o.1)) kept ∙ shown_whole (db 0)) (sym a.shown) (IsPermutation-map (λ (o : Output). o.1) a.kept a.ordered a.same)
 
+all_read : (old new : State) (rows : List Row) → old.now.schema ≡ store_schema → Shown all_text [] old new rows → IsAnswer by_rowid (overlay old.now.trees []) [] rows
+all_read old new rows has h =
+    (reads_as all_text [] old new store_schema has (Select (record { lets = []; body = by_rowid }) (codes "rowid" ∷ codes "kind" ∷ codes "key" ∷ codes "text" ∷ [])) all_is all_plain all_unlisted rows h).answer Null
+
 pub all_shown : (old new : State) (rows : List Row) → old.now.schema ≡ store_schema → Shown all_text [] old new rows → IsPermutation (map whole (old.now.trees 0)) rows
-all_shown old new rows has h =
-    all_answered old.now.trees rows
-    ((reads_as all_text [] old new store_schema has (Select (record { lets = []; body = by_rowid }) (codes "rowid" ∷ codes "kind" ∷ codes "key" ∷ codes "text" ∷ [])) all_is all_plain all_unlisted rows h).answer Null)
+all_shown old new rows has h = all_answered old.now.trees rows (all_read old new rows has h)
+
+-- of a store of the hub
+pub all_ours : (old new : State) (rows : List Row) → IsRowStore old.now → Shown all_text [] old new rows → AreOurs rows
+all_ours old new rows store h =
+    let a = all_read old new rows store.0 h in
+    let tree = old.now.trees 0 in
+    let kept : a.kept ≡ map by_id tree = a.distinct ∙ ap (map (output by_rowid)) a.grouped ∙ all_by_id tree in
+    subst AreOurs (sym a.shown) (listed_ours tree a.ordered store.1 (subst (λ os. IsPermutation os a.ordered) kept a.same) (subst (IsPermutation (map whole tree)) a.shown (all_answered old.now.trees rows a)) a.sorted)

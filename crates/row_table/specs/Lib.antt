@@ -3,3 +3,4 @@ pub mod Shown
 pub mod Stored
 pub mod Tables
 pub mod Texts
+pub mod Unread

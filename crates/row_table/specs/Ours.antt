@@ -1,9 +1,7 @@
 -- Rows of a table that are rows of the hub.
-use Rattle.std.specs.Prelude.{◌≡◌, ◌≤◌, ℕ, ℤ, pos, int_lt, List, Option, Some, None, IsTrue, ⊤}
+use Rattle.std.specs.Prelude.{◌≡◌, ℕ, ℤ, pos, int_lt, List, [], ◌∷◌, Option, Some, None, IsTrue, ⊤}
 use Rattle.sqlite.specs.Order.{Row, column}
 use Rattle.sqlite.specs.declared.types.Value.TheVariants.{Int, Text}
-use Rattle.sqlite_rules.specs.Lists.{Has}
-use Rattle.row_table.specs.Stored.{count_at}
 
 -- a rowid, a kind, a key and a text
 pub record IsOurs (id : ℤ) (row : Row) : Type 0 where
@@ -16,7 +14,10 @@ abbrev pub IsAbove : Option ℤ → ℤ → Type 0
 IsAbove None id = ⊤
 IsAbove (Some last) id = IsTrue (int_lt last id)
 
--- each is one, and no rowid comes twice
-pub record AreOurs (rows : List Row) : Type 0 where
-  pub apart : (id : ℤ) → count_at id rows ≤ 1
-  pub each : (row : Row) → Has rows row → (id : ℤ) × IsOurs id row
+-- each is one, and their rowids rise from above the last one
+abbrev pub AreOursAbove : Option ℤ → List Row → Type 0
+AreOursAbove last [] = ⊤
+AreOursAbove last (row ∷ rows) = (id : ℤ) × IsOurs id row × IsAbove last id × AreOursAbove (Some id) rows
+
+abbrev pub AreOurs : List Row → Type 0
+AreOurs = AreOursAbove None

@@ -1,9 +1,10 @@
 //! Whether a store is one of this program.
-ghost use Rattle.std.specs.Prelude.{◌≡◌, ◌≤◌, false, IsTrue, IfOk};
+ghost use Rattle.std.specs.Prelude.{◌≡◌, ◌≤◌, false, IsTrue, IfOk, IfErr};
 ghost use Rattle.sqlite.specs.View.{doubt};
 ghost use Rattle.sqlite.specs.State.{HasCleanDisk};
 ghost use Rattle.sqlite.specs.Held.{state};
 ghost use Rattle.row_table.specs.Stored.{IsRowStore};
+ghost use Rattle.row_table.specs.Unread.{IsUnread};
 
 use crate::{rows, schema, statements};
 use sqlite::{Alter, Connection, Error};
@@ -16,10 +17,12 @@ pub fn has_row_store<S: Alter>(conn: &mut Connection<S>) -> Result<bool, Error>
         → IsTrue (state S.Store conn.old).is_open × ((state S.Store conn.new).now ≡ (state S.Store conn.old).now) }
     ensures apart { IfOk result (λ known. IsTrue known → conn.old.in_transaction ≡ false) }
     ensures known { HasCleanDisk (state S.Store conn.new) → IsTrue (state S.Store conn.new).is_open → IfOk result (λ known. IsTrue known → IsRowStore (state S.Store conn.new).now) }
+    ensures only { HasCleanDisk (state S.Store conn.new) → conn.old.in_transaction ≡ false → IsRowStore (state S.Store conn.old).now → IfOk result IsTrue }
+    ensures unread { HasCleanDisk (state S.Store conn.new) → IfErr result (IsUnread (state S.Store conn.old) (state S.Store conn.new)) }
 {
     if !conn.is_autocommit() || !schema::is_store_schema(conn.schema()) {
         return Ok(false);
     }
     let all = statements::select_all(conn)?;
-    rows::are_ours(all.as_slice())
+    Ok(rows::are_ours(all.as_slice()))
 }

@@ -1,21 +1,46 @@
 //! Whether the rows of a table are rows of the hub.
-ghost use Rattle.std.specs.Prelude.{IsTrue, IfOk};
+ghost use Rattle.std.specs.Prelude.{◌≡◌, ◌≢◌, ℕ, ℤ, List, None, IsTrue, IfSome};
+ghost use Rattle.sqlite.specs.Order.{column};
+ghost use Rattle.sqlite.specs.declared.types.Value.TheVariants.{Int, Text as Words};
 ghost use Rattle.row_table.specs.Ours.{IsOurs, IsAbove, AreOurs};
 
-use sqlite::{Error, Row};
+use sqlite::Row;
+use sqlite::types::ValueRef;
+
+fn number_at(row: &Row, at: usize) -> Option<i64>
+    ensures some { IfSome result (λ n. column row.now at ≡ Int n) }
+    ensures none { result ≡ None → (n : ℤ) → column row.now at ≢ Int n }
+{
+    match row.get_ref(at) {
+        Ok(ValueRef::Int(n)) => Some(n),
+        _ => None,
+    }
+}
+
+fn has_text_at(row: &Row, at: usize) -> bool
+    ensures text { IsTrue result → (s : List ℕ) × (column row.now at ≡ Words s) }
+    ensures only { (s : List ℕ) → column row.now at ≡ Words s → IsTrue result }
+{
+    matches!(row.get_ref(at), Ok(ValueRef::Text(_)))
+}
 
 /// The rowid of a row of the hub, whose kind is no negative number, and whose key and text are texts.
-fn id_of(row: &Row) -> Result<i64, Error>
-    ensures { IfOk result (λ id. IsOurs id row.now) }
+fn id_of(row: &Row) -> Option<i64>
+    ensures ours { IfSome result (λ id. IsOurs id row.now) }
+    ensures none { result ≡ None → (id : ℤ) → ¬ IsOurs id row.now }
 {
-    let _kind: u32 = row.get(1)?;
-    let _key: String = row.get(2)?;
-    let _text: String = row.get(3)?;
-    row.get(0)
+    let id = number_at(row, 0)?;
+    let kind = number_at(row, 1)?;
+    if kind >= 0 && has_text_at(row, 2) && has_text_at(row, 3) {
+        Some(id)
+    } else {
+        None
+    }
 }
 
 fn is_above(last: Option<i64>, id: i64) -> bool
-    ensures { IsTrue result → IsAbove last id }
+    ensures above { IsTrue result → IsAbove last id }
+    ensures only { IsAbove last id → IsTrue result }
 {
     match last {
         Some(last) => last < id,
@@ -24,16 +49,19 @@ fn is_above(last: Option<i64>, id: i64) -> bool
 }
 
 /// Whether each is a row of the hub, and their rowids rise.
-pub fn are_ours(rows: &[Row]) -> Result<bool, Error>
-    ensures { IfOk result (λ ours. IsTrue ours → AreOurs rows.now) }
+pub fn are_ours(rows: &[Row]) -> bool
+    ensures ours { IsTrue result → AreOurs rows.now }
+    ensures only { AreOurs rows.now → IsTrue result }
 {
     let mut last = None;
     for row in rows {
-        let id = id_of(row)?;
+        let Some(id) = id_of(row) else {
+            return false;
+        };
         if !is_above(last, id) {
-            return Ok(false);
+            return false;
         }
         last = Some(id);
     }
-    Ok(true)
+    true
 }

@@ -1,5 +1,5 @@
 //! The statements, each of which has a text of its own. All of them are run in a transaction, but for the selection.
-ghost use Rattle.std.specs.Prelude.{◌≡◌, ◌≤◌, false, [], ◌∷◌, pos, map, List, Some, None, Ok, IsTrue, IfOk, OnOk, IsPermutation};
+ghost use Rattle.std.specs.Prelude.{◌≡◌, ◌≤◌, false, [], ◌∷◌, pos, map, List, Some, None, Ok, IsTrue, IfOk, IfErr, OnOk, IsPermutation};
 ghost use Rattle.sqlite.specs.Batch.{ExecutesAllInside};
 ghost use Rattle.sqlite.specs.View.{doubt};
 ghost use Rattle.sqlite.specs.declared.types.Value.TheVariants.{Int, Text as Words};
@@ -8,7 +8,9 @@ ghost use Rattle.sqlite.specs.Held.{state};
 ghost use Rattle.keeper.specs.Rows.{with_text, no_rows, Lists};
 ghost use Rattle.row_table.specs.Tables.{no_schema, store_schema};
 ghost use Rattle.keeper.specs.declared.keeper.Row.{Row as Kept};
+ghost use Rattle.row_table.specs.Ours.{AreOurs};
 ghost use Rattle.row_table.specs.Shown.{shown, front};
+ghost use Rattle.row_table.specs.Unread.{IsUnread};
 ghost use Rattle.row_table.specs.Stored.{IsRowStore, HasRows, rows_of, whole};
 ghost use Rattle.row_table.specs.Texts.{make_text, raise_text, number_text, put_text, delete_text, select_text, all_text, StaysInside, Leaves};
 
@@ -100,13 +102,16 @@ pub fn select_rows<S: Alter>(conn: &mut Connection<S>) -> Result<Vec<Row>, Error
     conn.query_all("SELECT kind, key, text FROM row ORDER BY kind, key", &[])
 }
 
-/// The rows of the table with their rowids, which come once, in any order.
+/// The rows of the table with their rowids, each once, in the order of the rowids.
 pub fn select_all<S: Alter>(conn: &mut Connection<S>) -> Result<Vec<Row>, Error>
     ensures clean { doubt (state S.Store conn.old).is_clean ≤ doubt (state S.Store conn.new).is_clean }
     ensures mode { conn.old.in_transaction ≡ false → conn.new.in_transaction ≡ false }
     ensures left { HasCleanDisk (state S.Store conn.new) → Leaves all_text (state S.Store conn.old) (state S.Store conn.new) }
     ensures whole { HasCleanDisk (state S.Store conn.new) → (state S.Store conn.old).now.schema ≡ store_schema
         → IfOk result (λ rows. IsPermutation (map whole ((state S.Store conn.old).now.trees 0)) rows.items) }
+    ensures ours { HasCleanDisk (state S.Store conn.new) → IsRowStore (state S.Store conn.old).now → IfOk result (λ rows. AreOurs rows.items) }
+    ensures unread { HasCleanDisk (state S.Store conn.new) → (state S.Store conn.old).now.schema ≡ store_schema
+        → IfErr result (IsUnread (state S.Store conn.old) (state S.Store conn.new)) }
 {
     conn.query_all("SELECT rowid, kind, key, text FROM row ORDER BY rowid", &[])
 }

@@ -1,5 +1,5 @@
+use Rattle.std.proofs.Common.{rules}
 use Rattle.std.proofs.Common.{◌≡◌, sym, subst, ◌∙◌}
-use Rattle.std.proofs.lemmas.Result.{IfOk-weaker}
 use Rattle.sqlite.specs.Given.{IsPlain}
 use Rattle.sqlite.specs.Held.{state}
 use Rattle.sqlite.specs.Listing.{understood}
@@ -14,24 +14,30 @@ use Rattle.row_table.proofs.known.has_row_store.Goals as goal
 pub returns-in_err-all-clause-stands : goal.returns-in_err-all-clause-stands
 returns-in_err-all-clause-stands g c clean open_now =
     let old = state g.S.Store c.args.conn.now in
-    let schema : old.now.schema ≡ store_schema = sym c.schema.ensures.value ∙ c.is_store_schema.ensures c.if-not-is_store_schema.false in
+    let schema : old.now.schema ≡ store_schema = sym c.schema.ensures.value ∙ c.is_store_schema.ensures.is c.if-not-is_store_schema.false in
     let left = c.select_all.ensures.left clean open_now in
     (left.0, (left.1 (subst (λ s. IsPlain (understood s all_text)) (sym schema) all_plain) (c.is_autocommit.ensures.settled c.if-not-is_autocommit.false left.0)).0)
 
 pub returns-clause-stands : goal.returns-clause-stands
 returns-clause-stands g c clean open_now =
     let old = state g.S.Store c.args.conn.now in
-    let schema : old.now.schema ≡ store_schema = sym c.schema.ensures.value ∙ c.is_store_schema.ensures c.if-not-is_store_schema.false in
+    let schema : old.now.schema ≡ store_schema = sym c.schema.ensures.value ∙ c.is_store_schema.ensures.is c.if-not-is_store_schema.false in
     let left = c.select_all.ensures.left clean open_now in
     (left.0, (left.1 (subst (λ s. IsPlain (understood s all_text)) (sym schema) all_plain) (c.is_autocommit.ensures.settled c.if-not-is_autocommit.false left.0)).0)
 
 pub returns-clause-known : goal.returns-clause-known
-returns-clause-known g c clean open_now =
+returns-clause-known g c clean open_now is =
     let old = state g.S.Store c.args.conn.now in
-    let schema : old.now.schema ≡ store_schema = sym c.schema.ensures.value ∙ c.is_store_schema.ensures c.if-not-is_store_schema.false in
+    let schema : old.now.schema ≡ store_schema = sym c.schema.ensures.value ∙ c.is_store_schema.ensures.is c.if-not-is_store_schema.false in
     let left = c.select_all.ensures.left clean open_now in
     let same = left.1 (subst (λ s. IsPlain (understood s all_text)) (sym schema) all_plain) (c.is_autocommit.ensures.settled c.if-not-is_autocommit.false left.0) in
-    IfOk-weaker c.are_ours.result _ _
-    (λ known found is. subst IsRowStore (sym same.0)
-    (known_store old.now schema (c.schema.ensures.live left.0).0 c.in_ok-all.all.items (c.in_ok-all.ensures.whole clean schema) (subst AreOurs c.as_slice.ensures.value (found is))))
-    c.are_ours.ensures
+    subst IsRowStore (sym same.0)
+    (known_store old.now schema (c.schema.ensures.live left.0).0 c.in_ok-all.all.items (c.in_ok-all.ensures.whole clean schema) (subst AreOurs c.as_slice.ensures.value (c.are_ours.ensures.ours is)))
+
+pub returns-clause-only : goal.returns-clause-only
+returns-clause-only g c clean apart store = c.are_ours.ensures.only (subst AreOurs (sym c.as_slice.ensures.value) (c.in_ok-all.ensures.ours clean store))
+
+pub returns-in_err-all-clause-unread : goal.returns-in_err-all-clause-unread
+returns-in_err-all-clause-unread g c clean =
+    let unread = c.in_err-all.ensures.unread clean (sym c.schema.ensures.value ∙ c.is_store_schema.ensures.is c.if-not-is_store_schema.false) in
+    search rules
