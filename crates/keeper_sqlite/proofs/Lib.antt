@@ -2,3 +2,4 @@ mod Inside
 mod Open
 mod Props
 mod Told
+mod Unread

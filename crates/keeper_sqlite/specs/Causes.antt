@@ -1,8 +1,10 @@
 -- What a refusal of the database is to the hub, and what it counts.
-use Rattle.std.specs.Prelude.{ℕ, Result, Ok, Err}
+use Rattle.std.specs.Prelude.{◌≡◌, ◌⊎◌, ℕ, false, IsSome, Result, Ok, Err, ⊤}
 use Rattle.hub_devices.specs.FailingCalls.{one_more}
 use Rattle.keeper.specs.declared.keeper.KeeperError.{KeeperError}
 use Rattle.keeper.specs.declared.keeper.KeeperError.TheVariants.{Failed, Memory}
+use Rattle.sqlite.specs.Disk.{MoreFaults}
+use Rattle.sqlite.specs.State.{State}
 use Rattle.sqlite.specs.declared.error.Error.{Error}
 use Rattle.sqlite.specs.declared.error.Error.TheVariants.{SqliteFailure}
 use Rattle.sqlite.specs.declared.error.ErrorCode.TheVariants.{OutOfMemory}
@@ -21,3 +23,8 @@ counted Memory faults = faults
 abbrev pub faults_after : {A : Type 0} → Result A KeeperError → ℕ → ℕ
 faults_after (Ok a) faults = faults
 faults_after (Err cause) faults = counted cause faults
+
+-- why a store wasn't read: for want of memory; or the disk failed and counted it, the connection was shut, or there was a limit on its steps
+abbrev pub IsNotRead : State → State → KeeperError → Type 0
+IsNotRead old new Memory = ⊤
+IsNotRead old new Failed = MoreFaults old.faults new.faults ⊎ ((old.is_open ≡ false) ⊎ IsSome old.step_limit)

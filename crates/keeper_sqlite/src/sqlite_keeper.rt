@@ -1,5 +1,5 @@
 //! A keeper over a database.
-ghost use Rattle.std.specs.Prelude.{◌≡◌, ◌≤◌, false, Ok, IsTrue, IfOk, IfErr, OnOk, OnErr};
+ghost use Rattle.std.specs.Prelude.{◌≡◌, ◌≤◌, false, Ok, IsTrue, IfOk, IfErr, IsOkAnd, MatchResult, OnOk, OnErr};
 ghost use Rattle.hub_devices.specs.FailingCalls.{one_more};
 ghost use Rattle.hub_devices.specs.Faults.{Rises};
 ghost use Rattle.keeper.specs.Rows.{AreSame, Lists, no_rows, after_items, place_of};
@@ -8,9 +8,9 @@ ghost use Rattle.sqlite.specs.Held.{state};
 ghost use Rattle.sqlite.specs.View.{doubt};
 ghost use Rattle.sqlite.specs.Steps.{over_memory};
 ghost use Rattle.row_table.specs.Tables.{no_schema};
-ghost use Rattle.keeper_sqlite.specs.Own.{IsOwned, IsTold, Stands, told_rows};
+ghost use Rattle.keeper_sqlite.specs.Own.{IsOwned, IsOwnStore, IsTold, Stands, told_rows};
 ghost use Rattle.keeper_sqlite.specs.Statements.{IsCommitted, IsLoaded};
-ghost use Rattle.keeper_sqlite.specs.Causes.{cause_of, counted, faults_after};
+ghost use Rattle.keeper_sqlite.specs.Causes.{cause_of, counted, faults_after, IsNotRead};
 
 use crate::store;
 use hub_kit::text::Text;
@@ -70,21 +70,29 @@ impl<S: Alter + Drop> SqliteKeeper<S> {
     }
 
     /// A keeper over the store of a connection, which may have tables. Reads every row of a store that has them: its rows are told
-    /// where the tables and the rows were found to be those of this program, or the store is empty.
-    pub fn resume(alloc: Global, connection: Connection<S>) -> SqliteKeeper<S>
-        ensures faults { result.faults ≡ 0 }
-        ensures clean { doubt (state S.Store connection).is_clean ≤ doubt (state S.Store result.connection).is_clean }
-        ensures stands { HasCleanDisk (state S.Store result.connection) → Stands S.Store connection result.connection }
-        ensures known { IsTrue result.is_own → IsOwned S.Store result.connection }
-        ensures fresh { connection.in_transaction ≡ false → connection.schema ≡ no_schema → IsTrue result.is_own }
+    /// where the tables and the rows are those of this program, or the store is empty, and of no other store. Where the rows can't
+    /// be read the connection comes back with the cause.
+    pub fn resume(
+        alloc: Global,
+        connection: Connection<S>,
+    ) -> Result<SqliteKeeper<S>, (KeeperError, Connection<S>)>
+        ensures faults { IfOk result (λ k. k.faults ≡ 0) }
+        ensures clean { MatchResult result (λ k. doubt (state S.Store connection).is_clean ≤ doubt (state S.Store k.connection).is_clean) (λ e. doubt (state S.Store connection).is_clean ≤ doubt (state S.Store e.1).is_clean) }
+        ensures stands { MatchResult result (λ k. HasCleanDisk (state S.Store k.connection) → Stands S.Store connection k.connection) (λ e. HasCleanDisk (state S.Store e.1) → Stands S.Store connection e.1) }
+        ensures known { IfOk result (λ k. IsTrue k.is_own → IsOwned S.Store k.connection) }
+        ensures only { IfOk result (λ k. HasCleanDisk (state S.Store k.connection) → connection.in_transaction ≡ false → IsOwnStore (state S.Store connection).now → IsTrue k.is_own) }
+        ensures fresh { connection.in_transaction ≡ false → connection.schema ≡ no_schema → IsOkAnd result (λ k. IsTrue k.is_own) }
+        ensures unread { IfErr result (λ e. HasCleanDisk (state S.Store e.1) → IsNotRead (state S.Store connection) (state S.Store e.1) e.0) }
     {
         let mut connection = connection;
-        let is_own = store::is_own(&mut connection);
-        SqliteKeeper {
-            alloc,
-            connection,
-            faults: 0,
-            is_own,
+        match store::is_own(&mut connection) {
+            Ok(is_own) => Ok(SqliteKeeper {
+                alloc,
+                connection,
+                faults: 0,
+                is_own,
+            }),
+            Err(error) => Err((cause_of(error), connection)),
         }
     }
 

@@ -1,5 +1,5 @@
 //! The store: of what form it is, and a batch in one transaction.
-ghost use Rattle.std.specs.Prelude.{◌≡◌, ◌≢◌, ◌≤◌, ◌⊎◌, false, pos, IsTrue, IfOk, IfErr, OnOk, OnErr};
+ghost use Rattle.std.specs.Prelude.{◌≡◌, ◌≢◌, ◌≤◌, ◌⊎◌, true, false, pos, Ok, IsTrue, IfOk, IfErr, OnOk, OnErr};
 ghost use Rattle.sqlite.specs.View.{doubt};
 ghost use Rattle.sqlite.specs.Order.{column};
 ghost use Rattle.sqlite.specs.declared.types.Value.TheVariants.{Int};
@@ -8,8 +8,9 @@ ghost use Rattle.sqlite.specs.Held.{state};
 ghost use Rattle.keeper.specs.Rows.{Lists};
 ghost use Rattle.row_table.specs.Tables.{no_schema};
 ghost use Rattle.row_table.specs.Texts.{number_text, StaysInside, Leaves};
+ghost use Rattle.row_table.specs.Unread.{IsUnread};
 ghost use Rattle.keeper_sqlite.specs.Forms.{number_of};
-ghost use Rattle.keeper_sqlite.specs.Own.{IsOwned, Stands, told_rows};
+ghost use Rattle.keeper_sqlite.specs.Own.{IsOwned, IsOwnStore, Stands, told_rows};
 ghost use Rattle.keeper_sqlite.specs.Statements.{text_of, values_of, HasNoTables, IsOfForm, IsRaised, IsRenewed, AreDone, IsCommitted, IsLoaded};
 
 use crate::reading;
@@ -65,21 +66,20 @@ pub(crate) fn is_fresh<S: Alter>(conn: &Connection<S>) -> bool
     conn.is_autocommit() & has_no_names
 }
 
-/// Whether the store has nothing at all, or the tables and rows of this program alone, and no transaction is under way. A store
-/// that can't be read is none.
-pub(crate) fn is_own<S: Alter>(conn: &mut Connection<S>) -> bool
+/// Whether the store has nothing at all, or the tables and rows of this program alone, and no transaction is under way. An error
+/// says that it couldn't be read, which tells neither.
+pub(crate) fn is_own<S: Alter>(conn: &mut Connection<S>) -> Result<bool, Error>
     ensures clean { doubt (state S.Store conn.old).is_clean ≤ doubt (state S.Store conn.new).is_clean }
     ensures stands { HasCleanDisk (state S.Store conn.new) → Stands S.Store conn.old conn.new }
-    ensures own { IsTrue result → IsOwned S.Store conn.new }
-    ensures fresh { conn.old.in_transaction ≡ false → conn.old.schema ≡ no_schema → IsTrue result }
+    ensures own { IfOk result (λ own. IsTrue own → IsOwned S.Store conn.new) }
+    ensures only { HasCleanDisk (state S.Store conn.new) → conn.old.in_transaction ≡ false → IsOwnStore (state S.Store conn.old).now → IfOk result IsTrue }
+    ensures fresh { conn.old.in_transaction ≡ false → conn.old.schema ≡ no_schema → result ≡ Ok true }
+    ensures unread { HasCleanDisk (state S.Store conn.new) → IfErr result (IsUnread (state S.Store conn.old) (state S.Store conn.new)) }
 {
     if is_fresh(conn) {
-        return true;
+        return Ok(true);
     }
-    match known::has_row_store(conn) {
-        Ok(is_known) => is_known,
-        Err(_) => false,
-    }
+    known::has_row_store(conn)
 }
 
 /// Marks a store of this form as of the newest.

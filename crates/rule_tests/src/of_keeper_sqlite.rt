@@ -127,8 +127,12 @@ fn a_store_with_another_number(rt: HostRuntime) {
 }
 
 /// A keeper that finds the store of another one.
-fn resumed(alloc: Global, keeper: SqliteKeeper<MemStore>) -> SqliteKeeper<MemStore> {
-    SqliteKeeper::resume(alloc, keeper.into_connection())
+fn resumed(
+    rt: &impl Abort,
+    alloc: Global,
+    keeper: SqliteKeeper<MemStore>,
+) -> SqliteKeeper<MemStore> {
+    SqliteKeeper::resume(alloc, keeper.into_connection()).expect(rt, "a store that is read")
 }
 
 #[test]
@@ -136,10 +140,10 @@ fn a_store_is_resumed(rt: HostRuntime) {
     let mut keeper = in_memory(&rt, rt.alloc());
     assert!(rt; keeper.is_own());
     commit(&rt, rt.alloc(), &mut keeper);
-    let mut again = resumed(rt.alloc(), keeper);
+    let mut again = resumed(&rt, rt.alloc(), keeper);
     assert!(rt; again.is_own() && has_rows(&rt, &mut again));
     let other = "INSERT INTO row (kind, key, text) VALUES (-1, 'x', 'y')";
     let other = run_below(&rt, rt.alloc(), again, other);
     assert!(rt; !other.is_own());
-    assert!(rt; !resumed(rt.alloc(), other).is_own());
+    assert!(rt; !resumed(&rt, rt.alloc(), other).is_own());
 }
