@@ -132,7 +132,9 @@ fn resumed(
     alloc: Global,
     keeper: SqliteKeeper<MemStore>,
 ) -> SqliteKeeper<MemStore> {
-    SqliteKeeper::resume(alloc, keeper.into_connection()).expect(rt, "a store that is read")
+    SqliteKeeper::resume(alloc, keeper.into_connection())
+        .ok()
+        .expect(rt, "a store that is read")
 }
 
 #[test]
