@@ -26,24 +26,19 @@ fn words(rt: &HostRuntime) -> Result<Vec<Text>, u8> {
     Ok(words)
 }
 
-/// The status of the command that the words name, over standard input and output and a store in memory.
-fn status_of(rt: &HostRuntime, words: &[Text]) -> u8 {
+fn main(rt: HostRuntime) -> ExitCode {
+    let words = match words(&rt) {
+        Ok(words) => words,
+        Err(status) => return ExitCode::from(status),
+    };
     let alloc = rt.alloc();
     let Ok(store) = MemKeeper::new(alloc, Vec::new(alloc), Vec::new(alloc)) else {
-        return 7;
+        return ExitCode::from(7);
     };
     let mut outside = Outside {
         input: ReaderSource::new(rt.reader()),
-        output: WriterSink::new(io::writer(rt)),
+        output: WriterSink::new(io::writer(&rt)),
         store: Some(store),
     };
-    run(rt, alloc, words, &mut outside)
-}
-
-fn main(rt: HostRuntime) -> ExitCode {
-    let status = match words(&rt) {
-        Ok(words) => status_of(&rt, words.as_slice()),
-        Err(status) => status,
-    };
-    ExitCode::from(status)
+    ExitCode::from(run(&rt, alloc, words.as_slice(), &mut outside))
 }
