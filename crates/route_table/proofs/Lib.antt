@@ -1,0 +1,14 @@
+pub mod PathLemmas
+pub mod PartLemmas
+pub mod SearchLemmas
+pub mod PlacedLemmas
+pub mod BestLemmas
+pub mod RowLemmas
+pub mod ShorterLemmas
+pub mod EditLemmas
+pub mod CountLemmas
+pub mod RefusalLemmas
+pub mod LawLemmas
+pub mod ListedLemmas
+pub mod ListLemmas
+pub mod LookLemmas
