@@ -1,0 +1,3 @@
+mod Places
+mod Twice
+mod Walked
