@@ -1,0 +1,2 @@
+mod Revoked
+mod Walked

@@ -1,0 +1,54 @@
+-- Clients: which one asks for an authorization, and whose a client is.
+use Rattle.std.specs.Prelude.{ℕ, Bool, ◌&&◌, List, codes, Option, Some, None, Result, Ok, Err, is_some, if◌then◌else◌}
+use Rattle.std.specs.FinMap.{get}
+use Rattle.hub_kit.specs.declared.names.NameError.{NameError}
+use Rattle.hub_kit.specs.declared.names.ServerKey.{ServerKey}
+use Rattle.hub_kit.specs.Names.{name_read}
+use Rattle.hub_kit.specs.ServerKeys.{key_read}
+use Rattle.scope_filters.specs.Contexts.{same}
+use Rattle.scope_filters.specs.Scopes.{before, after}
+use Rattle.hub_rows.specs.declared.records.OAuthClient.{OAuthClient}
+use Rattle.hub_tables.specs.State.{State}
+use Rattle.oauth_flow.specs.Asks.{is_text}
+use Rattle.oauth_flow.specs.declared.asks.AuthorizeAsk.{AuthorizeAsk}
+use Rattle.oauth_flow.specs.declared.asks.OAuthError.{OAuthError}
+use Rattle.oauth_flow.specs.declared.asks.OAuthError.TheVariants.{InvalidRequest, InvalidClient}
+use Rattle.oauth_flow.specs.declared.clients.Whose.{Whose}
+use Rattle.oauth_flow.specs.declared.clients.Whose.TheVariants.{Server, Service}
+
+-- ---- whose it is
+
+abbrev pub of_server : Result ServerKey NameError → Option Whose
+of_server (Ok server) = Some (Server server)
+of_server (Err e) = None
+
+abbrev pub of_service : Result (List ℕ) NameError → Option Whose
+of_service (Ok service) = Some (Service service)
+of_service (Err e) = None
+
+abbrev pub named : (kind : List ℕ) → Option (List ℕ) → Option Whose
+named kind None = None
+named kind (Some name) =
+    if same kind (codes "server") then of_server (key_read name) else (if same kind (codes "service") then of_service (name_read name) else None)
+
+-- a server's is `server:USER/SERVER`, a service's `service:NAME`; the id is cut at the first colon
+abbrev pub whose : (id : List ℕ) → Option Whose
+whose id = named (before 58 id) (after 58 id)
+
+-- ---- which one asks
+
+abbrev pub client_named : State → (id : Option (List ℕ)) → Option OAuthClient
+client_named t None = None
+client_named t (Some id) = get t.clients id
+
+-- all fields are there, and a code is asked for
+abbrev pub is_whole : AuthorizeAsk → Bool
+is_whole ask = is_text (codes "code") ask.response_type && is_some ask.client_id && is_some ask.redirect_uri && is_some ask.state
+
+abbrev pub at_uri : (uri : Option (List ℕ)) → Option OAuthClient → Result OAuthClient OAuthError
+at_uri uri None = Err InvalidClient
+at_uri uri (Some client) = if is_text client.redirect_uri uri then Ok client else Err InvalidRequest
+
+-- the kept client that asks, at its own URI
+abbrev pub client_of : State → AuthorizeAsk → Result OAuthClient OAuthError
+client_of t ask = if is_whole ask then at_uri ask.redirect_uri (client_named t ask.client_id) else Err InvalidRequest

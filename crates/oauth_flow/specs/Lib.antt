@@ -1,0 +1,4 @@
+pub mod Asks
+pub mod Clients
+pub mod Codes
+pub mod Trades
