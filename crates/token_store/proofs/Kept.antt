@@ -150,4 +150,4 @@ finds_hash t text now id own h = of_row (token_of_hash t (hash_text text)) refl 
     of_row (Some k) e h =
         let good = until_ok now id k.id k.expires_at h in
         let at = found (λ (k : Token). get t.tokens k.id ≡ Some k) (λ (k : Token). eq_by_cmp name_cmp k.hash (hash_text text)) k (values t.tokens) (values_own (λ (k : Token). k.id) t.tokens own.tokens) e in
-        (k, (ap (get t.tokens) (sym good.0) ∙ at.0, (names_exact k.hash (hash_text text) (tied (name_cmp k.hash (hash_text text)) at.1), good.1)))
+        (k, ap (get t.tokens) (sym good.0) ∙ at.0, names_exact k.hash (hash_text text) (tied (name_cmp k.hash (hash_text text)) at.1), good.1)
