@@ -21,9 +21,10 @@ abbrev pub placed_at : Option ℕ → RawScope → List RawScope → List RawSco
 placed_at None x scopes = scopes
 placed_at (Some i) x scopes = insert scopes i x
 
-abbrev pub is_among : RawScope → List RawScope → Bool
-is_among x scopes = list_any (λ y. scope.ghosts.eq y x) scopes
+-- a scope isn't among those that go
+abbrev pub is_left : (less : List RawScope) → RawScope → Bool
+is_left less x = not (list_any (λ y. scope.ghosts.eq y x) less)
 
 -- the scopes of the second list that aren't in the first
 abbrev pub without_scopes : (less kept : List RawScope) → List RawScope
-without_scopes less kept = filter (λ x. not (is_among x less)) kept
+without_scopes less kept = filter (is_left less) kept

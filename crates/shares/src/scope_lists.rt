@@ -1,7 +1,7 @@
 //! Lists of scopes in the order of their texts.
 ghost use Rattle.std.specs.Prelude.{◌≡◌, ◌≤◌, length, IfOk, IfSome, OnOk};
 ghost use Rattle.keyed_rows.specs.Sorted.{with_key};
-ghost use Rattle.shares.specs.ScopeLists.{is_among, placed_at, scope_cmp, with_scopes, without_scopes};
+ghost use Rattle.shares.specs.ScopeLists.{is_left, placed_at, scope_cmp, with_scopes, without_scopes};
 ghost use Rattle.hub_kit.specs.KeyOrder.{name_cmp};
 ghost use Rattle.scope_filters.specs.Scopes.{scope_text};
 
@@ -89,9 +89,15 @@ pub(crate) fn without_scopes(
 {
     let mut scopes = Vec::new(alloc);
     for scope in kept {
-        if !less.contains(scope) {
+        if is_left(less, scope) {
             scopes.push(*scope)?;
         }
     }
     Ok(scopes)
+}
+
+fn is_left(less: &[RawScope], scope: &RawScope) -> bool
+    ensures { result ≡ is_left less.now scope.now }
+{
+    !less.contains(scope)
 }
