@@ -18,8 +18,11 @@ use Rattle.oauth_flow.specs.declared.asks.TradeAsk.{TradeAsk}
 abbrev Traded : Type 0
 Traded = Result (OAuthCode × Token) OAuthError
 
+abbrev refusing : Option ℕ → Traded
+refusing revoke = Err (InvalidGrant revoke)
+
 abbrev revoking : ℕ → Traded
-revoking token = Err (InvalidGrant (Some token))
+revoking token = refusing (Some token)
 
 false_true : false ≡ true → ⊥
 false_true h = cc
@@ -48,7 +51,7 @@ unused_tells false true token given h = false_true (ap tells h)
 unused_tells false false token given h = false_true (ap tells h)
 
 module _ (t : State) (ask : TradeAsk) (text : List ℕ) (id now token : ℕ) where
-  is_kept : (used : ℕ) (b : Bool) → contains_key t.tokens used ≡ b → Err {X = OAuthCode × Token} (InvalidGrant (cond b (Some used) None)) ≡ revoking token → (used ≡ token) × (contains_key t.tokens used ≡ true)
+  is_kept : (used : ℕ) (b : Bool) → contains_key t.tokens used ≡ b → refusing (cond b (Some used) None) ≡ revoking token → (used ≡ token) × (contains_key t.tokens used ≡ true)
   is_kept used true e h = (ap (told_or token) h, e)
   is_kept used false e h = absurd (false_true (ap tells h))
 
@@ -65,7 +68,7 @@ module _ (t : State) (ask : TradeAsk) (text : List ℕ) (id now token : ℕ) whe
     used : code.token ≡ Some token
     there : contains_key t.tokens token ≡ true
 
-  of_asked : (code : OAuthCode) (b : Bool) → is_asked ask code ≡ b → cond b (by_use t code text id now code.token) (Err (InvalidGrant None)) ≡ revoking token → OfCode (Some code)
+  of_asked : (code : OAuthCode) (b : Bool) → is_asked ask code ≡ b → cond b (by_use t code text id now code.token) (refusing None) ≡ revoking token → OfCode (Some code)
   of_asked code true e h =
       let k = of_use code code.token h in
       record { code = code; kept = refl; asked = e; used = k.0; there = k.1 }
@@ -85,6 +88,6 @@ module _ (t : State) (ask : TradeAsk) (text : List ℕ) (id now token : ℕ) whe
   revoked r =
       ap (λ rule. by_rule rule (on_code t ask text id now (code_named t ask.code))) r.allowed
       ∙ ap (on_code t ask text id now) r.kept
-      ∙ ap (λ b. cond b (by_use t r.code text id now r.code.token) (Err (InvalidGrant None))) r.asked
+      ∙ ap (λ b. cond b (by_use t r.code text id now r.code.token) (refusing None)) r.asked
       ∙ ap (by_use t r.code text id now) r.used
-      ∙ ap (λ b. Err (InvalidGrant (cond b (Some token) None))) r.there
+      ∙ ap (λ b. refusing (cond b (Some token) None)) r.there

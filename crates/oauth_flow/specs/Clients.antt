@@ -13,26 +13,26 @@ use Rattle.oauth_flow.specs.Asks.{is_text}
 use Rattle.oauth_flow.specs.declared.asks.AuthorizeAsk.{AuthorizeAsk}
 use Rattle.oauth_flow.specs.declared.asks.OAuthError.{OAuthError}
 use Rattle.oauth_flow.specs.declared.asks.OAuthError.TheVariants.{InvalidRequest, InvalidClient}
-use Rattle.oauth_flow.specs.declared.clients.Whose.{Whose}
-use Rattle.oauth_flow.specs.declared.clients.Whose.TheVariants.{Server, Service}
+use Rattle.oauth_flow.specs.declared.clients.ClientOwner.{ClientOwner}
+use Rattle.oauth_flow.specs.declared.clients.ClientOwner.TheVariants.{Server, Service}
 
 -- ---- whose it is
 
-abbrev pub of_server : Result ServerKey NameError → Option Whose
+abbrev pub of_server : Result ServerKey NameError → Option ClientOwner
 of_server (Ok server) = Some (Server server)
 of_server (Err e) = None
 
-abbrev pub of_service : Result (List ℕ) NameError → Option Whose
+abbrev pub of_service : Result (List ℕ) NameError → Option ClientOwner
 of_service (Ok service) = Some (Service service)
 of_service (Err e) = None
 
-abbrev pub named : (kind : List ℕ) → Option (List ℕ) → Option Whose
+abbrev pub named : (kind : List ℕ) → Option (List ℕ) → Option ClientOwner
 named kind None = None
 named kind (Some name) =
     if same kind (codes "server") then of_server (key_read name) else (if same kind (codes "service") then of_service (name_read name) else None)
 
 -- a server's is `server:USER/SERVER`, a service's `service:NAME`; the id is cut at the first colon
-abbrev pub whose : (id : List ℕ) → Option Whose
+abbrev pub whose : (id : List ℕ) → Option ClientOwner
 whose id = named (before 58 id) (after 58 id)
 
 -- ---- which one asks

@@ -22,8 +22,8 @@ use Rattle.oauth_flow.specs.Clients.{client_named, whose}
 use Rattle.oauth_flow.specs.declared.asks.OAuthError.{OAuthError}
 use Rattle.oauth_flow.specs.declared.asks.OAuthError.TheVariants.{InvalidRequest, InvalidClient, InvalidGrant, UnsupportedGrantType, HashKept}
 use Rattle.oauth_flow.specs.declared.asks.TradeAsk.{TradeAsk}
-use Rattle.oauth_flow.specs.declared.clients.Whose.{Whose}
-use Rattle.oauth_flow.specs.declared.clients.Whose.TheVariants.{Server, Service}
+use Rattle.oauth_flow.specs.declared.clients.ClientOwner.{ClientOwner}
+use Rattle.oauth_flow.specs.declared.clients.ClientOwner.TheVariants.{Server, Service}
 
 -- ---- the token
 
@@ -35,16 +35,16 @@ abbrev user_name : RawScope
 user_name = Plain ReadUsersName Raw.HolderUser
 
 -- access to the server or the service whose client it is
-abbrev pub access : Whose → RawScope
+abbrev pub access : ClientOwner → RawScope
 access (Server server) = Plain AccessServers Raw.HolderServer
 access (Service service) = Plain AccessServices (Raw.Service service)
 
 -- that, and the name of the user
-abbrev pub traded_scopes : Option Whose → List RawScope
+abbrev pub traded_scopes : Option ClientOwner → List RawScope
 traded_scopes None = []
 traded_scopes (Some client) = access client ∷ user_name ∷ []
 
-abbrev pub traded_for : Option Whose → Option ServerKey
+abbrev pub traded_for : Option ClientOwner → Option ServerKey
 traded_for (Some (Server server)) = Some server
 traded_for _ = None
 

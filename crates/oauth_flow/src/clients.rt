@@ -16,7 +16,7 @@ use std::alloc::Global;
 
 /// Whose a client is.
 #[derive(Clone, Copy)]
-pub enum Whose {
+pub enum ClientOwner {
     Server(ServerKey),
     Service(ServiceName),
 }
@@ -80,7 +80,7 @@ fn at_uri(
 }
 
 /// Whose a client of this id is: `server:USER/SERVER` a server's, `service:NAME` a service's.
-pub fn whose(id: &Text) -> Option<Whose>
+pub fn whose(id: &Text) -> Option<ClientOwner>
     ensures { result ≡ whose id.now }
 {
     let (kind, name) = cut(id.as_str(), ':');
@@ -90,7 +90,7 @@ pub fn whose(id: &Text) -> Option<Whose>
     }
 }
 
-fn named(kind: &str, name: &str) -> Option<Whose>
+fn named(kind: &str, name: &str) -> Option<ClientOwner>
     ensures { result ≡ named kind.now (Some name.now) }
 {
     if kind == "server" {
@@ -102,20 +102,20 @@ fn named(kind: &str, name: &str) -> Option<Whose>
     }
 }
 
-fn of_server(name: &str) -> Option<Whose>
+fn of_server(name: &str) -> Option<ClientOwner>
     ensures { result ≡ of_server (key_read name.now) }
 {
     match read_key(name.as_bytes()) {
-        Ok(server) => Some(Whose::Server(server)),
+        Ok(server) => Some(ClientOwner::Server(server)),
         Err(_) => None,
     }
 }
 
-fn of_service(name: &str) -> Option<Whose>
+fn of_service(name: &str) -> Option<ClientOwner>
     ensures { result ≡ of_service (name_read name.now) }
 {
     match read_service(name.as_bytes()) {
-        Ok(service) => Some(Whose::Service(service)),
+        Ok(service) => Some(ClientOwner::Service(service)),
         Err(_) => None,
     }
 }

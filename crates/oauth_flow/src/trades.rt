@@ -8,7 +8,7 @@ ghost use Rattle.oauth_flow.specs.Asks.{Checks, Tells};
 ghost use Rattle.oauth_flow.specs.Trades as spec;
 
 use crate::asks::{OAuthError, TradeAsk, is_text};
-use crate::clients::{Whose, client_named, whose};
+use crate::clients::{ClientOwner, client_named, whose};
 use hub_kit::hashes::hash_of;
 use hub_kit::list::List;
 use hub_kit::moment::Moment;
@@ -215,7 +215,7 @@ fn traded_token(
 }
 
 /// The access that a client gives, and the name of the user.
-fn traded_scopes(alloc: Global, client: Option<Whose>) -> Result<List<RawScope>, AllocError>
+fn traded_scopes(alloc: Global, client: Option<ClientOwner>) -> Result<List<RawScope>, AllocError>
     ensures { IfOk result (λ scopes. scopes ≡ spec.traded_scopes client) }
 {
     let Some(client) = client else {
@@ -229,26 +229,26 @@ fn traded_scopes(alloc: Global, client: Option<Whose>) -> Result<List<RawScope>,
 }
 
 /// Access to the server or the service whose client it is.
-fn access(client: Whose) -> RawScope
+fn access(client: ClientOwner) -> RawScope
     ensures { result ≡ spec.access client }
 {
     match client {
-        Whose::Server(_) => RawScope::Plain {
+        ClientOwner::Server(_) => RawScope::Plain {
             action: Action::AccessServers,
             filter: RawFilter::HolderServer,
         },
-        Whose::Service(service) => RawScope::Plain {
+        ClientOwner::Service(service) => RawScope::Plain {
             action: Action::AccessServices,
             filter: RawFilter::Service(service),
         },
     }
 }
 
-fn traded_for(client: Option<Whose>) -> Option<ServerKey>
+fn traded_for(client: Option<ClientOwner>) -> Option<ServerKey>
     ensures { result ≡ spec.traded_for client }
 {
     match client {
-        Some(Whose::Server(server)) => Some(server),
+        Some(ClientOwner::Server(server)) => Some(server),
         _ => None,
     }
 }
