@@ -14,6 +14,7 @@ use Rattle.keyed_rows.proofs.Finite.{tied}
 use Rattle.keyed_rows.specs.Rows.{OwnKeys}
 use Rattle.scope_filters.specs.declared.holder.Owner.{Owner}
 use Rattle.hub_rows.specs.declared.records.Token.{Token}
+use Rattle.hub_tables.proofs.RowsAt.{own_tokens}
 use Rattle.hub_tables.specs.Ends.{is_over}
 use Rattle.hub_rows.specs.ShareOrder.{names_exact}
 use Rattle.hub_tables.specs.Lookups.{same_owner, token_of_hash, tokens_of}
@@ -149,5 +150,5 @@ finds_hash t text now id own h = of_row (token_of_hash t (hash_text text)) refl 
     of_row None e h = absurd (err_ok h)
     of_row (Some k) e h =
         let good = until_ok now id k.id k.expires_at h in
-        let at = found (λ (k : Token). get t.tokens k.id ≡ Some k) (λ (k : Token). eq_by_cmp name_cmp k.hash (hash_text text)) k (values t.tokens) (values_own (λ (k : Token). k.id) t.tokens own.tokens) e in
+        let at = found (λ (k : Token). get t.tokens k.id ≡ Some k) (λ (k : Token). eq_by_cmp name_cmp k.hash (hash_text text)) k (values t.tokens) (values_own (λ (k : Token). k.id) t.tokens (own_tokens t own)) e in
         (k, ap (get t.tokens) (sym good.0) ∙ at.0, names_exact k.hash (hash_text text) (tied (name_cmp k.hash (hash_text text)) at.1), good.1)
