@@ -25,9 +25,9 @@ use std::alloc::{AllocError, Global};
 const LIFE: u64 = 1_209_600;
 
 /// The code as it is used from now on, and the token of this text, under this id, that it is traded for. The refusals in their order:
-/// `InvalidRequest` without a grant type; `UnsupportedGrantType` for another than `authorization_code`; `InvalidRequest` where another field
-/// is missing; `InvalidClient` where the client isn't kept or the secret isn't its own; `InvalidGrant` where the code isn't kept, is of another
-/// client or URI, was used, or is over; `HashKept`. For a used code it tells the token to revoke, where that is kept.
+/// `InvalidRequest` without a grant type; `UnsupportedGrantType` for another than `authorization_code`; `InvalidRequest` where another
+/// field is missing; `InvalidClient` where the client isn't kept or the secret isn't its own; `InvalidGrant` where the code isn't kept, is
+/// of another client or URI, was used, or is over; `HashKept`. For a used code it tells the token to revoke, where that is kept.
 pub fn trade(
     alloc: Global,
     tables: &Tables,

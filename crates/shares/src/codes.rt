@@ -21,8 +21,8 @@ use std::alloc::{AllocError, Global};
 /// The shortest life of a code, in seconds.
 const SHORTEST: u32 = 60;
 
-/// The code of a text, under this id, for so many seconds. Its scopes are those given, or the access to that server where there are none. The
-/// refusals in their order: `ScopeNotAllowed`, `LifeTooShort`.
+/// The code of a text, under this id, for so many seconds. Its scopes are those given, or the access to that server where there are none.
+/// The refusals in their order: `ScopeNotAllowed`, `LifeTooShort`.
 pub fn make_code(
     alloc: Global,
     server: &ServerKey,

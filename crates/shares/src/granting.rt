@@ -19,8 +19,8 @@ use hub_tables::tables::Tables;
 use scope_filters::scope::RawScope;
 use std::alloc::{AllocError, Global};
 
-/// What the share of a server with someone is once these scopes are granted: a new one, or the kept one with these too, created when it was.
-/// No scopes are the access to that server. The refusals in their order: `ScopeNotAllowed`, `NoRecipient`.
+/// What the share of a server with someone is once these scopes are granted: a new one, or the kept one with these too, created when it
+/// was. No scopes are the access to that server. The refusals in their order: `ScopeNotAllowed`, `NoRecipient`.
 pub fn grant_share(
     alloc: Global,
     tables: &Tables,

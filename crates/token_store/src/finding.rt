@@ -36,7 +36,8 @@ impl From<AllocError> for TokenError {
     }
 }
 
-/// The id of the token that has the text's hash. `Unknown` comes where none has it, `Expired` where it was good until now or an earlier moment.
+/// The id of the token that has the text's hash. `Unknown` comes where none has it, `Expired` where it was good until now or an earlier
+/// moment.
 pub fn find(alloc: Global, tables: &Tables, token: &[u8], now: Moment) -> Result<u64, TokenError>
     ensures { Finds (find tables.now token.now now) result }
 {

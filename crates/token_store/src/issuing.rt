@@ -53,8 +53,8 @@ impl From<AllocError> for IssueError {
     }
 }
 
-/// The token that is asked for, of this text and under this id. The refusals in their order: `UnknownScope`, `NotHeld`, `HashKept`. The rights
-/// are those of the owner; no scope is narrowed to them.
+/// The token that is asked for, of this text and under this id. The refusals in their order: `UnknownScope`, `NotHeld`, `HashKept`. The
+/// rights are those of the owner; no scope is narrowed to them.
 pub fn issue(
     alloc: Global,
     tables: &Tables,
