@@ -1,5 +1,5 @@
 -- Digits that are read one by one give the number of all.
-use Rattle.std.proofs.Common.{◌≡◌, ℕ, ◌+◌, ◌-◌, ◌*◌, ◌^◌, ◌<◌, ◌≤◌, Bool, true, false, ◌&&◌, if◌then◌else◌, nat_lt, List, [], ◌∷◌, length, drop, Option, Some, None, refl, sym, ap, ◌∙◌, arith, inl, inr}
+use Rattle.std.proofs.Common.{◌≡◌, ℕ, ◌+◌, ◌-◌, ◌*◌, ◌^◌, ◌<◌, ◌≤◌, Bool, true, false, ◌&&◌, if◌then◌else◌, nat_lt, List, [], ◌∷◌, length, drop, Option, Some, None, option_and_then, refl, sym, ap, ◌∙◌, arith, inl, inr}
 use Rattle.std.proofs.lemmas.List.{drop_all}
 use Rattle.std.specs.Char.{is_ascii_digit, digit_value}
 use Rattle.std.specs.List.{list_all}
@@ -8,7 +8,11 @@ use Rattle.std.proofs.lemmas.Bool.{cases_Bool, le-ltb, lt-ltb, ltb-true, ltb-fal
 use Rattle.std.proofs.lemmas.Bool.Decides.{nat_tests}
 use Rattle.http_wire.specs.declared.decimal.Decimal.{Decimal}
 use Rattle.http_wire.specs.declared.decimal.Decimal.TheVariants.{Number, Past, Other}
-use Rattle.http_wire.specs.Decimal.{push_digit, number_in}
+use Rattle.http_wire.specs.Decimal.{number_in}
+
+-- the number with one more digit, unless it is past a `u64`
+abbrev pub push_digit : Option ℕ → ℕ → Option ℕ
+push_digit number digit = option_and_then (λ n. if nat_lt (n * 10 + digit) (2 ^ 64) then Some (n * 10 + digit) else None) number
 
 abbrev pub settled : Option ℕ → Decimal
 settled None = Past

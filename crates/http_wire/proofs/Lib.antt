@@ -4,6 +4,7 @@ pub mod DueLemmas
 pub mod FillLemmas
 pub mod HeadLemmas
 pub mod PlaceLemmas
+pub mod Places
 pub mod RequestLemmas
 pub mod RoomLemmas
 pub mod StreamLemmas

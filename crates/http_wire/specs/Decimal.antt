@@ -1,5 +1,5 @@
 -- A number in decimal digits, which may begin with zeros.
-use Rattle.std.specs.Prelude.{ℕ, Bool, ◌&&◌, ◌^◌, ◌+◌, ◌*◌, nat_lt, if◌then◌else◌, List, length, Option, Some, None}
+use Rattle.std.specs.Prelude.{ℕ, Bool, ◌&&◌, ◌^◌, nat_lt, if◌then◌else◌, List, length}
 use Rattle.std.specs.Char.{is_ascii_digit}
 use Rattle.std.specs.List.{list_all}
 use Rattle.std.specs.Str.Parse.{digits_value}
@@ -15,8 +15,3 @@ abbrev pub number_in : List ℕ → Decimal
 number_in bytes =
     if is_decimal bytes then (if nat_lt (digits_value 10 bytes) (2 ^ 64) then Number (digits_value 10 bytes) else Past)
     else Other
-
--- the number with one more digit, unless it is past a `u64`
-abbrev pub push_digit : Option ℕ → ℕ → Option ℕ
-push_digit None digit = None
-push_digit (Some n) digit = if nat_lt (n * 10 + digit) (2 ^ 64) then Some (n * 10 + digit) else None

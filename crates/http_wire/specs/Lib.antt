@@ -1,5 +1,4 @@
 pub mod Wire
-pub mod Place
 pub mod Front
 pub mod Head
 pub mod Fields

@@ -1,5 +1,5 @@
 //! Decimal numbers.
-ghost use Rattle.std.specs.Prelude.{◌≡◌, ◌<◌, Option};
+ghost use Rattle.std.specs.Prelude.{◌≡◌, ◌<◌, ◌+◌, ◌*◌, ◌^◌, nat_lt, if◌then◌else◌, Option, Some, None, option_and_then};
 ghost use Rattle.http_wire.specs.Decimal as spec;
 
 /// What bytes are: a decimal number, one past a `u64`, or no number.
@@ -13,7 +13,7 @@ pub enum Decimal {
 /// The number with one more digit, unless it is past a `u64`.
 fn push_digit(number: Option<u64>, digit: u8) -> Option<u64>
     requires { digit < 10 }
-    ensures { result ≡ spec.push_digit number digit }
+    ensures { result ≡ option_and_then (λ n. if nat_lt (n * 10 + digit) (2 ^ 64) then Some (n * 10 + digit) else None) number }
 {
     number?.checked_mul(10)?.checked_add(digit as u64)
 }
