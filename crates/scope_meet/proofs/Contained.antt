@@ -15,10 +15,14 @@ use Rattle.scope_expand.specs.Passes.{is_owner_of}
 use Rattle.scope_expand.proofs.Ones.{not_true, clash}
 use Rattle.scope_meet.specs.Meets.{within}
 use Rattle.scope_meet.specs.Named.{IsFilter}
-use Rattle.scope_meet.specs.Containment.{holds_whole, IsOutside}
+use Rattle.scope_meet.specs.Containment.{IsOutside}
 use Rattle.scope_meet.proofs.Exact.{within_sound, same_is, is_same, left, right, or_cases, or_left, or_right}
 use Rattle.scope_meet.proofs.Fresh.{names_server, unnamed}
 use Rattle.scope_meet.proofs.Witnesses.{witness, own_witness, named_witness}
+
+-- a filter is held whole where it is within a single one
+abbrev pub holds_whole : Context → Rights → Action → Filter → Bool
+holds_whole m h a f = list_any (within a m f) (filters_at h a)
 
 neither : (a b : Bool) → (a || b) ≡ false → (a ≡ false) × (b ≡ false)
 neither true b h = cc

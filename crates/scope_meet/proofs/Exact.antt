@@ -1,7 +1,5 @@
--- Two filters meet in what both admit.
-use Rattle.std.proofs.Common.{◌≡◌, ℕ, Bool, true, false, ◌&&◌, ◌||◌, cond, List, [], ◌∷◌, refl, sym, ap, ◌∙◌, ◌⊎◌, inl, inr}
-use Rattle.std.specs.List.{list_any, flat_map}
-use Rattle.std.proofs.lemmas.List.Folds.{list_any-append}
+-- What is within a filter admits no more, and what two filters both admit is within one of them, or common to two servers.
+use Rattle.std.proofs.Common.{◌≡◌, ℕ, Bool, true, false, ◌&&◌, ◌||◌, cond, if◌then◌else◌, List, [], ◌∷◌, refl, sym, ap, ◌∙◌, ◌⊎◌, inl, inr}
 use Rattle.std.specs.Ordering.{nat_cmp, eq_by_cmp, is_eq}
 use Rattle.std.specs.declared.cmp.Ordering.TheVariants.{Less, Equal, Greater}
 use Rattle.std.specs.Cmp.Lexicographic.{slice_cmp, nat_list_eq_equiv, texts_ties}
@@ -13,7 +11,7 @@ use Rattle.scope_filters.specs.declared.filter.Filter.{Filter}
 use Rattle.scope_filters.specs.declared.filter.Filter.TheVariants as Fi
 use Rattle.scope_filters.specs.Admits.{reads_names, admits, any_admits}
 use Rattle.scope_filters.specs.Contexts.{Context, same, is_member}
-use Rattle.scope_meet.specs.Meets.{within, common, meet_of, meets, is_group}
+use Rattle.scope_meet.specs.Meets.{within, is_group}
 
 -- ---- names
 pub tied : (a b : List ℕ) → eq_by_cmp (slice_cmp nat_cmp) a b ≡ true → a ≡ b
@@ -49,6 +47,11 @@ exactly true x y to from = sym (both_true x y (to refl).0 (to refl).1)
 exactly false true true to from = from refl refl
 exactly false true false to from = refl
 exactly false false y to from = refl
+
+-- what two servers have in common, of which neither is within the other: the right to read the name of their user
+abbrev pub common : Action → Filter → Filter → List Filter
+common a (Fi.Server k) (Fi.Server l) = if (reads_names a && same k.user l.user) then Fi.OwnerOf k.user ∷ [] else []
+common a _ _ = []
 
 abbrev pub are_groups : Filter → Filter → Bool
 are_groups f g = is_group f && is_group g
@@ -150,33 +153,7 @@ module _ (a : Action) (m : Context) where
   common_sound (Fi.Server l) (Fi.Server n) (Ob.Service o) e = let k = (owner_only _ l.user (Ob.Service o) e).1 in cc
   common_sound _ _ _ e = cc
 
-  chosen : (b c both : Bool) (common : List Filter) (f g : Filter) (x : Object) → (b ≡ true) ⊎ ((c ≡ true) ⊎ ((any_admits a m common x ≡ true) ⊎ (both ≡ true))) → both ≡ false
-      → admits a m f x ≡ true → admits a m g x ≡ true → any_admits a m (cond b (f ∷ []) (cond c (g ∷ []) common)) x ≡ true
-  chosen true c both common f g x o e h k = rw h refl
-  chosen false true both common f g x o e h k = rw k refl
-  chosen false false both common f g x (inl o) e h k = cc
-  chosen false false both common f g x (inr (inl o)) e h k = cc
-  chosen false false both common f g x (inr (inr (inl o))) e h k = o
-  chosen false false both common f g x (inr (inr (inr o))) e h k = cc
-
-  -- the meet admits what both admit
-  meet_admits : (f g : Filter) (x : Object) → are_groups f g ≡ false → admits a m f x ≡ true → admits a m g x ≡ true → any_admits a m (meet_of a m f g) x ≡ true
-  meet_admits f g x e h k = chosen (within a m f g) (within a m g f) (are_groups f g) (common a f g) f g x (both f g x h k) e h k
-
-  meet_only : (f g : Filter) (x : Object) → any_admits a m (meet_of a m f g) x ≡ true → (admits a m f x ≡ true) × (admits a m g x ≡ true)
-  meet_only f g x e = elim (within a m f g) as (λ b. within a m f g ≡ b → any_admits a m (cond b (f ∷ []) (cond (within a m g f) (g ∷ []) (common a f g))) x ≡ true → (admits a m f x ≡ true) × (admits a m g x ≡ true)) [
-    | true ↦ λ w e. let k = one_or_none (admits a m f x) e in (k, within_sound f g x w k)
-    | false ↦ λ _ e. elim (within a m g f) as (λ b. within a m g f ≡ b → any_admits a m (cond b (g ∷ []) (common a f g)) x ≡ true → (admits a m f x ≡ true) × (admits a m g x ≡ true)) [
-      | true ↦ λ w e. let k = one_or_none (admits a m g x) e in (within_sound g f x w k, k)
-      | false ↦ λ _ e. common_sound f g x e
-    ] refl e
-  ] refl e
-
-  -- exactly
-  pair_met : (f g : Filter) (x : Object) → are_groups f g ≡ false → any_admits a m (meet_of a m f g) x ≡ (admits a m f x && admits a m g x)
-  pair_met f g x e = exactly (any_admits a m (meet_of a m f g) x) (admits a m f x) (admits a m g x) (meet_only f g x) (meet_admits f g x e)
-
--- ---- lists
+-- ---- choices
 pub or_cases : (a b : Bool) → (a || b) ≡ true → (a ≡ true) ⊎ (b ≡ true)
 or_cases true b h = inl refl
 or_cases false b h = inr h
@@ -188,56 +165,3 @@ or_left false b h = cc
 pub or_right : (a b : Bool) → b ≡ true → (a || b) ≡ true
 or_right true b h = refl
 or_right false b h = h
-
-none_left : (a b c : Bool) → (a && (b || c)) ≡ false → (a && b) ≡ false
-none_left true true c h = cc
-none_left true false c h = refl
-none_left false b c h = refl
-
-none_right : (a b c : Bool) → (a && (b || c)) ≡ false → (a && c) ≡ false
-none_right true true c h = cc
-none_right true false c h = h
-none_right false b c h = refl
-
-none_first : (a b c : Bool) → ((a || b) && c) ≡ false → (a && c) ≡ false
-none_first true b c h = h
-none_first false b c h = refl
-
-none_second : (a b c : Bool) → ((a || b) && c) ≡ false → (b && c) ≡ false
-none_second true true c h = h
-none_second true false c h = refl
-none_second false b c h = h
-
-and_none : (a : Bool) → false ≡ (a && false)
-and_none true = refl
-and_none false = refl
-
-and_or : (a b c : Bool) → ((a && b) || (a && c)) ≡ (a && (b || c))
-and_or true b c = refl
-and_or false b c = refl
-
-or_and : (a b c : Bool) → ((a && c) || (b && c)) ≡ ((a || b) && c)
-or_and true true true = refl
-or_and true true false = refl
-or_and true false true = refl
-or_and true false false = refl
-or_and false b c = refl
-
-module _ (a : Action) (m : Context) where
-  one_met : (f : Filter) (gs : List Filter) (x : Object) → (is_group f && list_any is_group gs) ≡ false
-      → any_admits a m (flat_map (meet_of a m f) gs) x ≡ (admits a m f x && any_admits a m gs x)
-  one_met f [] x e = and_none (admits a m f x)
-  one_met f (g ∷ gs) x e =
-      list_any-append (λ f. admits a m f x) (meet_of a m f g) (flat_map (meet_of a m f) gs)
-      ∙ ap (λ b. b || any_admits a m (flat_map (meet_of a m f) gs) x) (pair_met a m f g x (none_left (is_group f) (is_group g) (list_any is_group gs) e))
-      ∙ ap (λ b. (admits a m f x && admits a m g x) || b) (one_met f gs x (none_right (is_group f) (is_group g) (list_any is_group gs) e))
-      ∙ and_or (admits a m f x) (admits a m g x) (any_admits a m gs x)
-
-  -- the meets of two lists, of which one at most has groups
-  pub all_met : (fs gs : List Filter) (x : Object) → (list_any is_group fs && list_any is_group gs) ≡ false → any_admits a m (meets a m fs gs) x ≡ (any_admits a m fs x && any_admits a m gs x)
-  all_met [] gs x e = refl
-  all_met (f ∷ fs) gs x e =
-      list_any-append (λ f. admits a m f x) (flat_map (meet_of a m f) gs) (meets a m fs gs)
-      ∙ ap (λ b. b || any_admits a m (meets a m fs gs) x) (one_met f gs x (none_first (is_group f) (list_any is_group fs) (list_any is_group gs) e))
-      ∙ ap (λ b. (admits a m f x && any_admits a m gs x) || b) (all_met fs gs x (none_second (is_group f) (list_any is_group fs) (list_any is_group gs) e))
-      ∙ or_and (admits a m f x) (any_admits a m fs x) (any_admits a m gs x)

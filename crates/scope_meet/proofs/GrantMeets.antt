@@ -1,5 +1,5 @@
 -- What is added to a meet for each action, and what the meet of two grants admits.
-use Rattle.std.proofs.Common.{◌≡◌, Bool, true, false, ◌&&◌, ◌||◌, List, [], ◌∷◌, ◌++◌, map, None, refl, sym, ap, ◌∙◌}
+use Rattle.std.proofs.Common.{◌≡◌, Bool, true, false, ◌&&◌, ◌||◌, List, [], ◌∷◌, ◌++◌, map, None, refl, sym, ap, ◌∙◌, subst}
 use Rattle.std.specs.List.{list_any, flat_map}
 use Rattle.std.specs.FinMap.{empty, get, keys, entries}
 use Rattle.std.specs.FinSet.{FinSet}
@@ -18,8 +18,8 @@ use Rattle.scope_expand.specs.Passes.{passes}
 use Rattle.scope_expand.specs.Covering.{row_passes}
 use Rattle.scope_expand.proofs.Held.{passes_more, none_passes}
 use Rattle.scope_expand.proofs.Joins.{rows_pass}
-use Rattle.scope_meet.specs.Meets.{meets, is_group, groups_of, others_of, group_names, pairs_met, AreGroupMeets, IsMetUnder}
-use Rattle.scope_meet.proofs.Exact.{all_met}
+use Rattle.scope_meet.specs.Meets.{is_group, group_names, AreGroupMeets, IsMetUnder}
+use Rattle.scope_meet.proofs.GroupLists.{groups_of, others_of}
 use Rattle.scope_meet.proofs.NamesMet.{split_any, any_and, met_again}
 
 -- ---- filters under one action
@@ -66,7 +66,7 @@ groups_any a m [] x = refl
 groups_any a m (Fi.Group g ∷ fs) x = ap (λ b. admits a m (Fi.Group g) x || b) (groups_any a m fs x)
 groups_any a m (_ ∷ fs) x = groups_any a m fs x
 
-no_group : (fs : List Filter) → list_any is_group (others_of fs) ≡ false
+pub no_group : (fs : List Filter) → list_any is_group (others_of fs) ≡ false
 no_group [] = refl
 no_group (Fi.Group g ∷ fs) = no_group fs
 no_group (Fi.All ∷ fs) = no_group fs
@@ -74,14 +74,6 @@ no_group (Fi.User u ∷ fs) = no_group fs
 no_group (Fi.Server k ∷ fs) = no_group fs
 no_group (Fi.Service v ∷ fs) = no_group fs
 no_group (Fi.OwnerOf u ∷ fs) = no_group fs
-
-and_none : (a b : Bool) → b ≡ false → (a && b) ≡ false
-and_none true b h = h
-and_none false b h = refl
-
-none_and : (a b : Bool) → a ≡ false → (a && b) ≡ false
-none_and true b h = cc
-none_and false b h = refl
 
 by_parts : (fg fo gg go : Bool) → ((((fo && go) || (fg && go)) || (fo && gg)) || (fg && gg)) ≡ ((fg || fo) && (gg || go))
 by_parts true true true true = refl
@@ -102,20 +94,11 @@ module _ (a : Action) (m : Context) (fs gs : List Filter) (x : Object) where
   abbrev any : List Filter → Bool
   any fs = any_admits a m fs x
 
-  pairs_any : any (pairs_met a m (groups_of fs) (others_of fs) (groups_of gs) (others_of gs))
-      ≡ (((any (others_of fs) && any (others_of gs)) || (any (groups_of fs) && any (others_of gs))) || (any (others_of fs) && any (groups_of gs)))
-  pairs_any =
-      list_any-append (λ f. admits a m f x) (meets a m (others_of fs) (others_of gs) ++ meets a m (groups_of fs) (others_of gs)) (meets a m (others_of fs) (groups_of gs))
-      ∙ ap (λ b. b || any (meets a m (others_of fs) (groups_of gs))) (
-      list_any-append (λ f. admits a m f x) (meets a m (others_of fs) (others_of gs)) (meets a m (groups_of fs) (others_of gs))
-      ∙ ap (λ b. b || any (meets a m (groups_of fs) (others_of gs))) (all_met a m (others_of fs) (others_of gs) x (none_and _ _ (no_group fs)))
-      ∙ ap (λ b. (any (others_of fs) && any (others_of gs)) || b) (all_met a m (groups_of fs) (others_of gs) x (and_none _ _ (no_group gs))))
-      ∙ ap (λ b. ((any (others_of fs) && any (others_of gs)) || (any (groups_of fs) && any (others_of gs))) || b) (all_met a m (others_of fs) (groups_of gs) x (none_and _ _ (no_group fs)))
-
-  parts_met : (met : List Filter) → AreGroupMeets m (groups_of fs) (groups_of gs) met
-      → (any (pairs_met a m (groups_of fs) (others_of fs) (groups_of gs) (others_of gs)) || any met) ≡ (any fs && any gs)
-  parts_met met is =
-      ap (λ b. b || any met) pairs_any
+  parts_met : (pairs met : List Filter)
+      → any pairs ≡ (((any (others_of fs) && any (others_of gs)) || (any (groups_of fs) && any (others_of gs))) || (any (others_of fs) && any (groups_of gs)))
+      → AreGroupMeets m (groups_of fs) (groups_of gs) met → (any pairs || any met) ≡ (any fs && any gs)
+  parts_met pairs met are is =
+      ap (λ b. b || any met) are
       ∙ ap (λ b. (((any (others_of fs) && any (others_of gs)) || (any (groups_of fs) && any (others_of gs))) || (any (others_of fs) && any (groups_of gs))) || b)
       (is a x ∙ ap (λ b. b && any (map Fi.Group (flat_map group_names (groups_of gs)))) (groups_any a m fs x) ∙ ap (λ b. any (groups_of fs) && b) (groups_any a m gs x))
       ∙ by_parts (any (groups_of fs)) (any (others_of fs)) (any (groups_of gs)) (any (others_of gs))
@@ -127,22 +110,27 @@ added_both true s p g r h = refl
 added_both false true p g r h = h refl
 added_both false false p g r h = refl
 
+-- what pairs of the parts admit, of which one at most is a group
+abbrev pub PairsMet : Action → Context → (og oo tg to met : List Filter) → Type 0
+PairsMet a m og oo tg to met = (x : Object) → any_admits a m met x
+    ≡ (((any_admits a m oo x && any_admits a m to x) || (any_admits a m og x && any_admits a m to x)) || (any_admits a m oo x && any_admits a m tg x))
+
 -- what is added for filters under one action, of which the groups and the others were taken apart
 pub met_under : (m : Context) (b : Action) (fs gs og oo tg to met found groups : List Filter) (old between new : Rights)
-    → og ≡ groups_of fs → oo ≡ others_of fs → tg ≡ groups_of gs → to ≡ others_of gs → met ≡ pairs_met b m og oo tg to → groups ≡ found → AreGroupMeets m og tg found
+    → og ≡ groups_of fs → oo ≡ others_of fs → tg ≡ groups_of gs → to ≡ others_of gs → PairsMet b m og oo tg to met → groups ≡ found → AreGroupMeets m og tg found
     → ((p : Filter → Bool) (a : Action) → passes p between a ≡ (passes p old a || (same_action a b && list_any p met)))
     → ((p : Filter → Bool) (a : Action) → passes p new a ≡ (passes p between a || (same_action a b && list_any p groups)))
     → (a : Action) (x : Object) → grant_admits m new a x ≡ (grant_admits m old a x || (same_action a b && (any_admits b m fs x && any_admits b m gs x)))
 met_under m b fs gs og oo tg to met found groups old between new e1 e2 e3 e4 pairs same are first second a x =
-    let split : met ≡ pairs_met b m (groups_of fs) (others_of fs) (groups_of gs) (others_of gs) =
-    pairs ∙ ap (λ (l : List Filter). pairs_met b m l oo tg to) e1 ∙ ap (λ (l : List Filter). pairs_met b m (groups_of fs) l tg to) e2
-    ∙ ap (λ (l : List Filter). pairs_met b m (groups_of fs) (others_of fs) l to) e3 ∙ ap (λ (l : List Filter). pairs_met b m (groups_of fs) (others_of fs) (groups_of gs) l) e4 in
+    let split : PairsMet b m (groups_of fs) (others_of fs) (groups_of gs) (others_of gs) met =
+    subst (λ (l : List Filter). PairsMet b m (groups_of fs) (others_of fs) (groups_of gs) l met) e4
+    (subst (λ (l : List Filter). PairsMet b m (groups_of fs) (others_of fs) l to met) e3
+    (subst (λ (l : List Filter). PairsMet b m (groups_of fs) l tg to met) e2 (subst (λ (l : List Filter). PairsMet b m l oo tg to met) e1 pairs))) in
     second (λ f. admits a m f x) a ∙ ap (λ o. o || (same_action a b && any_admits a m groups x)) (first (λ f. admits a m f x) a)
     ∙ added_both (grant_admits m old a x) (same_action a b) (any_admits a m met x) (any_admits a m groups x) (any_admits b m fs x && any_admits b m gs x) (λ s.
     ap (λ (c : Action). any_admits c m met x || any_admits c m groups x) (actions_exact a b (tied (action_cmp a b) s))
-    ∙ ap (λ (l : List Filter). any_admits b m l x || any_admits b m groups x) split
-    ∙ ap (λ (l : List Filter). any_admits b m (pairs_met b m (groups_of fs) (others_of fs) (groups_of gs) (others_of gs)) x || any_admits b m l x) same
-    ∙ parts_met b m fs gs x found (met_again m og tg (groups_of fs) (groups_of gs) found e1 e3 are))
+    ∙ ap (λ (l : List Filter). any_admits b m met x || any_admits b m l x) same
+    ∙ parts_met b m fs gs x met found (split x) (met_again m og tg (groups_of fs) (groups_of gs) found e1 e3 are))
 
 or_none : (o s f : Bool) → o ≡ (o || (s && (f && false)))
 or_none true s f = refl

@@ -1,5 +1,5 @@
 -- The first filter by its text of those that aren't held.
-use Rattle.std.proofs.Common.{◌≡◌, Bool, true, false, cond, List, [], ◌∷◌, Option, Some, None, refl, sym, ap, subst, ◌∙◌, ◌⊎◌, inl, inr}
+use Rattle.std.proofs.Common.{◌≡◌, Bool, true, false, cond, if◌then◌else◌, MatchOption, List, [], ◌∷◌, Option, Some, None, refl, sym, ap, subst, ◌∙◌, ◌⊎◌, inl, inr}
 use Rattle.std.specs.List.{list_any}
 use Rattle.std.specs.Cmp.{IsTotalOrder, on_total, alike_right, tied_itself}
 use Rattle.std.specs.Cmp.Lexicographic.{nat_list_cmp_total}
@@ -14,7 +14,25 @@ use Rattle.scope_filters.specs.FilterOrder.{filter_cmp, filter_exact}
 use Rattle.scope_filters.specs.Scopes.{filter_text}
 use Rattle.scope_expand.proofs.Ones.{or_cases, or_left, or_right, clash}
 use Rattle.scope_meet.specs.FilterTexts.{written, text_cmp}
-use Rattle.scope_meet.specs.Containment.{same_filter, lesser, least_from}
+use Rattle.scope_meet.specs.Containment.{same_filter}
+
+-- the first by its text so far, with one more filter
+abbrev pub lesser_of : Option Filter → Filter → Filter
+lesser_of None f = f
+lesser_of (Some g) f = if is_lt (text_cmp f g) then f else g
+
+abbrev pub lesser : Option Filter → Filter → Bool → Option Filter
+lesser least f true = least
+lesser least f false = Some (lesser_of least f)
+
+-- the first by its text of the filters that aren't held
+abbrev pub least_from : (Filter → Bool) → Option Filter → List Filter → Option Filter
+least_from held least [] = least
+least_from held least (f ∷ fs) = least_from held (lesser least f (held f)) fs
+
+pub lesser_is : (least : Option Filter) (f r : Filter) → MatchOption least (r ≡ f) (λ g. r ≡ (if is_lt (text_cmp f g) then f else g)) → r ≡ lesser_of least f
+lesser_is None f r h = h
+lesser_is (Some g) f r h = h
 
 pub text_total : IsTotalOrder text_cmp
 text_total = on_total (λ f. filter_text (written f)) nat_list_cmp_total
@@ -59,11 +77,7 @@ some_same : {f g : Filter} → Some f ≡ Some g → f ≡ g
 some_same h = cc
 
 lesser_some : (least : Option Filter) (f : Filter) → lesser least f false ≡ None → ⊥
-lesser_some None f h = cc
-lesser_some (Some g) f h = elim (is_lt (text_cmp f g)) as (λ b. cond b (Some f) (Some g) ≡ None → ⊥) [
-  | true ↦ λ e. cc
-  | false ↦ λ e. cc
-] h
+lesser_some least f h = cc
 
 module _ (held : Filter → Bool) where
   -- where none is found all are held
@@ -134,7 +148,7 @@ module _ (held : Filter → Bool) where
   unheld None x fs f e r = front_taken None x fs f e (λ k l. cc) r
   unheld (Some g) x fs f e r = by (is_lt (text_cmp x g)) refl r
     where
-      by : (b : Bool) → is_lt (text_cmp x g) ≡ b → Found (cond b (Some x) (Some g)) fs f → Found (Some g) (x ∷ fs) f
+      by : (b : Bool) → is_lt (text_cmp x g) ≡ b → Found (Some (cond b x g)) fs f → Found (Some g) (x ∷ fs) f
       by true l r = front_taken (Some g) x fs f e (λ k s. ap (le x) (sym (some_same s)) ∙ lt_le x g (is_less (text_cmp x g) l)) r
       by false l r = front_left g x fs f (not_lt x g l) r
 
@@ -145,3 +159,15 @@ module _ (held : Filter → Bool) where
       by : (b : Bool) → held x ≡ b → Found (lesser least x (held x)) fs f → Found least (x ∷ fs) f
       by true e r = front_held least x fs f e (subst (λ (b : Bool). Found (lesser least x b) fs f) e r)
       by false e r = unheld least x fs f e (subst (λ (b : Bool). Found (lesser least x b) fs f) e r)
+
+  -- both as the search says them
+  pub least_told : (o : Option Filter) (fs : List Filter) → o ≡ least_from held None fs
+      → MatchOption o ((k : Filter) → list_any (same_filter k) fs ≡ true → held k ≡ true)
+      (λ f. (list_any (same_filter f) fs ≡ true) × (held f ≡ false) × ((k : Filter) → list_any (same_filter k) fs ≡ true → held k ≡ false → le f k ≡ true))
+  least_told None fs is = (least_none None fs (sym is)).1
+  least_told (Some f) fs is =
+      let found = least_some None fs f (sym is) in
+      elim found.place as (λ _. (list_any (same_filter f) fs ≡ true) × (held f ≡ false) × ((k : Filter) → list_any (same_filter k) fs ≡ true → held k ≡ false → le f k ≡ true)) [
+        | inl e ↦ cc
+        | inr r ↦ (r.0, r.1, found.first)
+      ]

@@ -2,9 +2,11 @@ pub mod Contained
 pub mod Exact
 pub mod Fresh
 pub mod GrantMeets
+pub mod GroupLists
 pub mod Least
 pub mod Named
 pub mod NamesMet
+pub mod Pairs
 pub mod Rows
 pub mod Steps
 pub mod TextCompare

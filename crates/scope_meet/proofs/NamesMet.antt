@@ -18,7 +18,8 @@ use Rattle.scope_filters.specs.declared.filter.Filter.{Filter}
 use Rattle.scope_filters.specs.declared.filter.Filter.TheVariants as Fi
 use Rattle.scope_filters.specs.Admits.{admits, any_admits}
 use Rattle.scope_filters.specs.Contexts.{Context, same, is_member}
-use Rattle.scope_meet.specs.Meets.{group_names, is_among, shared, apart, users_among, AreGroupMeets}
+use Rattle.scope_meet.specs.Meets.{group_names, is_among, AreGroupMeets}
+use Rattle.scope_meet.proofs.GroupLists.{shared, apart, users_among}
 use Rattle.scope_meet.proofs.Exact.{tied, same_is, is_same, left, right, both_true, or_left, or_right, or_cases}
 
 -- ---- a search among sorted items

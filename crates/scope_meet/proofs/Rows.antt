@@ -1,5 +1,5 @@
 -- The rows of a grant against another grant, one by one.
-use Rattle.std.proofs.Common.{◌≡◌, Bool, true, false, ◌&&◌, List, [], ◌∷◌, Some, None, refl, sym, ap, subst, ◌∙◌, inl, inr, T}
+use Rattle.std.proofs.Common.{◌≡◌, Bool, true, false, ◌&&◌, List, [], ◌∷◌, refl, sym, ap, subst, ◌∙◌, inl, inr, T}
 use Rattle.std.specs.List.{list_any}
 use Rattle.std.specs.Cmp.{tied_itself}
 use Rattle.std.specs.Ordering.{is_le, is_lt, is_eq, ordering_then}
@@ -21,10 +21,10 @@ use Rattle.scope_expand.specs.Covering.{row_passes}
 use Rattle.scope_expand.proofs.Joins.{rows_pass}
 use Rattle.scope_expand.proofs.Ones.{or_cases, or_left, or_right, left, right, both_true, not_true, clash}
 use Rattle.scope_meet.specs.FilterTexts.{text_cmp}
-use Rattle.scope_meet.specs.Containment.{same_filter, holds_whole, least_from, row_cmp, IsOutside, IsNotHeld, IsInside}
+use Rattle.scope_meet.specs.Containment.{same_filter, row_cmp, IsOutside, IsNotHeld, IsInside}
 use Rattle.scope_meet.specs.declared.inside.Inside.TheVariants.{Yes, NotHeld}
-use Rattle.scope_meet.proofs.Contained.{held_whole}
-use Rattle.scope_meet.proofs.Least.{least_none, least_some, same_filters, same_itself}
+use Rattle.scope_meet.proofs.Contained.{holds_whole, held_whole}
+use Rattle.scope_meet.proofs.Least.{same_filters, same_itself}
 
 first : (a b : Bool) → T (a && b) → T a
 first true b h = tt
@@ -75,7 +75,7 @@ module _ (m : Context) (g h : Rights) where
   }
 
   pub left_more : (row : Action × FinSet filter_cmp) (rows rest : List (Action × FinSet filter_cmp)) → rows ≡ row ∷ rest
-      → least_from (holds_whole m h row.0) None (keys row.1) ≡ None → Left rows → Left rest
+      → ((k : Filter) → list_any (same_filter k) (keys row.1) ≡ true → holds_whole m h row.0 k ≡ true) → Left rows → Left rest
   left_more row rows rest e none l =
       let s : Left (row ∷ rest) = subst Left e l in
       record {
@@ -84,7 +84,7 @@ module _ (m : Context) (g h : Rights) where
         all = λ b k n. elim (or_cases (row_passes (same_filter k) b row) (list_any (row_passes (same_filter k) b) rest) (s.all b k n)) as (λ _. list_any (row_passes (same_filter k) b) rest ≡ true) [
           | inl in_row ↦ absurd (clash (holds_whole m h b k)
               (ap (λ (c : Action). holds_whole m h c k) (same_actions b row.0 (left (same_action b row.0) (list_any (same_filter k) (keys row.1)) in_row))
-              ∙ (least_none (holds_whole m h row.0) None (keys row.1) none).1 k (right (same_action b row.0) (list_any (same_filter k) (keys row.1)) in_row))
+              ∙ none k (right (same_action b row.0) (list_any (same_filter k) (keys row.1)) in_row))
               (held_whole m h b k n.1))
           | inr k ↦ k
         ];
@@ -99,12 +99,10 @@ module _ (m : Context) (g h : Rights) where
           let f = one_found (λ f. admits a m f x) (filters_at g a) k in
           absurd (let none : false ≡ true = ap (list_any (row_passes (same_filter f.0) a)) (sym e) ∙ l.all a f.0 (f.1, (x, object, f.2, is)) in cc)
 
-  pub found_here : (a : Action) (filters : FinSet filter_cmp) (f : Filter) → least_from (holds_whole m h a) None (keys filters) ≡ Some f
-      → (list_any (same_filter f) (keys filters) ≡ true) × (holds_whole m h a f ≡ false)
-  found_here a filters f is = elim (least_some (holds_whole m h a) None (keys filters) f is).place as (λ _. (list_any (same_filter f) (keys filters) ≡ true) × (holds_whole m h a f ≡ false)) [
-    | inl e ↦ cc
-    | inr r ↦ r
-  ]
+  -- it is the first by its text of those of the row that aren't held
+  abbrev pub IsFirst : Action → FinSet filter_cmp → Filter → Type 0
+  IsFirst a filters f = (list_any (same_filter f) (keys filters) ≡ true) × (holds_whole m h a f ≡ false)
+      × ((k : Filter) → list_any (same_filter k) (keys filters) ≡ true → holds_whole m h a k ≡ false → is_le (text_cmp f k) ≡ true)
 
   one_of : (p : Filter → Bool) (f : Filter) (fs : List Filter) → list_any (same_filter f) fs ≡ true → p f ≡ true → list_any p fs ≡ true
   one_of p f [] n k = cc
@@ -121,13 +119,13 @@ module _ (m : Context) (g h : Rights) where
 
   -- a filter that is found isn't `OwnerOf`, where the first grant has none
   pub found_plain : (row : Action × FinSet filter_cmp) (rows rest : List (Action × FinSet filter_cmp)) (f : Filter) → HasNoOwnerOf g → rows ≡ row ∷ rest → Left rows
-      → least_from (holds_whole m h row.0) None (keys row.1) ≡ Some f → is_owner_of f ≡ false
+      → IsFirst row.0 row.1 f → is_owner_of f ≡ false
   found_plain row rows rest f plain e l is = not_true (is_owner_of f) (λ k.
-      clash (passes is_owner_of g row.0) (in_grant is_owner_of row rows rest e l (one_of is_owner_of f (keys row.1) (found_here row.0 row.1 f is).0 k)) (plain row.0))
+      clash (passes is_owner_of g row.0) (in_grant is_owner_of row rows rest e l (one_of is_owner_of f (keys row.1) is.0 k)) (plain row.0))
 
   pub first_outside : (row : Action × FinSet filter_cmp) (rows rest : List (Action × FinSet filter_cmp)) (f : Filter) → rows ≡ row ∷ rest → Left rows
-      → least_from (holds_whole m h row.0) None (keys row.1) ≡ Some f → IsOutside m h row.0 f → IsInside m g h (NotHeld row.0 f)
-  first_outside row rows rest f e l is out = ((in_grant (same_filter f) row rows rest e l (found_here row.0 row.1 f is).0, out), before)
+      → IsFirst row.0 row.1 f → IsOutside m h row.0 f → IsInside m g h (NotHeld row.0 f)
+  first_outside row rows rest f e l is out = ((in_grant (same_filter f) row rows rest e l is.0, out), before)
     where
       before : (b : Action) (k : Filter) → IsNotHeld m g h b k → is_le (row_cmp row.0 f b k) ≡ true
       before b k n = elim (or_cases (row_passes (same_filter k) b row) (list_any (row_passes (same_filter k) b) rest) (ap (list_any (row_passes (same_filter k) b)) (sym e) ∙ l.all b k n)) as (λ _. is_le (row_cmp row.0 f b k) ≡ true) [
@@ -135,7 +133,7 @@ module _ (m : Context) (g h : Rights) where
             let here : b ≡ row.0 = same_actions b row.0 (left (same_action b row.0) (list_any (same_filter k) (keys row.1)) in_row) in
             let unheld : holds_whole m h row.0 k ≡ false = ap (λ (c : Action). holds_whole m h c k) (sym here) ∙ held_whole m h b k n.1 in
             ap (λ (c : Action). is_le (row_cmp row.0 f c k)) here ∙ ap (λ r. is_le (ordering_then r (text_cmp f k))) (tied_itself actions_total row.0)
-            ∙ (least_some (holds_whole m h row.0) None (keys row.1) f is).first k (right (same_action b row.0) (list_any (same_filter k) (keys row.1)) in_row) unheld
+            ∙ is.2 k (right (same_action b row.0) (list_any (same_filter k) (keys row.1)) in_row) unheld
         | inr in_rest ↦
             let s : Left (row ∷ rest) = subst Left e l in
             ap (λ r. is_le (ordering_then r (text_cmp f k))) (later (same_filter k) row.0 b rest (first (below_all action_cmp row.0 rest) (is_sorted action_cmp rest) s.sorted) in_rest)

@@ -1,8 +1,7 @@
 -- Whether a grant admits all that another does, and else the first row that it doesn't hold whole.
-use Rattle.std.specs.Prelude.{Bool, true, false, IsTrue, List, [], ◌∷◌, Option, Some, None, if◌then◌else◌}
+use Rattle.std.specs.Prelude.{Bool, IsTrue}
 use Rattle.std.specs.Bool.{IsFalse}
-use Rattle.std.specs.List.{list_any}
-use Rattle.std.specs.Ordering.{is_le, is_lt, eq_by_cmp, ordering_then}
+use Rattle.std.specs.Ordering.{is_le, eq_by_cmp, ordering_then}
 use Rattle.std.specs.declared.cmp.Ordering.{Ordering}
 use Rattle.scope_names.specs.declared.action.Action.{Action}
 use Rattle.scope_names.specs.ActionOrder.{action_cmp}
@@ -11,12 +10,11 @@ use Rattle.scope_filters.specs.declared.object.Object.{Object}
 use Rattle.scope_filters.specs.Admits.{admits}
 use Rattle.scope_filters.specs.Contexts.{Context}
 use Rattle.scope_filters.specs.FilterOrder.{filter_cmp}
-use Rattle.scope_filters.specs.Grants.{Rights, filters_at, grant_admits}
+use Rattle.scope_filters.specs.Grants.{Rights, grant_admits}
 use Rattle.scope_expand.specs.Passes.{passes}
 use Rattle.scope_meet.specs.declared.inside.Inside.{Inside}
 use Rattle.scope_meet.specs.declared.inside.Inside.TheVariants.{Yes, NotHeld}
 use Rattle.scope_meet.specs.FilterTexts.{text_cmp}
-use Rattle.scope_meet.specs.Meets.{within}
 use Rattle.scope_meet.specs.Named.{IsObject}
 
 abbrev pub same_filter : Filter → Filter → Bool
@@ -37,17 +35,3 @@ row_cmp a f b k = ordering_then (action_cmp a b) (text_cmp f k)
 abbrev pub IsInside : Context → Rights → Rights → Inside → Type 0
 IsInside m g h Yes = (a : Action) (x : Object) → IsObject x → IsTrue (grant_admits m g a x) → IsTrue (grant_admits m h a x)
 IsInside m g h (NotHeld a f) = IsNotHeld m g h a f × ((b : Action) (k : Filter) → IsNotHeld m g h b k → IsTrue (is_le (row_cmp a f b k)))
-
--- ---- how it is found: a filter is held whole where it is within a single one
-
-abbrev pub holds_whole : Context → Rights → Action → Filter → Bool
-holds_whole m h a f = list_any (within a m f) (filters_at h a)
-
-abbrev pub lesser : Option Filter → Filter → Bool → Option Filter
-lesser least f true = least
-lesser None f false = Some f
-lesser (Some g) f false = if is_lt (text_cmp f g) then Some f else Some g
-
-abbrev pub least_from : (Filter → Bool) → Option Filter → List Filter → Option Filter
-least_from held least [] = least
-least_from held least (f ∷ fs) = least_from held (lesser least f (held f)) fs

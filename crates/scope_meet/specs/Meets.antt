@@ -1,6 +1,6 @@
--- What two filters have in common, what two lists of groups do, and what two grants do.
-use Rattle.std.specs.Prelude.{◌≡◌, ℕ, Bool, true, false, ◌&&◌, ◌||◌, not, List, [], ◌∷◌, ◌++◌, map, if◌then◌else◌}
-use Rattle.std.specs.List.{filter, flat_map, list_any}
+-- One filter within another, and what two lists of groups have in common, and two grants.
+use Rattle.std.specs.Prelude.{◌≡◌, ℕ, Bool, true, false, ◌&&◌, ◌||◌, List, [], ◌∷◌, map}
+use Rattle.std.specs.List.{flat_map, list_any}
 use Rattle.std.specs.Ordering.{is_eq}
 use Rattle.hub_kit.specs.KeyOrder.{name_cmp}
 use Rattle.scope_names.specs.declared.action.Action.{Action}
@@ -28,54 +28,21 @@ within a m (Fi.Service v) (Fi.Service w) = same v w
 within a m (Fi.OwnerOf u) (Fi.OwnerOf w) = same u w
 within a m _ _ = false
 
--- what two servers have in common, of which neither is within the other: the right to read the name of their user
-abbrev pub common : Action → Filter → Filter → List Filter
-common a (Fi.Server k) (Fi.Server l) = if (reads_names a && same k.user l.user) then Fi.OwnerOf k.user ∷ [] else []
-common a _ _ = []
-
--- what two filters have in common, of which one at most is a group
-abbrev pub meet_of : Action → Context → Filter → Filter → List Filter
-meet_of a m f g = if within a m f g then f ∷ [] else (if within a m g f then g ∷ [] else common a f g)
-
-abbrev pub meets : Action → Context → List Filter → List Filter → List Filter
-meets a m fs gs = flat_map (λ f. flat_map (meet_of a m f) gs) fs
-
--- ---- the groups among filters, and the others
+-- ---- the groups among filters
 
 abbrev pub is_group : Filter → Bool
 is_group (Fi.Group g) = true
 is_group _ = false
 
-abbrev pub groups_of : List Filter → List Filter
-groups_of = filter is_group
-
-abbrev pub others_of : List Filter → List Filter
-others_of = filter (λ f. not (is_group f))
-
 abbrev pub group_names : Filter → List (List ℕ)
 group_names (Fi.Group g) = g ∷ []
 group_names _ = []
-
--- what the pairs have in common of which one at most is a group: of the groups and the others of the one side with those of the other
-abbrev pub pairs_met : Action → Context → (groups others : List Filter) → (their_groups their_others : List Filter) → List Filter
-pairs_met a m gs fs hs ks = (meets a m fs ks ++ meets a m gs ks) ++ meets a m fs hs
 
 -- ---- what groups have in common
 
 -- a name is among names
 abbrev pub is_among : List (List ℕ) → List ℕ → Bool
 is_among names n = list_any (λ k. is_eq (name_cmp k n)) names
-
--- the groups that both lists have, and those that the first alone has
-abbrev pub shared : List (List ℕ) → List (List ℕ) → List (List ℕ)
-shared gs hs = filter (is_among hs) gs
-
-abbrev pub apart : List (List ℕ) → List (List ℕ) → List (List ℕ)
-apart gs hs = filter (λ g. not (is_among hs g)) gs
-
--- the members of groups who are among users, as filters
-abbrev pub users_among : List (List ℕ) → List (List ℕ) → List Filter
-users_among users members = map Fi.User (filter (is_among users) members)
 
 -- filters admit exactly what a group of the one list and a group of the other do, under any action
 abbrev pub AreGroupMeets : Context → List Filter → List Filter → List Filter → Type 0

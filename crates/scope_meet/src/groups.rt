@@ -1,11 +1,11 @@
 //! What the groups of two grants have in common.
-ghost use Rattle.std.specs.Prelude.{◌≡◌, Bool, List, ℕ, [], ◌++◌, ◌⊎◌, map, IsTrue, OnOk, IfOk};
-ghost use Rattle.std.specs.List.{flat_map, list_any};
+ghost use Rattle.std.specs.Prelude.{◌≡◌, Bool, List, ℕ, [], ◌++◌, ◌⊎◌, not, map, IsTrue, OnOk, IfOk};
+ghost use Rattle.std.specs.List.{filter, flat_map, list_any};
 ghost use Rattle.std.specs.List.Sorted.{IsSorted};
 ghost use Rattle.std.specs.Ordering.{is_eq};
 ghost use Rattle.hub_kit.specs.KeyOrder.{name_cmp};
 ghost use Rattle.scope_filters.specs.declared.filter.Filter.TheVariants as Fi;
-ghost use Rattle.scope_meet.specs.Meets.{group_names, users_among, AreGroupMeets};
+ghost use Rattle.scope_meet.specs.Meets.{group_names, AreGroupMeets};
 ghost use Rattle.scope_meet.specs.Meets as spec;
 
 use hub_kit::names::{GroupName, UserName};
@@ -125,7 +125,7 @@ fn shared(
     theirs: &[GroupName],
 ) -> Result<Vec<Filter>, AllocError>
     requires { IsSorted name_cmp theirs.now }
-    ensures { IfOk result (λ met. met.items ≡ map Fi.Group (spec.shared ours.now theirs.now)) }
+    ensures { IfOk result (λ met. met.items ≡ map Fi.Group (filter (spec.is_among theirs.now) ours.now)) }
 {
     let mut met = Vec::new(alloc);
     for group in ours {
@@ -143,7 +143,7 @@ fn apart(
     theirs: &[GroupName],
 ) -> Result<Vec<GroupName>, AllocError>
     requires { IsSorted name_cmp theirs.now }
-    ensures { IfOk result (λ own. own.items ≡ spec.apart ours.now theirs.now) }
+    ensures { IfOk result (λ own. own.items ≡ filter (λ g. not (spec.is_among theirs.now g)) ours.now) }
 {
     let mut own = Vec::new(alloc);
     for group in ours {
@@ -205,7 +205,7 @@ fn push_common<M: Members>(
     members: &M,
 ) -> Result<(), AllocError>
     requires { IsSorted name_cmp users.now }
-    ensures { OnOk result (met.new.items ≡ met.old.items ++ flat_map (λ g. users_among users.now (M.context members.now g)) groups.now) }
+    ensures { OnOk result (met.new.items ≡ met.old.items ++ flat_map (λ g. map Fi.User (filter (spec.is_among users.now) (M.context members.now g))) groups.now) }
 {
     for group in groups {
         push_users(met, members.members(group), users)?;
@@ -219,7 +219,7 @@ fn push_users(
     users: &[UserName],
 ) -> Result<(), AllocError>
     requires { IsSorted name_cmp users.now }
-    ensures { OnOk result (met.new.items ≡ met.old.items ++ users_among users.now members.now) }
+    ensures { OnOk result (met.new.items ≡ met.old.items ++ map Fi.User (filter (spec.is_among users.now) members.now)) }
 {
     for user in members {
         if has_user(users, user) {

@@ -1,16 +1,20 @@
 //! The meet of two grants.
-ghost use Rattle.std.specs.Prelude.{◌≡◌, Bool, ◌&&◌, ◌||◌, ◌++◌, not, OnOk, IfOk};
-ghost use Rattle.std.specs.List.{filter, flat_map, list_any};
+ghost use Rattle.std.specs.Prelude.{◌≡◌, Bool, ◌&&◌, ◌||◌, not, if◌then◌else◌, Some, None, MatchOption, OnOk, IfOk};
+ghost use Rattle.std.specs.Bool.{IsFalse};
+ghost use Rattle.std.specs.List.{filter, list_any};
 ghost use Rattle.std.specs.FinMap as map;
 ghost use Rattle.scope_names.specs.declared.action.Action.{Action};
 ghost use Rattle.scope_names.specs.ActionOrder.{same_action};
 ghost use Rattle.scope_filters.specs.declared.filter.Filter.{Filter};
 ghost use Rattle.scope_filters.specs.declared.object.Object.{Object};
-ghost use Rattle.scope_filters.specs.Admits.{any_admits};
+ghost use Rattle.hub_kit.specs.declared.names.ServerKey.{ServerKey};
+ghost use Rattle.scope_filters.specs.declared.filter.Filter.TheVariants as Fi;
+ghost use Rattle.scope_filters.specs.Admits.{reads_names, admits, any_admits};
+ghost use Rattle.scope_filters.specs.Contexts.{same};
 ghost use Rattle.scope_filters.specs.Grants.{grant_admits};
 ghost use Rattle.scope_expand.specs.Passes.{passes};
 ghost use Rattle.scope_meet.specs.declared.meets.Parts.{Parts};
-ghost use Rattle.scope_meet.specs.Meets.{meet_of, common, groups_of, others_of, pairs_met, AreGroupMeets, IsMetUnder};
+ghost use Rattle.scope_meet.specs.Meets.{AreGroupMeets, IsMetUnder};
 ghost use Rattle.scope_meet.specs.Meets as spec;
 
 use crate::groups::GroupMeets;
@@ -102,8 +106,8 @@ struct Parts {
 }
 
 fn split(alloc: Global, filters: &Filters) -> Result<Parts, AllocError>
-    ensures groups { IfOk result (λ parts. parts.groups.items ≡ groups_of (map.keys filters.now)) }
-    ensures others { IfOk result (λ parts. parts.others.items ≡ others_of (map.keys filters.now)) }
+    ensures groups { IfOk result (λ parts. parts.groups.items ≡ filter spec.is_group (map.keys filters.now)) }
+    ensures others { IfOk result (λ parts. parts.others.items ≡ filter (λ f. not (spec.is_group f)) (map.keys filters.now)) }
 {
     let mut groups = Vec::new(alloc);
     let mut others = Vec::new(alloc);
@@ -131,7 +135,11 @@ fn pairs_met<M: Members>(
     theirs: &Parts,
     members: &M,
 ) -> Result<Vec<Filter>, AllocError>
-    ensures { IfOk result (λ met. met.items ≡ spec.pairs_met action.now (M.context members.now) ours.now.groups.items ours.now.others.items theirs.now.groups.items theirs.now.others.items) }
+    requires ours { IsFalse (list_any spec.is_group ours.now.others.items) }
+    requires theirs { IsFalse (list_any spec.is_group theirs.now.others.items) }
+    ensures { IfOk result (λ met. let any = any_admits action.now (M.context members.now) in (x : Object) → any met.items x
+        ≡ (((any ours.now.others.items x && any theirs.now.others.items x) || (any ours.now.groups.items x && any theirs.now.others.items x))
+        || (any ours.now.others.items x && any theirs.now.groups.items x))) }
 {
     let mut met = Vec::new(alloc);
     push_each(&mut met, action, &ours.others, &theirs.others, members)?;
@@ -148,7 +156,9 @@ fn push_each<M: Members>(
     others: &[Filter],
     members: &M,
 ) -> Result<(), AllocError>
-    ensures { OnOk result (met.new.items ≡ met.old.items ++ spec.meets action.now (M.context members.now) filters.now others.now) }
+    requires { IsFalse (list_any spec.is_group filters.now && list_any spec.is_group others.now) }
+    ensures { OnOk result (let any = any_admits action.now (M.context members.now) in (x : Object) → any met.new.items x
+        ≡ (any met.old.items x || (any filters.now x && any others.now x))) }
 {
     for f in filters {
         push_meets(met, action, f, others, members)?;
@@ -163,7 +173,9 @@ fn push_meets<M: Members>(
     others: &[Filter],
     members: &M,
 ) -> Result<(), AllocError>
-    ensures { OnOk result (met.new.items ≡ met.old.items ++ flat_map (meet_of action.now (M.context members.now) f.now) others.now) }
+    requires { IsFalse (spec.is_group f.now && list_any spec.is_group others.now) }
+    ensures { OnOk result (let any = any_admits action.now (M.context members.now) in (x : Object) → any met.new.items x
+        ≡ (any met.old.items x || (admits action.now (M.context members.now) f.now x && any others.now x))) }
 {
     for g in others {
         push_meet(met, action, f, g, members)?;
@@ -171,7 +183,6 @@ fn push_meets<M: Members>(
     Ok(())
 }
 
-/// Appends filters that admit exactly what two filters both admit, of which one at most is a group.
 fn push_meet<M: Members>(
     met: &mut Vec<Filter>,
     action: &Action,
@@ -179,37 +190,49 @@ fn push_meet<M: Members>(
     g: &Filter,
     members: &M,
 ) -> Result<(), AllocError>
-    ensures { OnOk result (met.new.items ≡ met.old.items ++ meet_of action.now (M.context members.now) f.now g.now) }
+    requires { IsFalse (spec.is_group f.now && spec.is_group g.now) }
+    ensures { OnOk result (let one = admits action.now (M.context members.now) in (x : Object) → any_admits action.now (M.context members.now) met.new.items x
+        ≡ (any_admits action.now (M.context members.now) met.old.items x || (one f.now x && one g.now x))) }
 {
-    if is_within(action, f, g, members) {
-        met.push(*f)?;
-        return Ok(());
+    match meet_of(action, f, g, members) {
+        Some(both) => {
+            met.push(both)?;
+            Ok(())
+        }
+        None => Ok(()),
     }
-    if is_within(action, g, f, members) {
-        met.push(*g)?;
-        return Ok(());
-    }
-    push_common(met, action, f, g)
 }
 
-fn push_common(
-    met: &mut Vec<Filter>,
-    action: &Action,
-    f: &Filter,
-    g: &Filter,
-) -> Result<(), AllocError>
-    ensures { OnOk result (met.new.items ≡ met.old.items ++ common action.now f.now g.now) }
+/// The filter that admits exactly what two filters both admit, of which one at most is a group.
+fn meet_of<M: Members>(action: &Action, f: &Filter, g: &Filter, members: &M) -> Option<Filter>
+    requires { IsFalse (spec.is_group f.now && spec.is_group g.now) }
+    ensures { let one = admits action.now (M.context members.now) in MatchOption result ((x : Object) → IsFalse (one f.now x && one g.now x))
+        (λ both. (x : Object) → one both x ≡ (one f.now x && one g.now x)) }
+{
+    if is_within(action, f, g, members) {
+        return Some(*f);
+    }
+    if is_within(action, g, f, members) {
+        return Some(*g);
+    }
+    owner_of_both(action, f, g)
+}
+
+/// What two servers have in common where neither is within the other: the right to read the name of their user.
+fn owner_of_both(action: &Action, f: &Filter, g: &Filter) -> Option<Filter>
+    ensures servers { (k l : ServerKey) → f.now ≡ Fi.Server k → g.now ≡ Fi.Server l
+        → result ≡ (if reads_names action.now && same k.user l.user then Some (Fi.OwnerOf k.user) else None) }
+    ensures others { ((k l : ServerKey) → f.now ≡ Fi.Server k → g.now ≡ Fi.Server l → ⊥) → result ≡ None }
 {
     match f {
         Filter::Server(k) => match g {
-            Filter::Server(l) => {
-                if reads_names(action) && k.user == l.user {
-                    met.push(Filter::OwnerOf(k.user))?;
-                }
-                Ok(())
-            }
-            _ => Ok(()),
+            Filter::Server(l) => if reads_names(action) && k.user == l.user {
+                Some(Filter::OwnerOf(k.user))
+            } else {
+                None
+            },
+            _ => None,
         },
-        _ => Ok(()),
+        _ => None,
     }
 }

@@ -1,5 +1,6 @@
 use Rattle.std.proofs.Common.{◌≡◌, ◌+◌, ◌++◌, ℕ, List, Bool, not, ap, drop, sym, ◌∙◌}
-use Rattle.scope_meet.specs.Meets.{apart, is_among}
+use Rattle.scope_meet.specs.Meets.{is_among}
+use Rattle.scope_meet.proofs.GroupLists.{apart}
 use Rattle.scope_meet.proofs.Steps.{all_sifted, dropped, kept}
 use Rattle.scope_meet.proofs.groups.apart.Goals.{then-not-has_group+in_ok-push, else-not-has_group}
 use Rattle.scope_meet.proofs.groups.apart.Goals as goal

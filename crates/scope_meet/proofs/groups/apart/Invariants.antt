@@ -1,5 +1,5 @@
 use Rattle.std.proofs.Common.{◌≡◌, ◌++◌, drop}
-use Rattle.scope_meet.specs.Meets.{apart}
+use Rattle.scope_meet.proofs.GroupLists.{apart}
 use Rattle.scope_meet.proofs.groups.apart.Given as goal
 
 abbrev pub invariant-loop-group : goal.invariant-loop-group

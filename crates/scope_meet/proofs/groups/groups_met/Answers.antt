@@ -2,7 +2,7 @@ use Rattle.std.proofs.Common.{◌≡◌, List, ℕ, [], ◌++◌, ◌⊎◌, inl
 use Rattle.std.specs.List.{list_any, flat_map}
 use Rattle.scope_filters.specs.declared.filter.Filter.{Filter}
 use Rattle.scope_filters.specs.declared.filter.Filter.TheVariants as Fi
-use Rattle.scope_meet.specs.Meets.{shared, apart, users_among}
+use Rattle.scope_meet.proofs.GroupLists.{shared, apart, users_among}
 use Rattle.scope_meet.proofs.NamesMet.{groups_met, shared_met}
 use Rattle.scope_meet.proofs.groups.groups_met.Goals as goal
 

@@ -1,7 +1,7 @@
 use Rattle.std.proofs.Common.{◌+◌, ◌++◌, ℕ, List, ap, drop, ◌∙◌}
 use Rattle.std.specs.List.{flat_map}
 use Rattle.scope_filters.specs.declared.filter.Filter.{Filter}
-use Rattle.scope_meet.specs.Meets.{users_among}
+use Rattle.scope_meet.proofs.GroupLists.{users_among}
 use Rattle.scope_meet.proofs.Steps.{all_gathered, gathered}
 use Rattle.scope_meet.proofs.groups.push_common.Goals as goal
 

@@ -1,6 +1,6 @@
 use Rattle.std.proofs.Common.{◌≡◌, ℕ, List, ◌++◌, drop}
 use Rattle.std.specs.List.{flat_map}
-use Rattle.scope_meet.specs.Meets.{users_among}
+use Rattle.scope_meet.proofs.GroupLists.{users_among}
 use Rattle.scope_meet.proofs.groups.push_common.Given as goal
 
 abbrev pub invariant-loop-group : goal.invariant-loop-group

@@ -1,7 +1,8 @@
 use Rattle.std.proofs.Common.{◌≡◌, ◌+◌, ◌++◌, List, ap, drop, sym, ◌∙◌}
 use Rattle.scope_filters.specs.declared.filter.Filter.{Filter}
 use Rattle.scope_filters.specs.declared.filter.Filter.TheVariants as Fi
-use Rattle.scope_meet.specs.Meets.{users_among, is_among}
+use Rattle.scope_meet.specs.Meets.{is_among}
+use Rattle.scope_meet.proofs.GroupLists.{users_among}
 use Rattle.scope_meet.proofs.Steps.{all_judged, passed_over, picked}
 use Rattle.scope_meet.proofs.groups.push_users.Goals.{then-has_user+in_ok-push, else-has_user}
 use Rattle.scope_meet.proofs.groups.push_users.Goals as goal

@@ -1,5 +1,5 @@
 use Rattle.std.proofs.Common.{◌≡◌, ◌++◌, drop}
-use Rattle.scope_meet.specs.Meets.{users_among}
+use Rattle.scope_meet.proofs.GroupLists.{users_among}
 use Rattle.scope_meet.proofs.groups.push_users.Given as goal
 
 abbrev pub invariant-loop-user : goal.invariant-loop-user

@@ -1,7 +1,8 @@
 use Rattle.std.proofs.Common.{◌≡◌, ◌+◌, ◌++◌, List, ap, drop, map, sym, ◌∙◌}
 use Rattle.scope_filters.specs.declared.filter.Filter.{Filter}
 use Rattle.scope_filters.specs.declared.filter.Filter.TheVariants as Fi
-use Rattle.scope_meet.specs.Meets.{shared, is_among}
+use Rattle.scope_meet.specs.Meets.{is_among}
+use Rattle.scope_meet.proofs.GroupLists.{shared}
 use Rattle.scope_meet.proofs.Steps.{all_judged, passed_over, picked}
 use Rattle.scope_meet.proofs.groups.shared.Goals.{then-has_group+in_ok-push, else-has_group}
 use Rattle.scope_meet.proofs.groups.shared.Goals as goal

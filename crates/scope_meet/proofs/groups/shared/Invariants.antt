@@ -1,6 +1,6 @@
 use Rattle.std.proofs.Common.{◌≡◌, ◌++◌, map, drop}
 use Rattle.scope_filters.specs.declared.filter.Filter.TheVariants as Fi
-use Rattle.scope_meet.specs.Meets.{shared}
+use Rattle.scope_meet.proofs.GroupLists.{shared}
 use Rattle.scope_meet.proofs.groups.shared.Given as goal
 
 abbrev pub invariant-loop-group : goal.invariant-loop-group

@@ -1,6 +1,7 @@
 use Rattle.std.proofs.Common.{◌≡◌, None}
 use Rattle.std.specs.FinMap as map
-use Rattle.scope_meet.specs.Containment.{holds_whole, least_from}
+use Rattle.scope_meet.proofs.Contained.{holds_whole}
+use Rattle.scope_meet.proofs.Least.{least_from}
 use Rattle.scope_meet.proofs.inside.least_outside.Given as goal
 
 abbrev pub invariant-loop-filter : goal.invariant-loop-filter

@@ -1,6 +1,6 @@
 use Rattle.std.proofs.Common.{◌≡◌, ◌++◌}
 use Rattle.std.specs.FinMap as map
-use Rattle.scope_meet.specs.Meets.{groups_of, others_of}
+use Rattle.scope_meet.proofs.GroupLists.{groups_of, others_of}
 use Rattle.scope_meet.proofs.meets.split.Given as goal
 
 abbrev pub invariant-loop-filter : goal.invariant-loop-filter
