@@ -74,7 +74,7 @@ fn put_users(tables: &mut Tables, users: u32) -> Option<()> {
             created: Moment::zero(),
             last_activity: None,
         };
-        tables.put_user(row, 0).ok()?;
+        tables.put_user(row, Some(0)).ok()?;
     }
     Some(())
 }
@@ -96,7 +96,7 @@ fn put_groups(tables: &mut Tables, alloc: Global, groups: u32) -> Option<()> {
             name: read_group(&name(number)).ok()?,
             users: members(alloc, number)?,
         };
-        tables.put_group(row, 0).ok()?;
+        tables.put_group(row, Some(0)).ok()?;
     }
     Some(())
 }
@@ -120,7 +120,7 @@ fn put_new(tables: &mut Tables, token: Token) -> Option<()> {
     if !tables.token_is_new(token.id, &token.hash) {
         return None;
     }
-    tables.put_token(token, 0).ok()
+    tables.put_token(token, Some(0)).ok()
 }
 
 fn put_tokens(tables: &mut Tables, alloc: Global, tokens: u32) -> Option<()> {

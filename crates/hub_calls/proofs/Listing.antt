@@ -21,11 +21,9 @@ use Rattle.hub_rows.specs.declared.records.Group.{Group}
 use Rattle.hub_rows.specs.declared.records.Service.{Service}
 use Rattle.hub_rows.specs.declared.records.Role.{Role}
 use Rattle.hub_rows.specs.declared.records.ServerRow.{ServerRow}
-use Rattle.hub_rows.specs.declared.rows.Row.TheVariants as Row
-use Rattle.hub_rows.specs.declared.rows.RowKey.TheVariants as RowKey
 use Rattle.hub_tables.specs.Lookups as lookups
 use Rattle.hub_tables.specs.Own.{AreOwn}
-use Rattle.hub_tables.proofs.RowsAt.{own_kind, own_users, own_groups, own_services, own_roles}
+use Rattle.hub_tables.proofs.RowsAt.{own_users, own_groups, own_services, own_roles, own_servers}
 use Rattle.hub_tables.specs.State.{State}
 use Rattle.hub_view.specs.Fields.{Rights}
 use Rattle.hub_view.specs.Json.{Json}
@@ -95,9 +93,6 @@ roles_listed s t rows e own r =
     ∙ ap (map role_body) (all_pass (values s.tables.roles))
 
 -- ---- the servers of a user
-
-pub own_servers : (s : State) → AreOwn s → OwnKeys (λ (row : ServerRow). row.key) s.servers
-own_servers s own = own_kind s.servers s RowKey.ServerRow Row.ServerRow (λ row. row.key) (λ q. refl) (λ row. refl) (λ a b e. cc) own
 
 pub servers_shown : (s : Hub) (t : State) (u : List ℕ) → t ≡ s.tables → AreOwn t
     → flat_map (λ key. facts_at s.lives (get s.tables.servers key)) (lookups.servers_of t u) ≡ servers_of s u

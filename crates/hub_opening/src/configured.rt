@@ -15,12 +15,15 @@ use hub_kit::list::List;
 use hub_kit::moment::Moment;
 use hub_kit::names::{GroupName, ServiceName, UserName};
 use hub_kit::text::Text;
+use hub_rows::changes::RowChange;
 use hub_rows::records::{Group, Next, OAuthClient, Role, Service, Token, User};
+use hub_rows::rows::Row;
 use hub_tables::tables::Tables;
 use keyed_rows::sorted::Sorted;
 use scope_filters::holder::Owner;
 use scope_filters::scope::RawScope;
 use std::alloc::{AllocError, Global};
+use table_changes::change;
 
 /// A row of a configuration.
 trait Configured: Sized {
@@ -36,7 +39,7 @@ impl Configured for ConfigUser {
 
     fn put(&self, _: Global, tables: &mut Tables, now: Moment) -> Result<(), AllocError> {
         let row = user_row(tables.user(&self.name), self, now);
-        tables.set_user(row)
+        change(tables, RowChange::Put(Row::User(row)))
     }
 }
 
@@ -49,10 +52,11 @@ impl Configured for Group {
             return Ok(());
         }
         let users = kept_names(alloc, tables, &self.users)?;
-        tables.set_group(Group {
+        let row = Group {
             name: self.name,
             users,
-        })
+        };
+        change(tables, RowChange::Put(Row::Group(row)))
     }
 }
 
@@ -71,7 +75,7 @@ impl Configured for Role {
     /// Puts it in place of the one of its name, with those of its holders that are there.
     fn put(&self, alloc: Global, tables: &mut Tables, _: Moment) -> Result<(), AllocError> {
         let row = role_row(alloc, tables, self)?;
-        tables.set_role(row)
+        change(tables, RowChange::Put(Row::Role(row)))
     }
 }
 
@@ -198,7 +202,7 @@ fn add_service(tables: &mut Tables, name: ServiceName) -> Result<(), AllocError>
     if tables.service(&name).is_some() {
         return Ok(());
     }
-    tables.set_service(Service { name })
+    change(tables, RowChange::Put(Row::Service(Service { name })))
 }
 
 /// The id of the client that a service is.
@@ -232,7 +236,7 @@ fn put_client(tables: &mut Tables, client: Option<OAuthClient>) -> Result<(), Al
     ensures { OnOk result (tables.new ≡ record tables.old { clients = spec.with_client client tables.old.clients }) }
 {
     match client {
-        Some(client) => tables.set_client(client),
+        Some(client) => change(tables, RowChange::Put(Row::OAuthClient(client))),
         None => Ok(()),
     }
 }
@@ -292,8 +296,8 @@ fn add_token(tables: &mut Tables, token: Token, next: Next) -> Result<(), AllocE
     requires { FitsToken tables.old.tokens token }
     ensures { OnOk result (tables.new ≡ spec.both_put token next tables.old) }
 {
-    tables.set_token(token)?;
-    tables.set_next(next)
+    change(tables, RowChange::Put(Row::Token(token)))?;
+    change(tables, RowChange::Put(Row::Next(next)))
 }
 
 /// Puts the rows of the configuration.

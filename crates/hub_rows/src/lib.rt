@@ -1,10 +1,12 @@
 //! The rows of the hub's tables: twelve records, the key of each, the limits of their numbers, and the changes of rows.
 //! A change puts a `Row` or removes the one of a `RowKey`, each of some kind.
-//! `Keyed` of `keyed_rows` carries it: each record stands under a key of its own, and each can be copied.
+//! `Keyed` of `keyed_rows` carries it: each record stands under a key of its own, and each can be copied. `Hashed` and `HasMembers` of
+//! `row_indexes` say by what else a record is found.
 //! The tables of `hub_tables` hold these rows, and the keeper writes and reads them.
 #![tactic(auto)]
 
 pub mod changes;
+mod indexed;
 pub mod keys;
 pub mod kinds;
 pub mod limits;

@@ -9,9 +9,9 @@ use Rattle.std.specs.BTreeMap.{is_at}
 use Rattle.std.specs.FinMap.{FinMap, get, entries, get-entries}
 use Rattle.hub_kit.specs.KeyOrder.{name_cmp}
 use Rattle.keyed_rows.proofs.Finite.{find_is}
+use Rattle.row_indexes.proofs.ByHash.{absent, same_tied}
 use Rattle.hub_rows.specs.declared.records.Token.{Token}
 use Rattle.hub_tables.specs.Hashes.{row_with, FitsHash, FitsToken}
-use Rattle.hub_tables.proofs.Indexed.{absent, same_tied}
 
 some_none : {X : Type 0} {x : X} → Some x ≡ None → ⊥
 some_none h = cc

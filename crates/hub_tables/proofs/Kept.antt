@@ -21,10 +21,10 @@ use Rattle.hub_rows.specs.ShareOrder.{names_exact, share_cmp, share_exact}
 use Rattle.row_indexes.specs.Owned.{owned_cmp}
 use Rattle.row_indexes.specs.Members.{TellsMembers}
 use Rattle.row_indexes.specs.declared.owned.OwnedKey.{OwnedKey}
+use Rattle.row_indexes.proofs.ByHash.{empty_indexed}
 use Rattle.row_indexes.proofs.Indexed.{empty_index}
 use Rattle.row_indexes.proofs.MemberKeys.{empty_members}
 use Rattle.hub_tables.specs.Parties.{party_cmp, is_token_of, is_share_of}
-use Rattle.hub_tables.proofs.Indexed.{empty_indexed}
 use Rattle.hub_tables.specs.Kept.{Kind, IsKept, Users, Groups, Services, Roles, Tokens, Servers, Leases, Shares, Codes, Clients, GrantCodes, Nexts}
 
 abbrev pub AreKept : Trees → Type 0
@@ -42,7 +42,6 @@ pub empty_kept : (t : Trees) → AreEmpty t → AreKept t
 empty_kept t e Users = no_rows nat_list_cmp_total names_exact _ t.users e.users
 empty_kept t e Groups = record {
   own = no_rows nat_list_cmp_total names_exact _ t.groups e.groups;
-  ordered = e.groups_ordered;
   told = no_members (λ (g : Group). g.users) _ _ (ap (from_entries {R = name_cmp}) e.groups) e.group_users;
 }
 empty_kept t e Services = no_rows nat_list_cmp_total names_exact _ t.services e.services

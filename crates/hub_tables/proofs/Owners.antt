@@ -1,10 +1,9 @@
 -- The tokens, shares and servers of an owner, as a scan over all rows gives them.
-use Rattle.std.proofs.Common.{◌≡◌, ℕ, Bool, true, false, not, ◌&&◌, ◌||◌, List, Option, Some, None, is_some, is_ok, map, Result, Ok, Err, IfOk, OnOk, OnErr, refl, sym, ap, ◌∙◌, subst}
+use Rattle.std.proofs.Common.{◌≡◌, ℕ, Bool, true, false, not, ◌&&◌, ◌||◌, List, Option, Some, None, is_some, is_ok, map, Result, Ok, Err, OnOk, OnErr, refl, sym, ap, ◌∙◌, subst}
 use Rattle.std.specs.Ordering.{nat_cmp, eq_by_cmp}
-use Rattle.std.specs.Cmp.{nat_cmp_total, eq_by_cmp_equiv}
+use Rattle.std.specs.Cmp.{IsTotalOrder, nat_cmp_total, eq_by_cmp_equiv}
 use Rattle.std.specs.Cmp.Lexicographic.{nat_list_cmp_total, texts_ties}
 use Rattle.std.specs.declared.cmp.Ordering.{Ordering}
-use Rattle.std.specs.Cmp.{IsTotalOrder}
 use Rattle.std.specs.FinMap.{FinMap, keys, values, get, insert, remove, contains_key, IsAntisymmetric, nat_cmp-IsAntisymmetric}
 use Rattle.std.specs.List.{filter}
 use Rattle.hub_kit.specs.KeyOrder.{name_cmp, key_cmp, key_exact}
@@ -30,10 +29,6 @@ use Rattle.hub_rows.specs.declared.records.Token.{Token}
 use Rattle.hub_tables.specs.Lookups.{same_owner, same_recipient, is_given_by, is_share_with}
 use Rattle.hub_tables.specs.Parties.{party_cmp, party_exact, of_owner, of_recipient, giver_of, is_token_of, is_share_of}
 use Rattle.hub_tables.specs.contracts.parties.PartyOrd.TheImpl.Laws as party
-
-pub if_ok : {A E : Type 0} (r : Result A E) {P P' : A → Type 0} → ((v : A) → P v → P' v) → IfOk r P → IfOk r P'
-if_ok (Ok v) f h = f v h
-if_ok (Err e) f h = tt
 
 same_names : (a b : List ℕ) → eq_by_cmp name_cmp a b ≡ same b a
 same_names a b = (eq_by_cmp_equiv nat_list_cmp_total).symm a b ∙ sym (texts_ties b a)
@@ -169,11 +164,3 @@ module _ (rows rows' : FinMap share_cmp Share) (index index' : Index) (x : IsInd
       → ((o : Party) (k : ShareKey) → contains_key index' (under o k) ≡ (not (is_party key o && eq_by_cmp share_cmp k key) && contains_key index (under o k)))
       → IsIndex party_cmp share_cmp is_share_of rows' index'
   share_taken key e forgotten = taken party_cmp share_cmp share_key.total-law is_share_of rows index x key rows' index' (is_party key) e (λ old at o. ap (λ k. is_party k o) (own key old at)) forgotten
-
-pub on_ok : {A E : Type 0} (r : Result A E) {P P' : Type 0} → (P → P') → OnOk r P → OnOk r P'
-on_ok (Ok v) f h = f h
-on_ok (Err e) f h = tt
-
-pub on_err : {A E : Type 0} (r : Result A E) {P P' : Type 0} → (P → P') → OnErr r P → OnErr r P'
-on_err (Ok v) f h = tt
-on_err (Err e) f h = f h

@@ -19,6 +19,8 @@ use Rattle.hub_rows.specs.declared.records.Group.{Group}
 use Rattle.hub_rows.specs.declared.records.Service.{Service}
 use Rattle.hub_rows.specs.declared.records.Role.{Role}
 use Rattle.hub_rows.specs.declared.records.Token.{Token}
+use Rattle.hub_rows.specs.declared.records.ServerRow.{ServerRow}
+use Rattle.hub_rows.specs.declared.records.Share.{Share}
 use Rattle.hub_rows.specs.declared.records.OAuthClient.{OAuthClient}
 use Rattle.hub_rows.specs.declared.records.Next.{Next}
 use Rattle.hub_rows.specs.declared.rows.Row.{Row}
@@ -293,6 +295,12 @@ module _ (s : State) (own : AreOwn s) where
 
   pub own_tokens : OwnKeys (λ (row : Token). row.id) s.tokens
   own_tokens = own_kind s.tokens s RowKey.Token Row.Token (λ row. row.id) (λ q. refl) (λ row. refl) (λ a b e. cc) own
+
+  pub own_servers : OwnKeys (λ (row : ServerRow). row.key) s.servers
+  own_servers = own_kind s.servers s RowKey.ServerRow Row.ServerRow (λ row. row.key) (λ q. refl) (λ row. refl) (λ a b e. cc) own
+
+  pub own_shares : OwnKeys (λ (row : Share). row.key) s.shares
+  own_shares = own_kind s.shares s RowKey.Share Row.Share (λ row. row.key) (λ q. refl) (λ row. refl) (λ a b e. cc) own
 
   pub own_clients : OwnKeys (λ (row : OAuthClient). row.id) s.clients
   own_clients = own_kind s.clients s RowKey.OAuthClient Row.OAuthClient (λ row. row.id) (λ q. refl) (λ row. refl) (λ a b e. cc) own

@@ -3,7 +3,6 @@ use Rattle.std.specs.Prelude.{◌≡◌, [], Option, Some, None}
 use Rattle.std.specs.Ordering.{nat_cmp}
 use Rattle.std.specs.BTreeMap.{BTreeMap, IsOrdered}
 use Rattle.hub_tables.specs.declared.memberships.RoleIndexes.{RoleIndexes}
-use Rattle.hub_kit.specs.KeyOrder.{name_cmp}
 use Rattle.hub_tables.specs.declared.trees.Trees.{Trees}
 
 -- an index with no entries, which wasn't given up
@@ -19,7 +18,6 @@ pub record AreEmptyIndexes (indexes : RoleIndexes) : Type 0 where
 pub record AreEmpty (t : Trees) : Type 0 where
   pub users : t.users.entries ≡ []
   pub groups : t.groups.entries ≡ []
-  pub groups_ordered : IsOrdered name_cmp t.groups
   pub group_users : IsEmptyIndex t.group_users
   pub services : t.services.entries ≡ []
   pub roles : t.roles.entries ≡ []

@@ -8,7 +8,6 @@ use Rattle.scope_names.specs.declared.custom.CustomRow.{CustomRow}
 use Rattle.hub_rows.specs.declared.limits.Limits.{Limits}
 use Rattle.hub_tables.specs.declared.trees.Trees.{Trees}
 use Rattle.hub_tables.specs.declared.memberships.RoleIndexes.{RoleIndexes}
-use Rattle.hub_tables.specs.Hashes.{IsIndexed}
 use Rattle.hub_tables.specs.MemberIndexes.{TellsGroups, TellsRoles}
 use Rattle.hub_rows.specs.ShareOrder.{share_cmp}
 use Rattle.hub_rows.specs.declared.records.Group.{Group}
@@ -16,6 +15,7 @@ use Rattle.hub_rows.specs.declared.records.Role.{Role}
 use Rattle.hub_rows.specs.declared.records.Share.{Share}
 use Rattle.hub_rows.specs.declared.records.Token.{Token}
 use Rattle.hub_rows.specs.declared.keys.ShareKey.{ShareKey}
+use Rattle.row_indexes.specs.Hashes.{IsIndexed}
 use Rattle.row_indexes.specs.Owned.{owned_cmp, IsIndex}
 use Rattle.row_indexes.specs.declared.owned.OwnedKey.{OwnedKey}
 use Rattle.hub_tables.specs.declared.parties.Party.{Party}
@@ -57,7 +57,6 @@ pub record AreTokensKept (rows : BTreeMap ℕ Token) (ids : BTreeMap (List ℕ) 
 -- groups under their names, with an index of their members
 pub record AreGroupsKept (rows : BTreeMap (List ℕ) Group) (users : Option (BTreeMap (OwnedKey (List ℕ) (List ℕ)) (Unit {0}))) : Type 0 where
   pub own : OwnKeys (λ (row : Group). row.name) (map_of name_cmp rows)
-  pub ordered : IsOrdered name_cmp rows
   pub told : TellsGroups (map_of name_cmp rows) users
 
 -- roles under their names, with indexes of those that they name

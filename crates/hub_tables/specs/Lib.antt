@@ -8,4 +8,5 @@ pub mod MemberIndexes
 pub mod Memberships
 pub mod Own
 pub mod Parties
+pub mod Rooms
 pub mod State

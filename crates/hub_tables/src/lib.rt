@@ -3,7 +3,6 @@
 //! one map. The rights of owners, the tokens, the shares and the machine of the hub stand on it.
 #![tactic(auto)]
 
-mod hashed;
 mod memberships;
 mod owned;
 mod parties;

@@ -8,15 +8,16 @@ ghost use Rattle.keyed_rows.specs.Rows.{map_of, OwnKeys};
 ghost use Rattle.keyed_rows.specs.Puts.{IsAnswerIn};
 ghost use Rattle.row_indexes.specs.Owned.{owned_cmp, under, IsIndex};
 ghost use Rattle.hub_rows.specs.ShareOrder.{share_cmp};
-ghost use Rattle.hub_tables.specs.Hashes.{FitsToken, IsIndexed};
+ghost use Rattle.row_indexes.specs.Hashes.{IsIndexed};
+ghost use Rattle.hub_tables.specs.Hashes.{FitsToken};
 ghost use Rattle.hub_tables.specs.Parties.{party_cmp, of_owner, of_recipient, giver_of, is_token_of, is_share_of};
 
-use crate::hashed::{put_hashed, remove_hashed};
 use crate::parties::{Party, giver_of, of_owner, of_recipient};
 use hub_kit::text::Text;
 use hub_rows::keys::ShareKey;
 use hub_rows::records::{Share, Token};
 use keyed_rows::{PutError, Room, keyed};
+use row_indexes::hashed::{put_hashed, remove_hashed};
 use row_indexes::owned::{OwnedKey, forget, note};
 use std::alloc::{AllocError, Global};
 use std::collections::BTreeMap;

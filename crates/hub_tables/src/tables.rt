@@ -1,7 +1,11 @@
 //! The tables: all rows of the hub, its limits and its custom scopes.
-ghost use Rattle.std.specs.Prelude.{◌≡◌, OnOk, OnErr, IsOk, IsErr};
+//! A put of a kind with a limit takes the number of rows of the kind that the same change removes afterwards, and is refused as full where
+//! the others have reached the limit. Without that number the limit doesn't hold: for a row that was kept and goes back, or is loaded, and
+//! for changes whose rules tested the limits.
+ghost use Rattle.std.specs.Prelude.{◌≡◌};
 ghost use Rattle.std.specs.FinMap as map;
 ghost use Rattle.hub_tables.specs.Own.{AreOwn};
+ghost use Rattle.hub_tables.specs.Rooms.{room_of};
 
 mod grants;
 mod members;
@@ -11,9 +15,9 @@ mod tokens;
 
 use crate::trees::Trees;
 use hub_rows::limits::Limits;
-use keyed_rows::PutError;
+use keyed_rows::Room;
 use scope_names::table::ScopeTable;
-use std::alloc::{AllocError, Global};
+use std::alloc::Global;
 use std::marker::Model;
 
 /// The rows of each kind, which contracts see as the record of their finite maps.
@@ -74,13 +78,16 @@ impl Tables {
     }
 }
 
-/// What a put tells where there is no limit of rows: memory alone may be wanting.
-fn memory_alone(put: Result<(), PutError>) -> Result<(), AllocError>
-    ensures ok { OnOk result (IsOk put) }
-    ensures err { OnErr result (IsErr put) }
+/// The room for rows of a kind. Without a number of rows that leave it has no limit.
+fn room_of(kind: u8, limit: u32, leaving: Option<u32>) -> Option<Room>
+    ensures { result ≡ room_of kind limit leaving }
 {
-    match put {
-        Ok(()) => Ok(()),
-        Err(_) => Err(AllocError),
+    match leaving {
+        Some(leaving) => Some(Room {
+            kind,
+            limit,
+            leaving,
+        }),
+        None => None,
     }
 }

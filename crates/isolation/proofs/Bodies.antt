@@ -18,7 +18,7 @@ use Rattle.hub_rows.specs.declared.records.ServerRow.{ServerRow}
 use Rattle.hub_rows.specs.declared.records.Token.{Token}
 use Rattle.hub_rows.specs.declared.records.User.{User}
 use Rattle.hub_tables.specs.Own.{AreOwn}
-use Rattle.hub_calls.proofs.Listing.{own_servers}
+use Rattle.hub_tables.proofs.RowsAt.{own_servers}
 use Rattle.hub_tables.specs.Lookups.{groups_of, roles_naming_group, roles_naming_service}
 use Rattle.hub_view.specs.Json.{Json, Member, line, lines, truth, maybe, pairs, member}
 use Rattle.hub_view.specs.Servers.{at, is_live, is_ready, pending, server_url}

@@ -17,20 +17,13 @@ use Rattle.hub_rows.specs.declared.keys.Recipient.TheVariants as To
 use Rattle.hub_rows.specs.declared.keys.ShareKey.{ShareKey}
 use Rattle.hub_rows.specs.declared.records.Group.{Group}
 use Rattle.hub_rows.specs.declared.records.Share.{Share}
-use Rattle.hub_rows.specs.declared.rows.Row.TheVariants as Row
-use Rattle.hub_rows.specs.declared.rows.RowKey.TheVariants as RowKey
 use Rattle.hub_tables.specs.Lookups.{same_recipient, is_given_by, is_share_with, shares_with, groups_of}
-use Rattle.hub_tables.specs.Own.{AreOwn}
 use Rattle.hub_tables.specs.State.{State}
-use Rattle.hub_tables.proofs.RowsAt.{own_kind}
 use Rattle.roles.specs.Received.{scopes_at}
 use Rattle.roles.specs.Rights.{received, shares_received}
 use Rattle.keyed_rows.proofs.InOrder.{found_among, found_give, found_in_order}
 use Rattle.roles.proofs.AmongKeys.{among_filter, among_both, none_of}
 use Rattle.roles.proofs.GroupsOf.{member}
-
-pub own_shares : (s : State) → AreOwn s → OwnKeys (λ (row : Share). row.key) s.shares
-own_shares s own = own_kind s.shares s RowKey.Share Row.Share (λ row. row.key) (λ q. refl) (λ row. refl) (λ a b e. cc) own
 
 -- ---- the shares that a user received
 

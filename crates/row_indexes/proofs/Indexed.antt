@@ -1,5 +1,5 @@
 -- An index of owners stays in step with the rows, and tells what a scan over them does.
-use Rattle.std.proofs.Common.{◌≡◌, Result, Ok, Err, OnOk, OnErr, Bool, true, false, not, ◌&&◌, ◌||◌, cond, List, [], ◌∷◌, ◌++◌, Option, Some, None, is_some, map, refl, sym, ap, ◌∙◌, subst}
+use Rattle.std.proofs.Common.{◌≡◌, Result, Ok, Err, OnOk, OnErr, IfOk, Bool, true, false, not, ◌&&◌, ◌||◌, cond, List, [], ◌∷◌, ◌++◌, Option, Some, None, is_some, map, refl, sym, ap, ◌∙◌, subst}
 use Rattle.std.specs.declared.cmp.Ordering.{Ordering}
 use Rattle.std.specs.declared.cmp.Ordering.TheVariants.{Less, Equal, Greater}
 use Rattle.std.specs.Ordering.{ordering_then, is_eq, eq_by_cmp}
@@ -205,6 +205,14 @@ tells Q R owners exact_owners total exact key is_of rows index x own w =
 pub on_ok : {A E : Type 0} (r : Result A E) {P P' : Type 0} → (P → P') → OnOk r P → OnOk r P'
 on_ok (Ok v) f h = f h
 on_ok (Err e) f h = tt
+
+pub on_err : {A E : Type 0} (r : Result A E) {P P' : Type 0} → (P → P') → OnErr r P → OnErr r P'
+on_err (Ok v) f h = tt
+on_err (Err e) f h = f h
+
+pub if_ok : {A E : Type 0} (r : Result A E) {P P' : A → Type 0} → ((v : A) → P v → P' v) → IfOk r P → IfOk r P'
+if_ok (Ok v) f h = f v h
+if_ok (Err e) f h = tt
 
 -- a key under two owners
 pub noted_twice : (a c b h : Bool) → ((c && b) || ((a && b) || h)) ≡ (((a || c) && b) || h)

@@ -1,4 +1,6 @@
+pub mod ByHash
 pub mod Indexed
 pub mod MemberKeys
+pub mod MemberRows
 mod ServerKeys
 mod Walked

@@ -1,3 +1,4 @@
+pub mod Hashes
 pub mod Members
 pub mod Owned
 pub mod Servers

@@ -1,9 +1,9 @@
 -- Rows under each of their members, and what an index of them tells while it is kept.
-use Rattle.std.specs.Prelude.{Bool, not, IsTrue, ◌&&◌, ◌||◌, ◌≡◌, List, [], Option, Some, None, Result, Ok, Err}
+use Rattle.std.specs.Prelude.{Bool, false, not, IsTrue, ◌&&◌, ◌||◌, ◌≡◌, List, [], Option, Some, None, Result, Ok, Err}
 use Rattle.std.specs.declared.cmp.Ordering.{Ordering}
 use Rattle.std.specs.Ordering.{eq_by_cmp}
 use Rattle.std.specs.List.{list_any}
-use Rattle.std.specs.FinMap.{FinMap, contains_key}
+use Rattle.std.specs.FinMap.{FinMap, get, contains_key}
 use Rattle.std.specs.BTreeMap.{BTreeMap}
 use Rattle.keyed_rows.specs.Rows.{map_of}
 use Rattle.keyed_rows.specs.Sorted.{is_among}
@@ -19,6 +19,10 @@ answered (Err e) = Err e
 abbrev pub members_in : {M X : Type 0} → (X → List M) → Option X → List M
 members_in members_of None = []
 members_in members_of (Some row) = members_of row
+
+-- two maps have the same rows but at a key
+abbrev pub AreSameBut : {K X : Type 0} {R : K → K → Ordering} → K → (before after : FinMap R X) → Type 0
+AreSameBut {K} {R = R} key before after = (k : K) → eq_by_cmp R k key ≡ false → get after k ≡ get before k
 
 -- some member is new
 abbrev pub brings : {M : Type 0} → (M → M → Ordering) → (old new : List M) → Bool
@@ -41,3 +45,7 @@ module _ {M K : Type 0} (Q : M → M → Ordering) (R : K → K → Ordering) wh
   IsFollowed key old new None (Some after) = ⊥
   IsFollowed key old new (Some before) None = IsTrue (brings Q old new)
   IsFollowed key old new (Some before) (Some after) = IsFollowedIn key old new (map_of (owned_cmp Q R) before) (map_of (owned_cmp Q R) after)
+
+  -- an index that told of rows which are the same but at a key, and which have the old row there, tells of the new rows
+  abbrev pub IsRowFollowed : {X : Type 0} → (X → List M) → K → (old : Option X) → (rows : FinMap R X) → (before after : Option (BTreeMap (OwnedKey M K) (Unit {0}))) → Type 0
+  IsRowFollowed {X = X} members_of key old rows before after = (earlier : FinMap R X) → get earlier key ≡ old → AreSameBut key earlier rows → TellsMembers members_of earlier before → TellsMembers members_of rows after

@@ -1,9 +1,12 @@
-//! Which keys an owner or a member has: keys that stand together in a tree, and indexes for those that don't.
-//! `grouped::keys_of` walks over the keys of one owner alone; an index of `owned` keeps the keys of rows under their owners, and one of
-//! `members` those under each member that a row lists. The tables of the hub find tokens, servers, shares, groups and roles by them.
+//! How rows are found besides by their own keys: by an owner, by a member or by a hash, whatever kind of rows they are.
+//! `grouped::keys_of` walks over the keys of one owner, which stand together in their tree; an index of `owned` keeps the keys of rows
+//! under their owners, one of `members` those of rows under each member that a row lists, and one of `hashed` the ids of rows under their
+//! hashes. Each finds what a scan over all rows finds, which `keys_with` and `row_of_hash` say. The tables of the hub find tokens, servers,
+//! shares, share codes, groups and roles by them.
 #![tactic(auto)]
 
 pub mod grouped;
+pub mod hashed;
 pub mod members;
 pub mod owned;
 pub mod servers;

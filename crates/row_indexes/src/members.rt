@@ -1,16 +1,19 @@
 //! An index of rows under each of their members. A put at a kept key takes no memory, whatever members its row has, so the index is
 //! given up where an entry finds no memory, and the rows are scanned from then on.
-ghost use Rattle.std.specs.Prelude.{◌≡◌, ◌&&◌, ◌||◌, not, false, IsTrue, OnOk, OnErr, IfOk};
+ghost use Rattle.std.specs.Prelude.{◌≡◌, ◌&&◌, ◌||◌, not, false, List, [], map as map_list, IsTrue, OnOk, OnErr, IfOk};
+ghost use Rattle.std.specs.Option.{option_copied};
 ghost use Rattle.std.specs.FinMap as map;
+ghost use Rattle.std.specs.BTreeMap as tree;
 ghost use Rattle.std.specs.BTreeMap.{IsOrdered};
+ghost use Rattle.std.specs.List.{filter};
 ghost use Rattle.std.specs.Ordering.{eq_by_cmp};
-ghost use Rattle.keyed_rows.specs.Rows.{map_of};
+ghost use Rattle.keyed_rows.specs.Rows.{map_of, OwnKeys};
 ghost use Rattle.keyed_rows.specs.Puts.{IsAnswerIn};
 ghost use Rattle.keyed_rows.specs.Sorted.{is_among};
 ghost use Rattle.row_indexes.specs.Owned.{owned_cmp, under};
-ghost use Rattle.row_indexes.specs.Members.{answered, brings, IsFollowed};
+ghost use Rattle.row_indexes.specs.Members.{answered, brings, members_in, IsFollowed, IsRowFollowed, TellsMembers};
 
-use crate::owned::{OwnedKey, forget, note};
+use crate::owned::{OwnedKey, forget, note, owned_keys};
 use hub_kit::key::Key;
 use keyed_rows::keyed::{self, CopyKey, Keyed};
 use keyed_rows::sorted::Sorted;
@@ -21,6 +24,14 @@ use std::mem::replace;
 
 /// The keys of rows under each member of the rows, or nothing once it was given up.
 pub type MemberIndex<M, K> = Option<BTreeMap<OwnedKey<M, K>, ()>>;
+
+/// A row that has members.
+pub trait HasMembers<M: Key>: Drop {
+    ghost members_of: { Self → List M };
+
+    fn members(&self) -> &Sorted<M>
+        ensures { result.now ≡ members_of self.now };
+}
 
 /// Sets the row of the value's key, and hands over the row that stood there. A kept row is replaced in its place, which takes no memory.
 pub fn put_row<K: CopyKey, R: Keyed<K>>(
@@ -42,9 +53,72 @@ pub fn put_row<K: CopyKey, R: Keyed<K>>(
     Ok(None)
 }
 
+/// The keys of the rows that have a member, in order. By the index it walks over the entries of that member alone; where the index was
+/// given up it scans the rows, with a binary search in each.
+pub fn keys_with<M: Key + Copy, K: CopyKey + Copy, R: Keyed<K> + HasMembers<M>>(
+    alloc: Global,
+    rows: &BTreeMap<K, R>,
+    index: &MemberIndex<M, K>,
+    member: &M,
+) -> Result<Vec<K>, AllocError>
+    requires own { OwnKeys R.key_of (map_of K.Ord.cmp rows.now) }
+    requires told { TellsMembers M.Ord.cmp K.Ord.cmp R.members_of (map_of K.Ord.cmp rows.now) index.now }
+    ensures { IfOk result (λ keys. keys.items ≡ map_list R.key_of (filter (λ row. is_among M.Ord.cmp member.now (R.members_of row)) (map.values (map_of K.Ord.cmp rows.now)))) }
+{
+    match index {
+        Some(entries) => owned_keys(alloc, entries, member),
+        None => scanned_keys(alloc, rows, member),
+    }
+}
+
+fn scanned_keys<M: Key + Copy, K: CopyKey + Copy, R: Keyed<K> + HasMembers<M>>(
+    alloc: Global,
+    rows: &BTreeMap<K, R>,
+    member: &M,
+) -> Result<Vec<K>, AllocError>
+    ensures keys { IfOk result (λ keys. keys.items ≡ map_list R.key_of (filter (λ row. is_among M.Ord.cmp member.now (R.members_of row)) (tree.values rows.now))) }
+    ensures ordered { IsOrdered K.Ord.cmp rows.now }
+{
+    let mut keys = Vec::new(alloc);
+    for row in rows.values() {
+        if row.members().contains(member) {
+            keys.push(*row.key())?;
+        }
+    }
+    Ok(keys)
+}
+
+/// Puts a key under the members of the row that it has now, in place of those of the old row.
+pub fn follow_row<M: Key + Copy, K: Key + Copy, R: HasMembers<M>>(
+    alloc: Global,
+    rows: &BTreeMap<K, R>,
+    key: &K,
+    old: &Option<R>,
+    index: &mut MemberIndex<M, K>,
+)
+    ensures { IsRowFollowed M.Ord.cmp K.Ord.cmp R.members_of key.now old.now (map_of K.Ord.cmp rows.now) index.old index.new }
+{
+    let none = Sorted::new(alloc);
+    let new = members_or(keyed_rows::row_at(rows, key), &none);
+    follow(index, key, members_or(old.as_ref(), &none), new);
+}
+
+fn members_or<'a, M: Key + Copy, R: HasMembers<M>>(
+    row: Option<&'a R>,
+    none: &'a Sorted<M>,
+) -> &'a Sorted<M>
+    requires { none.now ≡ [] }
+    ensures { result.now ≡ members_in R.members_of (option_copied row.entry) }
+{
+    match row {
+        Some(row) => row.members(),
+        None => none,
+    }
+}
+
 /// Puts a key under the new members of its row in place of the old ones. The index is given up only where a member is new, and its entry
 /// finds no memory.
-pub fn follow<M: Key + Copy, K: Key + Copy>(
+fn follow<M: Key + Copy, K: Key + Copy>(
     index: &mut MemberIndex<M, K>,
     key: &K,
     old: &Sorted<M>,

@@ -52,7 +52,7 @@ pub(crate) fn no_rows(rt: &impl Abort, alloc: Global, limits: &Limits) -> Tables
 
 fn check_puts(rt: &impl Abort, tables: &mut Tables) {
     for (name, refusal) in &PUTS {
-        let put = tables.put_user(user(rt, name), 0);
+        let put = tables.put_user(user(rt, name), Some(0));
         check(rt, put.err() == *refusal, name);
     }
 }

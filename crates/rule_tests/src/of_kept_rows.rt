@@ -50,12 +50,12 @@ fn are_keyed_put(rt: &impl Abort, alloc: Global, tables: &mut Tables) -> bool {
     let client = r#"{"hash":"h","redirect_uri":"/r"}"#;
     let code =
         r#"{"client":"service:idle","expires_at":2,"owner":"ann","redirect_uri":"/r","token":null}"#;
-    let server = tables.put_server(record(rt, alloc, 6, "ann/", server), 0);
-    let lease = tables.put_lease(record(rt, alloc, 7, target, r#"{"server":"ann/"}"#), 0);
-    let share = tables.put_share(record(rt, alloc, 8, "ann/x,user:bob", SHARE), 0);
-    let client = tables.put_client(record(rt, alloc, 10, "service:idle", client), 0);
-    let code = tables.put_grant_code(record(rt, alloc, 11, "ab", code), 0);
-    let next = tables.put_next(record(rt, alloc, 12, "token", r#"{"next":1}"#), 0);
+    let server = tables.put_server(record(rt, alloc, 6, "ann/", server));
+    let lease = tables.put_lease(record(rt, alloc, 7, target, r#"{"server":"ann/"}"#));
+    let share = tables.put_share(record(rt, alloc, 8, "ann/x,user:bob", SHARE), Some(0));
+    let client = tables.put_client(record(rt, alloc, 10, "service:idle", client), Some(0));
+    let code = tables.put_grant_code(record(rt, alloc, 11, "ab", code), Some(0));
+    let next = tables.put_next(record(rt, alloc, 12, "token", r#"{"next":1}"#));
     server.is_ok() & lease.is_ok() & share.is_ok() & client.is_ok() & code.is_ok() & next.is_ok()
 }
 
@@ -63,10 +63,10 @@ fn are_keyed_put(rt: &impl Abort, alloc: Global, tables: &mut Tables) -> bool {
 fn are_counted_put(rt: &impl Abort, alloc: Global, tables: &mut Tables) -> bool {
     let user = r#"{"admin":false,"created":1,"last_activity":null}"#;
     let role = r#"{"groups":[],"scopes":["self"],"services":[],"users":["ann"]}"#;
-    let user = tables.put_user(record(rt, alloc, 1, "ann", user), 0);
-    let group = tables.put_group(record(rt, alloc, 2, "lab", r#"{"users":["ann"]}"#), 0);
-    let service = tables.put_service(record(rt, alloc, 3, "idle", "{}"), 0);
-    let role = tables.put_role(record(rt, alloc, 4, "tutor", role), 0);
+    let user = tables.put_user(record(rt, alloc, 1, "ann", user), Some(0));
+    let group = tables.put_group(record(rt, alloc, 2, "lab", r#"{"users":["ann"]}"#), Some(0));
+    let service = tables.put_service(record(rt, alloc, 3, "idle", "{}"), Some(0));
+    let role = tables.put_role(record(rt, alloc, 4, "tutor", role), Some(0));
     user.is_ok() & group.is_ok() & service.is_ok() & role.is_ok()
 }
 

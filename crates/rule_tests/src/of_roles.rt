@@ -142,7 +142,7 @@ pub(crate) fn tables(rt: &impl Abort, alloc: Global, scope: &str) -> Tables {
     put_group(rt, alloc, &mut tables, b"b", &[b"ann"]);
     put_group(rt, alloc, &mut tables, b"e", &[]);
     let role = role(rt, alloc, scope);
-    tables.put_role(role, 0).expect(rt, "there is room");
+    tables.put_role(role, Some(0)).expect(rt, "there is room");
     tables
 }
 
@@ -157,7 +157,7 @@ fn put_group(rt: &impl Abort, alloc: Global, tables: &mut Tables, name: &[u8], u
         name: read_group(name).expect(rt, "it is made"),
         users: Sorted::from_vec(members),
     };
-    tables.put_group(group, 0).expect(rt, "there is room");
+    tables.put_group(group, Some(0)).expect(rt, "there is room");
 }
 
 fn role(rt: &impl Abort, alloc: Global, scope: &str) -> Role {

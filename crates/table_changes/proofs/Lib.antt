@@ -1,3 +1,4 @@
 mod Asked
+mod Free
 mod LeadsBack
 mod WithWayBack

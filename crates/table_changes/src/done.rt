@@ -7,6 +7,7 @@ ghost use Rattle.hub_tables.specs.Changes.{row_at, row_done, with_row, without_r
 use hub_rows::changes::RowChange;
 use hub_rows::rows::{Row, RowKey};
 use hub_tables::tables::Tables;
+use keyed_rows::PutError;
 use std::alloc::AllocError;
 
 /// Does one change, whatever the limits. A removal, and a put at a kept key, take no memory.
@@ -17,7 +18,10 @@ pub fn change(tables: &mut Tables, change: RowChange) -> Result<(), AllocError>
     ensures memory { OnErr result ((is_put change ≡ true) × (has_row tables.old change ≡ false)) }
 {
     match change {
-        RowChange::Put(row) => put(tables, row),
+        RowChange::Put(row) => match put(tables, row) {
+            Ok(()) => Ok(()),
+            Err(_) => Err(AllocError),
+        },
         RowChange::Remove(key) => {
             remove(tables, &key);
             Ok(())
@@ -25,26 +29,26 @@ pub fn change(tables: &mut Tables, change: RowChange) -> Result<(), AllocError>
     }
 }
 
-/// Puts a row under its key.
-fn put(tables: &mut Tables, row: Row) -> Result<(), AllocError>
+/// Puts a row under its key. No limit holds, so memory alone may be wanting.
+fn put(tables: &mut Tables, row: Row) -> Result<(), PutError>
     requires { FitsKey tables.old row }
     ensures ok { OnOk result (tables.new ≡ with_row row tables.old) }
     ensures err { OnErr result (tables.new ≡ tables.old) }
     ensures memory { OnErr result (is_some (row_at tables.old (key_of row)) ≡ false) }
 {
     match row {
-        Row::User(row) => tables.set_user(row),
-        Row::Group(row) => tables.set_group(row),
-        Row::Service(row) => tables.set_service(row),
-        Row::Role(row) => tables.set_role(row),
-        Row::Token(row) => tables.set_token(row),
-        Row::ServerRow(row) => tables.set_server(row),
-        Row::Lease(row) => tables.set_lease(row),
-        Row::Share(row) => tables.set_share(row),
-        Row::ShareCode(row) => tables.set_code(row),
-        Row::OAuthClient(row) => tables.set_client(row),
-        Row::OAuthCode(row) => tables.set_grant_code(row),
-        Row::Next(row) => tables.set_next(row),
+        Row::User(row) => tables.put_user(row, None),
+        Row::Group(row) => tables.put_group(row, None),
+        Row::Service(row) => tables.put_service(row, None),
+        Row::Role(row) => tables.put_role(row, None),
+        Row::Token(row) => tables.put_token(row, None),
+        Row::ServerRow(row) => tables.put_server(row),
+        Row::Lease(row) => tables.put_lease(row),
+        Row::Share(row) => tables.put_share(row, None),
+        Row::ShareCode(row) => tables.put_code(row, None),
+        Row::OAuthClient(row) => tables.put_client(row, None),
+        Row::OAuthCode(row) => tables.put_grant_code(row, None),
+        Row::Next(row) => tables.put_next(row),
     }
 }
 

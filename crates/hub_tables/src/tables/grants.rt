@@ -1,20 +1,21 @@
 //! Shares, and the clients and codes of OAuth.
-ghost use Rattle.std.specs.Prelude.{◌≡◌, false, OnOk, OnErr, IfOk, IfSome};
+ghost use Rattle.std.specs.Prelude.{◌≡◌, OnOk, OnErr, IfOk, IfSome};
 ghost use Rattle.std.specs.Option.{option_copied};
 ghost use Rattle.std.specs.FinMap as map;
 ghost use Rattle.std.specs.Map.Iter.{ShowsInOrder, deref};
 ghost use Rattle.keyed_rows.specs.Rows.{OwnKeys};
-ghost use Rattle.keyed_rows.specs.Puts.{IsAnswer};
+ghost use Rattle.keyed_rows.specs.Puts.{IsAnswerIn};
 ghost use Rattle.hub_tables.specs.Lookups.{shares_with};
+ghost use Rattle.hub_tables.specs.Rooms.{room_of};
 
 use crate::owned;
 use crate::parties::of_recipient;
-use crate::tables::{Tables, memory_alone};
+use crate::tables::{Tables, room_of};
 use hub_kit::names::ServerKey;
 use hub_kit::text::Text;
 use hub_rows::keys::{Recipient, ShareKey};
 use hub_rows::records::{OAuthClient, OAuthCode, Share};
-use keyed_rows::{PutError, Room, keyed};
+use keyed_rows::{PutError, keyed};
 use row_indexes::owned::owned_keys;
 use std::alloc::{AllocError, Global};
 use std::collections::btree_map::Values;
@@ -36,38 +37,19 @@ impl Tables {
     }
 
     /// Sets the row of a share.
-    pub fn put_share(&mut self, value: Share, leaving: u32) -> Result<(), PutError>
-        ensures answer { IsAnswer 8 self.old.limits.shares self.old.shares value.key leaving result }
+    pub fn put_share(&mut self, value: Share, leaving: Option<u32>) -> Result<(), PutError>
+        ensures answer { IsAnswerIn (room_of 8 self.old.limits.shares leaving) self.old.shares value.key result }
         ensures ok { OnOk result (self.new ≡ record self.old { shares = map.insert self.old.shares value.key value }) }
         ensures err { OnErr result (self.new ≡ self.old) }
     {
-        let room = Room {
-            kind: 8,
-            limit: self.limits.shares,
-            leaving,
-        };
+        let room = room_of(8, self.limits.shares, leaving);
         owned::put_share(
             self.alloc,
             &mut self.trees.shares,
             &mut self.trees.share_parties,
             value,
-            Some(room),
+            room,
         )
-    }
-
-    /// Sets the row of a share, whatever the number of rows. Memory is wanting at a new key alone.
-    pub fn set_share(&mut self, value: Share) -> Result<(), AllocError>
-        ensures ok { OnOk result (self.new ≡ record self.old { shares = map.insert self.old.shares value.key value }) }
-        ensures err { OnErr result (self.new ≡ self.old) }
-        ensures memory { OnErr result (map.contains_key self.old.shares value.key ≡ false) }
-    {
-        memory_alone(owned::put_share(
-            self.alloc,
-            &mut self.trees.shares,
-            &mut self.trees.share_parties,
-            value,
-            None,
-        ))
     }
 
     /// Takes the row of a share out, and tells whether it was there. Takes no memory.
@@ -107,26 +89,13 @@ impl Tables {
     }
 
     /// Sets the row of a client.
-    pub fn put_client(&mut self, value: OAuthClient, leaving: u32) -> Result<(), PutError>
-        ensures answer { IsAnswer 10 CLIENTS self.old.clients value.id leaving result }
+    pub fn put_client(&mut self, value: OAuthClient, leaving: Option<u32>) -> Result<(), PutError>
+        ensures answer { IsAnswerIn (room_of 10 CLIENTS leaving) self.old.clients value.id result }
         ensures ok { OnOk result (self.new ≡ record self.old { clients = map.insert self.old.clients value.id value }) }
         ensures err { OnErr result (self.new ≡ self.old) }
     {
-        let room = Room {
-            kind: 10,
-            limit: CLIENTS,
-            leaving,
-        };
-        keyed::put(self.alloc, &mut self.trees.clients, value, Some(room))
-    }
-
-    /// Sets the row of a client, whatever the number of rows. Memory is wanting at a new key alone.
-    pub fn set_client(&mut self, value: OAuthClient) -> Result<(), AllocError>
-        ensures ok { OnOk result (self.new ≡ record self.old { clients = map.insert self.old.clients value.id value }) }
-        ensures err { OnErr result (self.new ≡ self.old) }
-        ensures memory { OnErr result (map.contains_key self.old.clients value.id ≡ false) }
-    {
-        keyed::set(self.alloc, &mut self.trees.clients, value)
+        let room = room_of(10, CLIENTS, leaving);
+        keyed::put(self.alloc, &mut self.trees.clients, value, room)
     }
 
     /// Takes the row of a client out, and tells whether it was there. Takes no memory.
@@ -155,26 +124,13 @@ impl Tables {
     }
 
     /// Sets the row of a code of OAuth.
-    pub fn put_grant_code(&mut self, value: OAuthCode, leaving: u32) -> Result<(), PutError>
-        ensures answer { IsAnswer 11 self.old.limits.codes self.old.grant_codes value.hash leaving result }
+    pub fn put_grant_code(&mut self, value: OAuthCode, leaving: Option<u32>) -> Result<(), PutError>
+        ensures answer { IsAnswerIn (room_of 11 self.old.limits.codes leaving) self.old.grant_codes value.hash result }
         ensures ok { OnOk result (self.new ≡ record self.old { grant_codes = map.insert self.old.grant_codes value.hash value }) }
         ensures err { OnErr result (self.new ≡ self.old) }
     {
-        let room = Room {
-            kind: 11,
-            limit: self.limits.codes,
-            leaving,
-        };
-        keyed::put(self.alloc, &mut self.trees.grant_codes, value, Some(room))
-    }
-
-    /// Sets the row of a code of OAuth, whatever the number of rows. Memory is wanting at a new key alone.
-    pub fn set_grant_code(&mut self, value: OAuthCode) -> Result<(), AllocError>
-        ensures ok { OnOk result (self.new ≡ record self.old { grant_codes = map.insert self.old.grant_codes value.hash value }) }
-        ensures err { OnErr result (self.new ≡ self.old) }
-        ensures memory { OnErr result (map.contains_key self.old.grant_codes value.hash ≡ false) }
-    {
-        keyed::set(self.alloc, &mut self.trees.grant_codes, value)
+        let room = room_of(11, self.limits.codes, leaving);
+        keyed::put(self.alloc, &mut self.trees.grant_codes, value, room)
     }
 
     /// Takes the row of a code of OAuth out, and tells whether it was there. Takes no memory.

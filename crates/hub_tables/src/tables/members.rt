@@ -2,10 +2,10 @@
 ghost use Rattle.std.specs.Prelude.{◌≡◌, IfOk};
 ghost use Rattle.hub_tables.specs.Lookups.{groups_of, roles_naming_user, roles_naming_group, roles_naming_service};
 
-use crate::memberships::keys_with;
 use crate::tables::Tables;
 use hub_kit::names::{GroupName, RoleName, ServiceName, UserName};
 use keyed_rows::sorted::Sorted;
+use row_indexes::members::keys_with;
 use scope_filters::members::Members;
 use std::alloc::{AllocError, Global};
 

@@ -1,19 +1,19 @@
 //! Users, groups, services and roles.
-ghost use Rattle.std.specs.Prelude.{◌≡◌, false, OnOk, OnErr, IfSome};
+ghost use Rattle.std.specs.Prelude.{◌≡◌, OnOk, OnErr, IfSome};
 ghost use Rattle.std.specs.Option.{option_copied};
 ghost use Rattle.std.specs.FinMap as map;
 ghost use Rattle.std.specs.Map.Iter.{ShowsInOrder, deref};
 ghost use Rattle.hub_kit.specs.KeyOrder.{name_cmp};
 ghost use Rattle.keyed_rows.specs.Rows.{map_of, OwnKeys};
-ghost use Rattle.keyed_rows.specs.Puts.{IsAnswer};
+ghost use Rattle.keyed_rows.specs.Puts.{IsAnswerIn};
+ghost use Rattle.hub_tables.specs.Rooms.{room_of};
 
 use crate::memberships;
-use crate::tables::{Tables, memory_alone};
+use crate::tables::{Tables, room_of};
 use hub_kit::moment::Moment;
 use hub_kit::names::{GroupName, RoleName, ServiceName, UserName};
 use hub_rows::records::{Group, Role, Service, User};
-use keyed_rows::{PutError, Room, keyed};
-use std::alloc::AllocError;
+use keyed_rows::{PutError, keyed};
 use std::collections::BTreeMap;
 use std::collections::btree_map::Values;
 
@@ -27,30 +27,15 @@ impl Tables {
     }
 
     /// Sets the row of a user.
-    pub fn put_user(&mut self, value: User, leaving: u32) -> Result<(), PutError>
-        ensures answer { IsAnswer 1 self.old.limits.users self.old.users value.name leaving result }
+    pub fn put_user(&mut self, value: User, leaving: Option<u32>) -> Result<(), PutError>
+        ensures answer { IsAnswerIn (room_of 1 self.old.limits.users leaving) self.old.users value.name result }
         ensures ok { OnOk result (self.new ≡ record self.old { users = map.insert self.old.users value.name value }) }
         ensures err { OnErr result (self.new ≡ self.old) }
     {
-        let room = Room {
-            kind: 1,
-            limit: self.limits.users,
-            leaving,
-        };
+        let room = room_of(1, self.limits.users, leaving);
         // The check proves no call that moves a row of plain fields, unless their types are named beside it.
         let _named: Option<Moment> = value.last_activity;
-        keyed::put(self.alloc, &mut self.trees.users, value, Some(room))
-    }
-
-    /// Sets the row of a user, whatever the number of rows. Memory is wanting at a new key alone.
-    pub fn set_user(&mut self, value: User) -> Result<(), AllocError>
-        ensures ok { OnOk result (self.new ≡ record self.old { users = map.insert self.old.users value.name value }) }
-        ensures err { OnErr result (self.new ≡ self.old) }
-        ensures memory { OnErr result (map.contains_key self.old.users value.name ≡ false) }
-    {
-        // The check proves no call that moves a row of plain fields, unless their types are named beside it.
-        let _named: Option<Moment> = value.last_activity;
-        keyed::set(self.alloc, &mut self.trees.users, value)
+        keyed::put(self.alloc, &mut self.trees.users, value, room)
     }
 
     /// The number of the rows of users.
@@ -93,38 +78,19 @@ impl Tables {
     }
 
     /// Sets the row of a group.
-    pub fn put_group(&mut self, value: Group, leaving: u32) -> Result<(), PutError>
-        ensures answer { IsAnswer 2 self.old.limits.groups self.old.groups value.name leaving result }
+    pub fn put_group(&mut self, value: Group, leaving: Option<u32>) -> Result<(), PutError>
+        ensures answer { IsAnswerIn (room_of 2 self.old.limits.groups leaving) self.old.groups value.name result }
         ensures ok { OnOk result (self.new ≡ record self.old { groups = map.insert self.old.groups value.name value }) }
         ensures err { OnErr result (self.new ≡ self.old) }
     {
-        let room = Room {
-            kind: 2,
-            limit: self.limits.groups,
-            leaving,
-        };
+        let room = room_of(2, self.limits.groups, leaving);
         memberships::put_group(
             self.alloc,
             &mut self.trees.groups,
             &mut self.trees.group_users,
             value,
-            Some(room),
+            room,
         )
-    }
-
-    /// Sets the row of a group, whatever the number of rows. Memory is wanting at a new key alone.
-    pub fn set_group(&mut self, value: Group) -> Result<(), AllocError>
-        ensures ok { OnOk result (self.new ≡ record self.old { groups = map.insert self.old.groups value.name value }) }
-        ensures err { OnErr result (self.new ≡ self.old) }
-        ensures memory { OnErr result (map.contains_key self.old.groups value.name ≡ false) }
-    {
-        memory_alone(memberships::put_group(
-            self.alloc,
-            &mut self.trees.groups,
-            &mut self.trees.group_users,
-            value,
-            None,
-        ))
     }
 
     /// The number of the rows of groups.
@@ -172,26 +138,13 @@ impl Tables {
     }
 
     /// Sets the row of a service.
-    pub fn put_service(&mut self, value: Service, leaving: u32) -> Result<(), PutError>
-        ensures answer { IsAnswer 3 self.old.limits.services self.old.services value.name leaving result }
+    pub fn put_service(&mut self, value: Service, leaving: Option<u32>) -> Result<(), PutError>
+        ensures answer { IsAnswerIn (room_of 3 self.old.limits.services leaving) self.old.services value.name result }
         ensures ok { OnOk result (self.new ≡ record self.old { services = map.insert self.old.services value.name value }) }
         ensures err { OnErr result (self.new ≡ self.old) }
     {
-        let room = Room {
-            kind: 3,
-            limit: self.limits.services,
-            leaving,
-        };
-        keyed::put(self.alloc, &mut self.trees.services, value, Some(room))
-    }
-
-    /// Sets the row of a service, whatever the number of rows. Memory is wanting at a new key alone.
-    pub fn set_service(&mut self, value: Service) -> Result<(), AllocError>
-        ensures ok { OnOk result (self.new ≡ record self.old { services = map.insert self.old.services value.name value }) }
-        ensures err { OnErr result (self.new ≡ self.old) }
-        ensures memory { OnErr result (map.contains_key self.old.services value.name ≡ false) }
-    {
-        keyed::set(self.alloc, &mut self.trees.services, value)
+        let room = room_of(3, self.limits.services, leaving);
+        keyed::put(self.alloc, &mut self.trees.services, value, room)
     }
 
     /// The number of the rows of services.
@@ -234,38 +187,19 @@ impl Tables {
     }
 
     /// Sets the row of a role.
-    pub fn put_role(&mut self, value: Role, leaving: u32) -> Result<(), PutError>
-        ensures answer { IsAnswer 4 self.old.limits.roles self.old.roles value.name leaving result }
+    pub fn put_role(&mut self, value: Role, leaving: Option<u32>) -> Result<(), PutError>
+        ensures answer { IsAnswerIn (room_of 4 self.old.limits.roles leaving) self.old.roles value.name result }
         ensures ok { OnOk result (self.new ≡ record self.old { roles = map.insert self.old.roles value.name value }) }
         ensures err { OnErr result (self.new ≡ self.old) }
     {
-        let room = Room {
-            kind: 4,
-            limit: self.limits.roles,
-            leaving,
-        };
+        let room = room_of(4, self.limits.roles, leaving);
         memberships::put_role(
             self.alloc,
             &mut self.trees.roles,
             &mut self.trees.role_indexes,
             value,
-            Some(room),
+            room,
         )
-    }
-
-    /// Sets the row of a role, whatever the number of rows. Memory is wanting at a new key alone.
-    pub fn set_role(&mut self, value: Role) -> Result<(), AllocError>
-        ensures ok { OnOk result (self.new ≡ record self.old { roles = map.insert self.old.roles value.name value }) }
-        ensures err { OnErr result (self.new ≡ self.old) }
-        ensures memory { OnErr result (map.contains_key self.old.roles value.name ≡ false) }
-    {
-        memory_alone(memberships::put_role(
-            self.alloc,
-            &mut self.trees.roles,
-            &mut self.trees.role_indexes,
-            value,
-            None,
-        ))
     }
 
     /// The number of the rows of roles.

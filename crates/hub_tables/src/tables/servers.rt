@@ -1,5 +1,5 @@
 //! Servers, leases and the next numbers, which have no limit of rows.
-ghost use Rattle.std.specs.Prelude.{◌≡◌, false, OnOk, OnErr, IfOk, IfSome};
+ghost use Rattle.std.specs.Prelude.{◌≡◌, OnOk, OnErr, IfOk, IfSome};
 ghost use Rattle.std.specs.Option.{option_copied};
 ghost use Rattle.std.specs.FinMap as map;
 ghost use Rattle.std.specs.Map.Iter.{ShowsInOrder, deref};
@@ -27,8 +27,8 @@ impl Tables {
         keyed_rows::row_at(&self.trees.servers, key)
     }
 
-    /// Sets the row of a server. There is no limit of rows, so those that leave make no difference.
-    pub fn put_server(&mut self, value: ServerRow, _leaving: u32) -> Result<(), PutError>
+    /// Sets the row of a server. There is no limit of rows, so memory alone may be wanting.
+    pub fn put_server(&mut self, value: ServerRow) -> Result<(), PutError>
         ensures answer { IsFreeAnswer self.old.servers value.key result }
         ensures ok { OnOk result (self.new ≡ record self.old { servers = map.insert self.old.servers value.key value }) }
         ensures err { OnErr result (self.new ≡ self.old) }
@@ -36,17 +36,6 @@ impl Tables {
         // The check proves no call that moves a row of plain fields, unless their types are named beside it.
         let _named: Option<Moment> = value.last_activity;
         keyed::put(self.alloc, &mut self.trees.servers, value, None)
-    }
-
-    /// Sets the row of a server. Memory is wanting at a new key alone.
-    pub fn set_server(&mut self, value: ServerRow) -> Result<(), AllocError>
-        ensures ok { OnOk result (self.new ≡ record self.old { servers = map.insert self.old.servers value.key value }) }
-        ensures err { OnErr result (self.new ≡ self.old) }
-        ensures memory { OnErr result (map.contains_key self.old.servers value.key ≡ false) }
-    {
-        // The check proves no call that moves a row of plain fields, unless their types are named beside it.
-        let _named: Option<Moment> = value.last_activity;
-        keyed::set(self.alloc, &mut self.trees.servers, value)
     }
 
     /// Takes the row of a server out, and tells whether it was there. Takes no memory.
@@ -81,22 +70,13 @@ impl Tables {
         keyed_rows::row_at(&self.trees.leases, key)
     }
 
-    /// Sets the row of a lease. There is no limit of rows, so those that leave make no difference.
-    pub fn put_lease(&mut self, value: Lease, _leaving: u32) -> Result<(), PutError>
+    /// Sets the row of a lease. There is no limit of rows, so memory alone may be wanting.
+    pub fn put_lease(&mut self, value: Lease) -> Result<(), PutError>
         ensures answer { IsFreeAnswer self.old.leases value.target result }
         ensures ok { OnOk result (self.new ≡ record self.old { leases = map.insert self.old.leases value.target value }) }
         ensures err { OnErr result (self.new ≡ self.old) }
     {
         keyed::put(self.alloc, &mut self.trees.leases, value, None)
-    }
-
-    /// Sets the row of a lease. Memory is wanting at a new key alone.
-    pub fn set_lease(&mut self, value: Lease) -> Result<(), AllocError>
-        ensures ok { OnOk result (self.new ≡ record self.old { leases = map.insert self.old.leases value.target value }) }
-        ensures err { OnErr result (self.new ≡ self.old) }
-        ensures memory { OnErr result (map.contains_key self.old.leases value.target ≡ false) }
-    {
-        keyed::set(self.alloc, &mut self.trees.leases, value)
     }
 
     /// Takes the row of a lease out, and tells whether it was there. Takes no memory.
@@ -124,22 +104,13 @@ impl Tables {
         keyed_rows::row_at(&self.trees.nexts, key)
     }
 
-    /// Sets the row of the next number of a kind of numbers. There is no limit of rows, so those that leave make no difference.
-    pub fn put_next(&mut self, value: Next, _leaving: u32) -> Result<(), PutError>
+    /// Sets the row of the next number of a kind of numbers. There is no limit of rows, so memory alone may be wanting.
+    pub fn put_next(&mut self, value: Next) -> Result<(), PutError>
         ensures answer { IsFreeAnswer self.old.nexts value.name result }
         ensures ok { OnOk result (self.new ≡ record self.old { nexts = map.insert self.old.nexts value.name value }) }
         ensures err { OnErr result (self.new ≡ self.old) }
     {
         keyed::put(self.alloc, &mut self.trees.nexts, value, None)
-    }
-
-    /// Sets the row of the next number of a kind of numbers. Memory is wanting at a new key alone.
-    pub fn set_next(&mut self, value: Next) -> Result<(), AllocError>
-        ensures ok { OnOk result (self.new ≡ record self.old { nexts = map.insert self.old.nexts value.name value }) }
-        ensures err { OnErr result (self.new ≡ self.old) }
-        ensures memory { OnErr result (map.contains_key self.old.nexts value.name ≡ false) }
-    {
-        keyed::set(self.alloc, &mut self.trees.nexts, value)
     }
 
     /// Takes the row of the next number of a kind out, and tells whether it was there. Takes no memory.

@@ -1,19 +1,22 @@
 //! Tokens and share codes, which stand under ids and are found by hashes.
-ghost use Rattle.std.specs.Prelude.{◌≡◌, false, not, ◌||◌, IsTrue, OnOk, OnErr, IfOk, IfSome};
+ghost use Rattle.std.specs.Prelude.{◌≡◌, not, ◌||◌, IsTrue, OnOk, OnErr, IfOk, IfSome};
 ghost use Rattle.std.specs.Option.{option_copied, is_some};
 ghost use Rattle.std.specs.FinMap as map;
 ghost use Rattle.std.specs.Map.Iter.{ShowsInOrder, deref};
 ghost use Rattle.keyed_rows.specs.Rows.{OwnKeys};
-ghost use Rattle.keyed_rows.specs.Puts.{IsAnswer};
-ghost use Rattle.hub_tables.specs.Hashes.{row_with, FitsCode, FitsToken};
+ghost use Rattle.keyed_rows.specs.Puts.{IsAnswerIn};
+ghost use Rattle.row_indexes.specs.Hashes.{row_with};
+ghost use Rattle.hub_tables.specs.Hashes.{FitsCode, FitsToken};
 ghost use Rattle.hub_tables.specs.Lookups.{tokens_of};
+ghost use Rattle.hub_tables.specs.Rooms.{room_of};
 
+use crate::owned;
 use crate::parties::of_owner;
-use crate::tables::{Tables, memory_alone};
-use crate::{hashed, owned};
+use crate::tables::{Tables, room_of};
 use hub_kit::text::Text;
 use hub_rows::records::{ShareCode, Token};
-use keyed_rows::{PutError, Room};
+use keyed_rows::PutError;
+use row_indexes::hashed;
 use row_indexes::owned::owned_keys;
 use scope_filters::holder::Owner;
 use std::alloc::{AllocError, Global};
@@ -36,42 +39,21 @@ impl Tables {
     }
 
     /// Sets the row of a token. No other row has its hash, and a kept row of its id has the same hash and owner.
-    pub fn put_token(&mut self, value: Token, leaving: u32) -> Result<(), PutError>
+    pub fn put_token(&mut self, value: Token, leaving: Option<u32>) -> Result<(), PutError>
         requires { FitsToken self.old.tokens value }
-        ensures answer { IsAnswer 5 self.old.limits.tokens self.old.tokens value.id leaving result }
+        ensures answer { IsAnswerIn (room_of 5 self.old.limits.tokens leaving) self.old.tokens value.id result }
         ensures ok { OnOk result (self.new ≡ record self.old { tokens = map.insert self.old.tokens value.id value }) }
         ensures err { OnErr result (self.new ≡ self.old) }
     {
-        let room = Room {
-            kind: 5,
-            limit: self.limits.tokens,
-            leaving,
-        };
+        let room = room_of(5, self.limits.tokens, leaving);
         owned::put_token(
             self.alloc,
             &mut self.trees.tokens,
             &mut self.trees.token_ids,
             &mut self.trees.token_owners,
             value,
-            Some(room),
+            room,
         )
-    }
-
-    /// Sets the row of a token, whatever the number of rows. No other row has its hash, and a kept row of its id has the same hash and owner. Memory is wanting at a new key alone.
-    pub fn set_token(&mut self, value: Token) -> Result<(), AllocError>
-        requires { FitsToken self.old.tokens value }
-        ensures ok { OnOk result (self.new ≡ record self.old { tokens = map.insert self.old.tokens value.id value }) }
-        ensures err { OnErr result (self.new ≡ self.old) }
-        ensures memory { OnErr result (map.contains_key self.old.tokens value.id ≡ false) }
-    {
-        memory_alone(owned::put_token(
-            self.alloc,
-            &mut self.trees.tokens,
-            &mut self.trees.token_ids,
-            &mut self.trees.token_owners,
-            value,
-            None,
-        ))
     }
 
     /// The number of the rows of tokens.
@@ -134,43 +116,23 @@ impl Tables {
     }
 
     /// Sets the row of a share code. No other row has its hash, and a kept row of its id has the same hash and server.
-    pub fn put_code(&mut self, value: ShareCode, leaving: u32) -> Result<(), PutError>
+    pub fn put_code(&mut self, value: ShareCode, leaving: Option<u32>) -> Result<(), PutError>
         requires { FitsCode self.old.codes value }
-        ensures answer { IsAnswer 9 self.old.limits.codes self.old.codes value.id leaving result }
+        ensures answer { IsAnswerIn (room_of 9 self.old.limits.codes leaving) self.old.codes value.id result }
         ensures ok { OnOk result (self.new ≡ record self.old { codes = map.insert self.old.codes value.id value }) }
         ensures err { OnErr result (self.new ≡ self.old) }
     {
-        let room = Room {
-            kind: 9,
-            limit: self.limits.codes,
-            leaving,
-        };
+        let room = room_of(9, self.limits.codes, leaving);
         hashed::put_hashed(
             self.alloc,
             &mut self.trees.codes,
             &mut self.trees.code_ids,
             value,
-            Some(room),
+            room,
         )
     }
 
     /// Sets the row of a share code, whatever the number of rows. No other row has its hash, and a kept row of its id has the same hash and
-    /// server. Memory is wanting at a new key alone.
-    pub fn set_code(&mut self, value: ShareCode) -> Result<(), AllocError>
-        requires { FitsCode self.old.codes value }
-        ensures ok { OnOk result (self.new ≡ record self.old { codes = map.insert self.old.codes value.id value }) }
-        ensures err { OnErr result (self.new ≡ self.old) }
-        ensures memory { OnErr result (map.contains_key self.old.codes value.id ≡ false) }
-    {
-        memory_alone(hashed::put_hashed(
-            self.alloc,
-            &mut self.trees.codes,
-            &mut self.trees.code_ids,
-            value,
-            None,
-        ))
-    }
-
     /// Takes the row of a share code out, and tells whether it was there. Takes no memory.
     pub fn remove_code(&mut self, id: u64) -> bool
         ensures there { result ≡ map.contains_key self.old.codes id }

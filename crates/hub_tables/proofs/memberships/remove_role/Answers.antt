@@ -1,6 +1,6 @@
 use Rattle.std.proofs.Common.{sym}
 use Rattle.std.specs.Cmp.Lexicographic.{nat_list_cmp_total}
-use Rattle.hub_tables.proofs.MemberRows.{same_but_taken}
+use Rattle.row_indexes.proofs.MemberRows.{same_but_taken}
 use Rattle.hub_tables.proofs.memberships.remove_role.Goals as goal
 
 pub returns-clause-told : goal.returns-clause-told

@@ -1,4 +1,5 @@
-use Rattle.hub_tables.proofs.Owners.{on_ok, on_err, parties_noted, one_noted}
+use Rattle.row_indexes.proofs.Indexed.{on_ok, on_err}
+use Rattle.hub_tables.proofs.Owners.{parties_noted, one_noted}
 use Rattle.hub_tables.proofs.owned.note_parties.Goals as goal
 
 pub returns-clause-ok : goal.returns-clause-ok

@@ -3,10 +3,10 @@ use Rattle.std.specs.FinMap.{get}
 use Rattle.std.specs.List.{flat_map}
 use Rattle.hub_rows.specs.ShareOrder.{share_cmp}
 use Rattle.keyed_rows.specs.Sorted.{in_order}
-use Rattle.hub_tables.proofs.RowsAt.{own_groups}
+use Rattle.hub_tables.proofs.RowsAt.{own_groups, own_shares}
 use Rattle.roles.specs.Received.{scopes_at}
 use Rattle.roles.proofs.Appended.{more_given}
-use Rattle.roles.proofs.SharesOf.{own_shares, received_scopes}
+use Rattle.roles.proofs.SharesOf.{received_scopes}
 use Rattle.roles.proofs.received.push_received.Goals as goal
 
 pub returns : goal.returns

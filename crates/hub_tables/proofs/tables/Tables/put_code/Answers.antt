@@ -1,6 +1,9 @@
 use Rattle.std.proofs.Common.{sym, subst}
+use Rattle.std.specs.Ordering.{nat_cmp}
 use Rattle.std.specs.Cmp.{nat_cmp_total}
 use Rattle.std.specs.FinMap.{nat_cmp-IsAntisymmetric}
+use Rattle.keyed_rows.specs.Puts.{IsAnswerIn}
+use Rattle.keyed_rows.specs.Rows.{map_of}
 use Rattle.keyed_rows.proofs.Finite.{own_put}
 use Rattle.hub_rows.specs.declared.records.ShareCode.{ShareCode}
 use Rattle.hub_tables.specs.Hashes.{FitsCode}
@@ -24,4 +27,5 @@ invariant_of-self c =
     })
 
 pub returns-clause-answer : goal.returns-clause-answer
-returns-clause-answer c = rw (← c.self.view_is) c.put_hashed.ensures.answer
+returns-clause-answer c =
+    rw (← c.self.view_is) (subst (λ room. IsAnswerIn room (map_of nat_cmp c.self.inside.trees.codes) c.args.value.id c.put_hashed.result) c.room_of-room.ensures c.put_hashed.ensures.answer)

@@ -1,4 +1,8 @@
+use Rattle.std.proofs.Common.{subst}
 use Rattle.std.specs.Cmp.Lexicographic.{nat_list_cmp_total}
+use Rattle.hub_kit.specs.KeyOrder.{name_cmp}
+use Rattle.keyed_rows.specs.Puts.{IsAnswerIn}
+use Rattle.keyed_rows.specs.Rows.{map_of}
 use Rattle.keyed_rows.proofs.Finite.{own_put}
 use Rattle.hub_rows.specs.declared.records.Role.{Role}
 use Rattle.hub_tables.specs.Kept.{Roles}
@@ -17,4 +21,5 @@ invariant_of-self c =
     })
 
 pub returns-clause-answer : goal.returns-clause-answer
-returns-clause-answer c = rw (← c.self.view_is) c.put_role.ensures.answer
+returns-clause-answer c =
+    rw (← c.self.view_is) (subst (λ room. IsAnswerIn room (map_of name_cmp c.self.inside.trees.roles) c.args.value.name c.put_role.result) c.room_of-room.ensures c.put_role.ensures.answer)

@@ -1,8 +1,11 @@
+use Rattle.std.proofs.Common.{subst}
+use Rattle.keyed_rows.specs.Puts.{IsAnswerIn}
+use Rattle.keyed_rows.specs.Rows.{map_of}
 use Rattle.hub_rows.specs.contracts.keys.ShareKeyOrd.TheImpl.Laws.{total-law}
 use Rattle.keyed_rows.proofs.Finite.{own_put}
 use Rattle.hub_rows.specs.declared.records.Share.{Share}
 use Rattle.hub_tables.specs.Kept.{Shares}
-use Rattle.hub_rows.specs.ShareOrder.{share_exact}
+use Rattle.hub_rows.specs.ShareOrder.{share_cmp, share_exact}
 use Rattle.hub_tables.proofs.Kept.{shares_kept}
 use Rattle.hub_tables.proofs.tables.Tables.put_share.Goals as goal
 
@@ -17,4 +20,5 @@ invariant_of-self c =
     })
 
 pub returns-clause-answer : goal.returns-clause-answer
-returns-clause-answer c = rw (← c.self.view_is) c.put_share.ensures.answer
+returns-clause-answer c =
+    rw (← c.self.view_is) (subst (λ room. IsAnswerIn room (map_of share_cmp c.self.inside.trees.shares) c.args.value.key c.put_share.result) c.room_of-room.ensures c.put_share.ensures.answer)

@@ -1,6 +1,9 @@
 use Rattle.std.proofs.Common.{sym, subst}
+use Rattle.std.specs.Ordering.{nat_cmp}
 use Rattle.std.specs.Cmp.{nat_cmp_total}
 use Rattle.std.specs.FinMap.{nat_cmp-IsAntisymmetric}
+use Rattle.keyed_rows.specs.Puts.{IsAnswerIn}
+use Rattle.keyed_rows.specs.Rows.{map_of}
 use Rattle.keyed_rows.proofs.Finite.{own_put}
 use Rattle.hub_rows.specs.declared.records.Token.{Token}
 use Rattle.hub_tables.specs.Hashes.{FitsToken}
@@ -28,4 +31,5 @@ invariant_of-self c =
     })
 
 pub returns-clause-answer : goal.returns-clause-answer
-returns-clause-answer c = rw (← c.self.view_is) c.put_token.ensures.answer
+returns-clause-answer c =
+    rw (← c.self.view_is) (subst (λ room. IsAnswerIn room (map_of nat_cmp c.self.inside.trees.tokens) c.args.value.id c.put_token.result) c.room_of-room.ensures c.put_token.ensures.answer)

@@ -13,6 +13,5 @@ pub invariant_of-self : goal.invariant_of-self
 invariant_of-self c =
     groups_kept c.self.inside.trees c.remove_group.new.rows c.remove_group.new.users c.self.invariant (record {
       own = own_removed nat_list_cmp_total names_exact (λ (row : Group). row.name) _ _ c.args.key.now c.remove_group.ensures.removed (c.self.invariant Groups).own;
-      ordered = c.remove_group.ensures.ordered;
       told = c.remove_group.ensures.told;
     })

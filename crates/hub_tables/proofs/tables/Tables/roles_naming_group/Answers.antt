@@ -2,7 +2,7 @@ use Rattle.std.proofs.Common.{◌∙◌, ap}
 use Rattle.hub_tables.specs.Kept.{Roles}
 use Rattle.hub_tables.specs.Lookups.{roles_naming_group}
 use Rattle.hub_tables.specs.State.{State}
-use Rattle.hub_tables.proofs.Owners.{if_ok}
+use Rattle.row_indexes.proofs.Indexed.{if_ok}
 use Rattle.hub_tables.proofs.tables.Tables.roles_naming_group.Goals as goal
 
 pub keys_with-requires : goal.keys_with-requires

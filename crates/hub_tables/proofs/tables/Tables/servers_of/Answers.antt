@@ -2,7 +2,8 @@ use Rattle.std.proofs.Common.{◌∙◌, ap}
 use Rattle.hub_tables.specs.Kept.{Servers}
 use Rattle.hub_tables.specs.Lookups.{servers_of}
 use Rattle.hub_tables.specs.State.{State}
-use Rattle.hub_tables.proofs.Owners.{if_ok, server_keys}
+use Rattle.row_indexes.proofs.Indexed.{if_ok}
+use Rattle.hub_tables.proofs.Owners.{server_keys}
 use Rattle.hub_tables.proofs.tables.Tables.servers_of.Goals as goal
 
 pub returns : goal.returns

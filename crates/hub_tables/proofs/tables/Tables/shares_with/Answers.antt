@@ -7,7 +7,8 @@ use Rattle.hub_tables.specs.Kept.{Shares}
 use Rattle.hub_tables.specs.Lookups.{shares_with}
 use Rattle.hub_tables.specs.Parties.{party_cmp}
 use Rattle.hub_tables.specs.State.{State}
-use Rattle.hub_tables.proofs.Owners.{if_ok, share_keys}
+use Rattle.row_indexes.proofs.Indexed.{if_ok}
+use Rattle.hub_tables.proofs.Owners.{share_keys}
 use Rattle.hub_tables.proofs.tables.Tables.shares_with.Goals as goal
 
 pub returns : goal.returns

@@ -7,7 +7,8 @@ use Rattle.hub_tables.specs.Kept.{Tokens}
 use Rattle.hub_tables.specs.Lookups.{tokens_of}
 use Rattle.hub_tables.specs.Parties.{party_cmp}
 use Rattle.hub_tables.specs.State.{State}
-use Rattle.hub_tables.proofs.Owners.{if_ok, token_ids}
+use Rattle.row_indexes.proofs.Indexed.{if_ok}
+use Rattle.hub_tables.proofs.Owners.{token_ids}
 use Rattle.hub_tables.proofs.tables.Tables.tokens_of.Goals as goal
 
 pub returns : goal.returns

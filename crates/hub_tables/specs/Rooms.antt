@@ -1,0 +1,8 @@
+-- When the limit of a kind of rows holds.
+use Rattle.std.specs.Prelude.{ℕ, Option, Some, None}
+use Rattle.keyed_rows.specs.declared.Room.{Room}
+
+-- the limit of the kind, less the rows that leave; without a number of these there is none
+abbrev pub room_of : (kind limit : ℕ) → (leaving : Option ℕ) → Option Room
+room_of kind limit None = None
+room_of kind limit (Some leaving) = Some (record { kind = kind; limit = limit; leaving = leaving })
