@@ -1,0 +1,5 @@
+mod Ranks
+mod Taking
+mod Driving
+mod Gaining
+mod Waiting

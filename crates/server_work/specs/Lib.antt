@@ -1,0 +1,9 @@
+pub mod LifeSteps
+pub mod Outcomes
+pub mod Tales
+pub mod LifeVisits
+pub mod Chains
+pub mod Taken
+pub mod Gains
+pub mod Adoptions
+pub mod Broken

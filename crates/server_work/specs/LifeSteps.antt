@@ -1,0 +1,20 @@
+-- The lives of servers by their generations, and how an event is taken there.
+use Rattle.std.specs.Prelude.{ℕ, Option, Some, None, Result, Err}
+use Rattle.server_life.specs.declared.life.Life.{Life}
+use Rattle.server_life.specs.declared.life.LifeEvent.{LifeEvent}
+use Rattle.server_life.specs.declared.life.LifeRefusal.{LifeRefusal}
+use Rattle.server_life.specs.declared.life.LifeRefusal.TheVariants.{OldGeneration}
+use Rattle.server_life.specs.declared.life.Todo.{Todo}
+use Rattle.server_life.specs.LifeTable.{life_after}
+
+-- the life of each generation that has one
+abbrev pub Lives : Type 0
+Lives = ℕ → Option Life
+
+abbrev pub step_of : Option Life → ℕ → LifeEvent → Result (Life × Todo) LifeRefusal
+step_of None g event = Err (OldGeneration g)
+step_of (Some life) g event = life_after life g event
+
+-- what the event makes of the life of its generation; a generation that isn't live takes none
+abbrev pub step_at : Lives → ℕ → LifeEvent → Result (Life × Todo) LifeRefusal
+step_at lives g event = step_of (lives g) g event
