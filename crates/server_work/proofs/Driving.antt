@@ -1,5 +1,5 @@
 -- How a chain goes on.
-use Rattle.std.proofs.Common.{◌≡◌, ◌≢◌, ℕ, ◌+◌, ◌≤◌, ◌<◌, Bool, List, [], ◌∷◌, ◌++◌, map, Option, Some, None, refl, sym, ap, ◌∙◌, subst, append_assoc, arith}
+use Rattle.std.proofs.Common.{◌≡◌, ◌≢◌, ℕ, ◌+◌, ◌≤◌, ◌<◌, Bool, true, List, [], ◌∷◌, ◌++◌, map, Option, Some, None, refl, sym, ap, ◌∙◌, subst, append_assoc, arith}
 use Rattle.std.specs.List.{flat_map}
 use Rattle.std.proofs.lemmas.List.{append-nil, map-append}
 use Rattle.desk.specs.Passes.{PassState}
@@ -7,15 +7,17 @@ use Rattle.hub_devices.specs.Calls.{Grows}
 use Rattle.hub_devices.specs.Faults.{Rises}
 use Rattle.hub_devices.proofs.CallLemmas.{Grows_none, Grows_one, Rises_later, Rises_earlier}
 use Rattle.server_life.specs.declared.life.LifeEvent.{LifeEvent}
+use Rattle.server_life.specs.declared.life.LifeEvent.TheVariants as Event
 use Rattle.server_life.specs.declared.life.Todo.{Todo}
 use Rattle.server_life.specs.declared.life.Todo.TheVariants.{Nothing, Start}
 use Rattle.server_work.specs.declared.work.Work.{Work}
 use Rattle.server_work.specs.declared.work.Device.{Device}
+use Rattle.server_work.specs.declared.work.Kept.{Kept}
 use Rattle.server_work.specs.declared.tale.Tale.{Tale}
 use Rattle.server_work.specs.declared.book.Lived.{Lived}
 use Rattle.server_work.specs.LifeSteps.{Lives}
-use Rattle.server_work.specs.Outcomes.{todo_of, device_of, spawner_did, routes_did}
-use Rattle.server_work.specs.Tales.{new_tale, tale_with, first_of}
+use Rattle.server_work.specs.Outcomes.{todo_of, device_of, spawner_did, routes_did, is_end}
+use Rattle.server_work.specs.Tales.{new_tale, tale_with, first_of, is_stopped}
 use Rattle.server_work.specs.Chains.{Sight, sight, Comes, Step, Chain, At, left_by, own, outcome_of, rose, fails, tale_from, IsStep, Goes, Drove, Refused, Ended, Broke, ChainEnds}
 use Rattle.server_work.specs.Taken.{Made, Stays}
 use Rattle.server_work.proofs.Ranks.{rank, fewer, no_start}
@@ -90,13 +92,13 @@ module _ {E A : Type 0} (reached : Option A → List E → Lives → Type 0) (no
       let is : todo_of m.step.outcome ≡ owed = m.is.of ∙ of in
       subst (λ (t : Todo). rank t < rank owed) m.owes
       (subst (λ (t : Todo). rank m.step.owes < rank t) is
-      (fewer m.step.lives g m.step.outcome (m.step.made, m.step.owes) (λ none. some (sym is ∙ none)) m.is.row))
+      (fewer m.step.lives g m.step.outcome (m.is.takes.0, m.step.owes) (λ none. some (sym is ∙ none)) m.is.takes.1))
 
   pub owes_no_start : (p q : PassState E A) (g : ℕ) (o : LifeEvent) (l : Lived) (owed : Todo) → Made reached notes p q g o l → todo_of o ≡ owed → owed ≢ Nothing
       → l.todo ≢ Start
   owes_no_start p q g o l owed m of some =
       let is : todo_of m.step.outcome ≡ owed = m.is.of ∙ of in
-      λ start. no_start m.step.lives g m.step.outcome (m.step.made, m.step.owes) (λ none. some (sym is ∙ none)) m.is.row (m.owes ∙ start)
+      λ start. no_start m.step.lives g m.step.outcome (m.is.takes.0, m.step.owes) (λ none. some (sym is ∙ none)) m.is.takes.1 (m.owes ∙ start)
 
   -- a call whose outcome was refused
   pub drove_broken : (w : Work) (x y z : At E A) (first owed : Todo) (ss : List (Step E)) (o : LifeEvent)
@@ -144,3 +146,8 @@ pub caused : (t d : Option Device) (x : Device) (a b c : ℕ) → a ≤ b → b 
     → first_of t d ≡ Some x → Rises a c
 caused (Some y) d x a b c ab bc f h e = Rises_later a b c (f e) bc
 caused None d x a b c ab bc f h e = Rises_earlier a b c ab (h e) bc
+
+pub stopped_end : (o : LifeEvent) (k : Kept) → is_stopped o k ≡ true → is_end o ≡ true
+stopped_end Event.Ended k e = refl
+stopped_end Event.SpawnFailed k e = refl
+stopped_end o k e = absurd (cc (e))

@@ -49,7 +49,7 @@ module _ {E A : Type 0} where
 -- ---- what a chain gains
 
 module _ {E A : Type 0} (reached : Option A → List E → Lives → Type 0) (notes : E → ℕ → LifeEvent → Type 0) where
-  goes_begins : (base : Option A) (alone : Bool) (g : ℕ) (seen : Sight E) (owed : Todo) (ss : List (Step E)) (seen' : Sight E) (owed' : Todo)
+  pub goes_begins : (base : Option A) (alone : Bool) (g : ℕ) (seen : Sight E) (owed : Todo) (ss : List (Step E)) (seen' : Sight E) (owed' : Todo)
       → Goes reached notes base alone g seen owed ss seen' owed' → IsPrefix seen.entries seen'.entries × (seen.faults ≤ seen'.faults)
   goes_begins base alone g seen owed [] seen' owed' (a, b) =
       subst (λ (h : Sight E). IsPrefix seen.entries h.entries × (seen.faults ≤ h.faults)) (sym a) (prefix_self seen.entries, omega arith)

@@ -1,5 +1,8 @@
 mod Ranks
+mod Running
 mod Taking
+mod Planning
 mod Driving
-mod Gaining
+pub mod Gaining
 mod Waiting
+mod Breaking

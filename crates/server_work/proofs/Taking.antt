@@ -17,26 +17,32 @@ use Rattle.server_work.specs.LifeVisits.{LifeVisited}
 use Rattle.server_work.specs.Chains.{Sight, sight}
 use Rattle.server_work.specs.Taken.{Took}
 
-same_sight : {E : Type 0} {h k : List E} {m n : ℕ} → h ≡ k → m ≡ n → ◌≡◌ {A = Sight E} (record { entries = h; faults = m }) (record { entries = k; faults = n })
+pub same_sight : {E : Type 0} {h k : List E} {m n : ℕ} → h ≡ k → m ≡ n → ◌≡◌ {A = Sight E} (record { entries = h; faults = m }) (record { entries = k; faults = n })
 same_sight a b = cc (a, b)
 
 pub taken : {B E A : Type 0} (entries : B → List E) (base : B → A) (faults : B → ℕ) (lives : B → Lives)
     (reached : Option A → List E → Lives → Type 0) (notes : E → ℕ → LifeEvent → Type 0)
     (p q : PassState E A) (b b' : B) (g : ℕ) (outcome : LifeEvent) (r : Result Lived LifeRefusal)
-    → reached (Some (base b)) (entries b) (lives b)
-    → LifeVisited notes (entries b) (entries b') (lives b) (faults b) (faults b') g outcome r
+    → todo_of outcome ≢ Nothing
+    → reached (Some (base b)) (entries b) (lives b) → reached (Some (base b')) (entries b') (lives b')
+    → LifeVisited notes (entries b) (entries b') (lives b) (lives b') (faults b) (faults b') g outcome r
     → Visited entries base faults p q b b'
     → Took reached notes p q g outcome r
-taken {B} {E} {A} entries base faults lives reached notes p q b b' g outcome (Ok l) at v d = record {
-  step = record { found = record { entries = entries b; faults = faults b }; lives = lives b; entry = v.entry; outcome = outcome; made = v.made; owes = l.todo; kept = l.kept; faults = faults b' };
+taken {B} {E} {A} entries base faults lives reached notes p q b b' g outcome (Ok l) some at later v d = record {
+  step = record { found = record { entries = entries b; faults = faults b }; lives = lives b; entry = v.entry; outcome = outcome; made = v.made; owes = l.todo; kept = l.kept; after = lives b'; faults = faults b' };
   of = refl;
   owes = refl;
   kept = refl;
   comes = (d.begins, d.known, λ alone. same_sight (d.whole alone) (d.exact alone));
   is = record {
+    some = some;
     of = refl;
     at = subst (λ (o : Option A). reached o (entries b) (lives b)) (sym d.found_base) at;
+    takes = (v.taken, v.takes);
     row = v.row;
+    left = v.left;
+    later = subst (λ (h : List E). reached p.base h (lives b')) v.appends
+        (subst (λ (o : Option A). reached o (entries b') (lives b')) (sym (d.found_base ∙ ap Some (sym d.left_base))) later);
     entry = v.notes_it;
     kept = v.kept;
     grown = d.grown;
@@ -47,7 +53,7 @@ taken {B} {E} {A} entries base faults lives reached notes p q b b' g outcome (Ok
       (ap (λ h. drop (length (entries b)) h) v.appends ∙ drop-append_seam (entries b) (v.entry ∷ []));
   failed = d.failed;
 }
-taken {B} {E} {A} entries base faults lives reached notes p q b b' g outcome (Err e) at v d = record {
+taken {B} {E} {A} entries base faults lives reached notes p q b b' g outcome (Err e) some at later v d = record {
   refused = record {
     lives = lives b;
     error = e;

@@ -10,9 +10,9 @@ use Rattle.server_life.specs.declared.life.LifeRefusal.{LifeRefusal}
 use Rattle.server_life.specs.declared.life.Todo.{Todo}
 use Rattle.server_life.specs.declared.life.Todo.TheVariants.{Nothing, Start, AddRoute, DeleteRoute, StopProgram, Poll}
 use Rattle.server_life.specs.LifeTable.{row, or_refused, life_after, stop_refusal, generation_of, is_generation}
-use Rattle.server_work.specs.LifeSteps.{Lives, step_at, step_of}
-use Rattle.server_work.specs.Outcomes.{todo_of}
-use Rattle.server_work.specs.Broken.{LifeEntry, plain, begun, event, set_life, left_in, left_of, Moves, Path, is_ask_stop, is_outcome_of, waits, Waits, HasOutcome, BrokenByOther, WaitsAfter}
+use Rattle.server_work.specs.LifeSteps.{Lives, step_at, step_of, left_of, IsSet}
+use Rattle.server_work.specs.Outcomes.{todo_of, is_end}
+use Rattle.server_work.specs.Broken.{LifeEntry, plain, begun, event, Moves, Path, is_ask_stop, is_outcome_of, waits, Waits, HasOutcome, BrokenByOther, WaitsAfter}
 use Rattle.server_work.proofs.Ranks.{line_of}
 
 same_number : (g h : ℕ) → nat_eq g h ≡ true → g ≡ h
@@ -51,22 +51,22 @@ stop_line life h e made t taken = absurd (cc (t))
 
 -- ---- an entry that isn't an outcome of the generation leaves the life waiting
 
-other_life : (g h : ℕ) (life : Option Life) (lives after : Lives) (owed : Todo) → nat_eq g h ≡ false → after ≡ set_life h life lives → Waits lives g owed → Waits after g owed
+other_life : (g h : ℕ) (life : Option Life) (lives after : Lives) (owed : Todo) → nat_eq g h ≡ false → IsSet h life lives after → Waits lives g owed → Waits after g owed
 other_life g h life lives after owed ne is w = record {
   life = w.life;
-  is = ap (λ f. f g) is ∙ (ap (λ (b : Bool). if b then life else lives g) ne ∙ w.is);
+  is = is g ∙ (ap (λ (b : Bool). if b then life else lives g) ne ∙ w.is);
   at = w.at;
 }
 
-own_life : (g h : ℕ) (life : Option Life) (lives after : Lives) (made : Life) (owed : Todo) → nat_eq g h ≡ true → after ≡ set_life h life lives → life ≡ Some made → waits made.phase owed ≡ Some g → Waits after g owed
+own_life : (g h : ℕ) (life : Option Life) (lives after : Lives) (made : Life) (owed : Todo) → nat_eq g h ≡ true → IsSet h life lives after → life ≡ Some made → waits made.phase owed ≡ Some g → Waits after g owed
 own_life g h life lives after made owed eq is some at = record {
   life = made;
-  is = ap (λ f. f g) is ∙ (ap (λ (b : Bool). if b then life else lives g) eq ∙ some);
+  is = is g ∙ (ap (λ (b : Bool). if b then life else lives g) eq ∙ some);
   at = at;
 }
 
 moved : (g : ℕ) (lives after : Lives) (x : LifeEntry) (owed : Todo) → Waits lives g owed → Moves lives x after → is_outcome_of g x ≡ false → Waits after g owed
-moved g lives after plain owed w m free = subst (λ (l : Lives). Waits l g owed) (sym m) w
+moved g lives after plain owed w m free = record { life = w.life; is = m g ∙ w.is; at = w.at }
 moved g lives after (begun h) owed w m free = start (nat_eq g h) refl
   where
     start : (b : Bool) → nat_eq g h ≡ b → Waits after g owed
@@ -135,7 +135,7 @@ choose g x xs later false e = found g x xs (later e)
 pub broken_by_other : BrokenByOther
 broken_by_other lives after [] g o error w path refused =
     let t = life_takes w.life o g w.at in
-    absurd (cc (refused, ap (λ f. step_at f g o) path, ap (λ l. step_of l g o) w.is, t.1))
+    absurd (cc (sym refused ∙ (ap (λ l. step_of l g o) (path g ∙ w.is) ∙ t.1)))
 broken_by_other lives after (x ∷ xs) g o error w path refused =
     choose g x xs (λ e. broken_by_other path.0 after xs g o error (moved g lives path.0 x (todo_of o) w path.1 e) path.2 refused) (is_outcome_of g x) refl
 
@@ -174,10 +174,48 @@ of_lives (Some l) g o m some h owes =
     subst (WaitOk l.phase) line.1 (wait_rows g l.phase l.stop_asked o some) owes g (same_generation g (generation_of l.phase) line.0)
 
 pub waits_after : WaitsAfter
-waits_after lives g o made owes some taken more =
+waits_after lives after g o made owes some taken more set =
     let r = of_lives (lives g) g o (made, owes) some taken more in
-    record { life = made; is = own (nat_eq g g) (grind (arith, nat_tests)) r.1; at = r.0 }
+    record { life = made; is = set g ∙ own (nat_eq g g) (grind (arith, nat_tests)) r.1; at = r.0 }
   where
     own : (b : Bool) → b ≡ true → left_of made ≡ Some made → (if b then left_of made else lives g) ≡ Some made
     own true e f = f
     own false e f = absurd (cc (e))
+
+-- ---- an outcome that ends a life owes nothing
+
+abbrev EndOk : LifeEvent → Option (Life × Todo) → Type 0
+EndOk e None = Unit {0}
+EndOk e (Some m) = m.1 ≢ Nothing → is_end e ≡ false
+
+ended_rows : (k : ℕ) (ph : Phase) (asked : Bool) → EndOk Ended (row k ph Ended asked)
+ended_rows k Stopped b = tt
+ended_rows k (Adopting h) b = tt
+ended_rows k (Spawning h) b = tt
+ended_rows k (Routing h) b = tt
+ended_rows k (Ready h) b = tt
+ended_rows k (Unrouting h) b = tt
+ended_rows k (Stopping h) b = λ n. absurd (n refl)
+ended_rows k (Parked h at) b = tt
+
+spawn_rows : (k : ℕ) (ph : Phase) (asked : Bool) → EndOk SpawnFailed (row k ph SpawnFailed asked)
+spawn_rows k Stopped b = tt
+spawn_rows k (Adopting h) b = tt
+spawn_rows k (Spawning h) b = λ n. absurd (n refl)
+spawn_rows k (Routing h) b = tt
+spawn_rows k (Ready h) b = tt
+spawn_rows k (Unrouting h) b = tt
+spawn_rows k (Stopping h) b = tt
+spawn_rows k (Parked h at) b = tt
+
+end_line : (l : Life) (g : ℕ) (o : LifeEvent) (m : Life × Todo) → row g l.phase o l.stop_asked ≡ Some m → m.1 ≢ Nothing → is_end o ≡ false
+end_line l g Ended m line owes = absurd (cc (subst (EndOk Ended) line (ended_rows g l.phase l.stop_asked) owes))
+end_line l g SpawnFailed m line owes = absurd (cc (subst (EndOk SpawnFailed) line (spawn_rows g l.phase l.stop_asked) owes))
+end_line l g o m line owes = refl
+
+end_of_life : (life : Option Life) (g : ℕ) (o : LifeEvent) (m : Life × Todo) → todo_of o ≢ Nothing → step_of life g o ≡ Ok m → m.1 ≢ Nothing → is_end o ≡ false
+end_of_life None g o m some h owes = absurd (cc (h))
+end_of_life (Some l) g o m some h owes = end_line l g o m (line_of l g o m some h).1 owes
+
+pub no_end : (lives : Lives) (g : ℕ) (o : LifeEvent) (m : Life × Todo) → todo_of o ≢ Nothing → step_at lives g o ≡ Ok m → m.1 ≢ Nothing → is_end o ≡ false
+no_end lives g o m some h owes = end_of_life (lives g) g o m some h owes

@@ -1,15 +1,18 @@
 -- Why a chain breaks: what the entries of others do to a life that waits for an outcome.
-use Rattle.std.specs.Prelude.{◌≡◌, ◌≢◌, ℕ, Bool, true, false, if◌then◌else◌, List, [], ◌∷◌, ◌++◌, Option, Some, None, Ok, Err, nat_eq}
+use Rattle.std.specs.Prelude.{◌≡◌, ◌≢◌, ◌<◌, ℕ, Bool, true, false, if◌then◌else◌, List, [], ◌∷◌, ◌++◌, length, Option, Some, None, Ok, Err, nat_eq}
 use Rattle.server_life.specs.declared.life.Phase.{Phase}
-use Rattle.server_life.specs.declared.life.Phase.TheVariants.{Stopped, Adopting, Spawning, Routing, Unrouting, Stopping}
+use Rattle.server_life.specs.declared.life.Phase.TheVariants.{Adopting, Spawning, Routing, Unrouting, Stopping}
 use Rattle.server_life.specs.declared.life.Life.{Life}
 use Rattle.server_life.specs.declared.life.LifeEvent.{LifeEvent}
 use Rattle.server_life.specs.declared.life.LifeEvent.TheVariants.{AskStop}
 use Rattle.server_life.specs.declared.life.LifeRefusal.{LifeRefusal}
 use Rattle.server_life.specs.declared.life.Todo.{Todo}
 use Rattle.server_life.specs.declared.life.Todo.TheVariants.{Nothing, Start, AddRoute, DeleteRoute, StopProgram, Poll}
-use Rattle.server_work.specs.LifeSteps.{Lives, step_at}
+use Rattle.desk.specs.OwnEntries.{StandIn, Owns}
+use Rattle.server_work.specs.declared.work.Work.{Work}
+use Rattle.server_work.specs.LifeSteps.{Lives, step_at, left_of, IsSet}
 use Rattle.server_work.specs.Outcomes.{todo_of}
+use Rattle.server_work.specs.Chains.{At, Chain, Broke}
 
 -- an entry of the history, as far as lives go: none, a start, or an event of a generation
 pub data LifeEntry : Type 0 where
@@ -17,26 +20,15 @@ pub data LifeEntry : Type 0 where
   begun : ℕ → LifeEntry
   event : ℕ → LifeEvent → LifeEntry
 
-abbrev pub set_life : ℕ → Option Life → Lives → Lives
-set_life g life lives = λ k. if nat_eq k g then life else lives k
-
-abbrev pub left_in : Phase → Life → Option Life
-left_in Stopped life = None
-left_in phase life = Some life
-
--- a life that has ended is no more
-abbrev pub left_of : Life → Option Life
-left_of life = left_in life.phase life
-
 -- a legal entry, and the lives after it
 abbrev pub Moves : Lives → LifeEntry → Lives → Type 0
-Moves lives plain after = after ≡ lives
-Moves lives (begun h) after = (lives h ≡ None) × (life : Life) × (after ≡ set_life h (Some life) lives)
-Moves lives (event h e) after = (made : Life) × (owes : Todo) × (step_at lives h e ≡ Ok (made, owes)) × (after ≡ set_life h (left_of made) lives)
+Moves lives plain after = (k : ℕ) → after k ≡ lives k
+Moves lives (begun h) after = (lives h ≡ None) × (life : Life) × IsSet h (Some life) lives after
+Moves lives (event h e) after = (made : Life) × (owes : Todo) × (step_at lives h e ≡ Ok (made, owes)) × IsSet h (left_of made) lives after
 
 -- a legal history, and the lives after it
 abbrev pub Path : Lives → List LifeEntry → Lives → Type 0
-Path lives [] after = after ≡ lives
+Path lives [] after = (k : ℕ) → after k ≡ lives k
 Path lives (x ∷ xs) after = (mid : Lives) × Moves lives x mid × Path mid xs after
 
 abbrev pub is_ask_stop : LifeEvent → Bool
@@ -74,5 +66,46 @@ BrokenByOther = (lives after : Lives) (xs : List LifeEntry) (g : ℕ) (o : LifeE
 
 -- after an outcome that owes something, the life waits for the outcome of that
 abbrev pub WaitsAfter : Type 0
-WaitsAfter = (lives : Lives) (g : ℕ) (o : LifeEvent) (made : Life) (owes : Todo) → todo_of o ≢ Nothing → step_at lives g o ≡ Ok (made, owes)
-    → owes ≢ Nothing → Waits (set_life g (left_of made) lives) g owes
+WaitsAfter = (lives after : Lives) (g : ℕ) (o : LifeEvent) (made : Life) (owes : Todo) → todo_of o ≢ Nothing → step_at lives g o ≡ Ok (made, owes)
+    → owes ≢ Nothing → IsSet g (left_of made) lives after → Waits after g owes
+
+-- ---- chains of a pass
+
+-- what the entries are, as far as lives go
+abbrev pub AreEntries : {E : Type 0} → (E → LifeEntry → Type 0) → List E → List LifeEntry → Type 0
+AreEntries is_entry [] [] = Unit {0}
+AreEntries is_entry (x ∷ xs) (e ∷ es) = is_entry x e × AreEntries is_entry xs es
+AreEntries is_entry xs es = ⊥
+
+module _ {E A : Type 0} (reached : Option A → List E → Lives → Type 0) (is_entry : E → LifeEntry → Type 0) where
+  -- the history after each place is a legal one
+  abbrev pub Follows : Type 0
+  Follows = (base : Option A) (h xs : List E) (lives after : Lives) → reached base h lives → reached base (h ++ xs) after
+      → (es : List LifeEntry) × AreEntries is_entry xs es × Path lives es after
+
+  -- the life of the generation waits there for the outcome of what is owed
+  pub record WaitsAt (base : Option A) (h : List E) (g : ℕ) (owed : Todo) : Type 0 where
+    pub lives : Lives
+    pub at : reached base h lives
+    pub waits : Waits lives g owed
+
+  -- past the place that the pass had seen, and so past all its own entries, stands an event of the generation's life other than a wish to stop
+  pub record OthersCame (g : ℕ) (seen later : List E) (mine : List (ℕ × E)) : Type 0 where
+    pub since : List E
+    pub later_is : later ≡ seen ++ since
+    pub events : List LifeEntry
+    pub are : AreEntries is_entry since events
+    pub outcome : HasOutcome g events
+    pub own : (n : ℕ) → Owns n mine → n < length seen
+
+module _ {E A : Type 0} (reached : Option A → List E → Lives → Type 0) (notes : E → ℕ → LifeEvent → Type 0) (is_entry : E → LifeEntry → Type 0) where
+  -- a chain that was waited for breaks only where another pass made such an entry after the last one of the chain
+  abbrev pub BrokenByOthers : Type 0
+  BrokenByOthers = (w : Work) (x y : At E A) (first : Todo) (k : Chain E) → StandIn x.pass.seen x.pass.mine
+      → WaitsAt reached is_entry x.pass.base x.pass.seen w.generation first → (b : Broke reached notes w x first k y)
+      → OthersCame reached is_entry w.generation b.seen.entries y.pass.seen y.pass.mine
+
+  -- where the pass is alone no chain that was waited for breaks
+  abbrev pub AloneUnbroken : Type 0
+  AloneUnbroken = (w : Work) (x y : At E A) (first : Todo) (k : Chain E) → x.pass.alone ≡ true
+      → WaitsAt reached is_entry x.pass.base x.pass.seen w.generation first → Broke reached notes w x first k y → ⊥

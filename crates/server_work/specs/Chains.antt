@@ -15,7 +15,7 @@ use Rattle.server_life.specs.declared.life.Todo.TheVariants.{Nothing}
 use Rattle.server_work.specs.declared.work.Work.{Work}
 use Rattle.server_work.specs.declared.work.Kept.{Kept}
 use Rattle.server_work.specs.declared.tale.Tale.{Tale}
-use Rattle.server_work.specs.LifeSteps.{Lives, step_at}
+use Rattle.server_work.specs.LifeSteps.{Lives, step_at, left_of, IsSet}
 use Rattle.server_work.specs.Outcomes.{todo_of, spawner_did, routes_did, is_end, noted, KeptAs}
 use Rattle.server_work.specs.Tales.{new_tale, tale_with}
 
@@ -36,8 +36,8 @@ Comes alone seen found = IsPrefix seen.entries found.entries × (seen.faults ≤
 
 -- ---- the steps of a chain
 
--- an entry of a chain: what the visit found, and the lives there; the outcome, with what the life table makes of it and owes then; whether an end was kept;
--- and the book's count of faults afterwards
+-- an entry of a chain: what the visit found, and the lives there; the outcome; what the life became, and what it owes then; whether an end was kept; and
+-- the lives and the book's count of faults afterwards
 pub record Step (E : Type 0) : Type 0 where
   pub found : Sight E
   pub lives : Lives
@@ -46,6 +46,7 @@ pub record Step (E : Type 0) : Type 0 where
   pub made : Life
   pub owes : Todo
   pub kept : Kept
+  pub after : Lives
   pub faults : ℕ
 
 -- the steps, and the outcome that was refused, if one was
@@ -88,11 +89,15 @@ pub record At (E A : Type 0) : Type 0 where
 
 -- `reached a h lives`: from the base a the entries h lead to these lives; `notes e g event`: the entry e is this event of the life of the generation g
 module _ {E A : Type 0} (reached : Option A → List E → Lives → Type 0) (notes : E → ℕ → LifeEvent → Type 0) where
-  -- the step takes the outcome of the call that is owed, by the life at its place
+  -- the life at the place of the step takes the outcome of the call that it owes, and becomes what the life table makes of what is noted
   pub record IsStep (base : Option A) (g : ℕ) (owed : Todo) (s : Step E) : Type 0 where
+    pub some : owed ≢ Nothing
     pub of : todo_of s.outcome ≡ owed
     pub at : reached base s.found.entries s.lives
-    pub row : step_at s.lives g s.outcome ≡ Ok (s.made, s.owes)
+    pub takes : (taken : Life) × (step_at s.lives g s.outcome ≡ Ok (taken, s.owes))
+    pub row : step_at s.lives g (noted s.outcome s.kept) ≡ Ok (s.made, s.owes)
+    pub left : IsSet g (left_of s.made) s.lives s.after
+    pub later : reached base (s.found.entries ++ s.entry ∷ []) s.after
     pub entry : notes s.entry g (noted s.outcome s.kept)
     pub kept : KeptAs (is_end s.outcome) s.found.faults s.faults s.kept
     pub grown : s.found.faults ≤ s.faults

@@ -1,5 +1,7 @@
 -- The lives of servers by their generations, and how an event is taken there.
-use Rattle.std.specs.Prelude.{ℕ, Option, Some, None, Result, Err}
+use Rattle.std.specs.Prelude.{◌≡◌, ℕ, Option, Some, None, Result, Err, nat_eq, if◌then◌else◌}
+use Rattle.server_life.specs.declared.life.Phase.{Phase}
+use Rattle.server_life.specs.declared.life.Phase.TheVariants.{Stopped}
 use Rattle.server_life.specs.declared.life.Life.{Life}
 use Rattle.server_life.specs.declared.life.LifeEvent.{LifeEvent}
 use Rattle.server_life.specs.declared.life.LifeRefusal.{LifeRefusal}
@@ -18,3 +20,15 @@ step_of (Some life) g event = life_after life g event
 -- what the event makes of the life of its generation; a generation that isn't live takes none
 abbrev pub step_at : Lives → ℕ → LifeEvent → Result (Life × Todo) LifeRefusal
 step_at lives g event = step_of (lives g) g event
+
+abbrev pub left_in : Phase → Life → Option Life
+left_in Stopped life = None
+left_in phase life = Some life
+
+-- a life that has ended is no more
+abbrev pub left_of : Life → Option Life
+left_of life = left_in life.phase life
+
+-- the generation has this life afterwards, and each other one has what it had
+abbrev pub IsSet : ℕ → Option Life → Lives → Lives → Type 0
+IsSet g life before after = (k : ℕ) → after k ≡ (if nat_eq k g then life else before k)

@@ -6,6 +6,7 @@ ghost use Rattle.server_life.specs.declared.life.Todo.TheVariants.{Nothing};
 ghost use Rattle.server_work.specs.Outcomes.{todo_of};
 ghost use Rattle.server_work.specs.LifeSteps.{Lives};
 ghost use Rattle.server_work.specs.LifeVisits.{LifeVisited};
+ghost use Rattle.server_work.specs.Broken.{LifeEntry, Follows};
 
 use crate::work::Kept;
 use desk::Booked;
@@ -31,8 +32,19 @@ pub trait LifeBook: Booked {
     /// Takes what came of a call that a life owed, or tells why the life doesn't take it.
     fn life(&mut self, generation: u64, outcome: LifeEvent) -> Result<Lived, LifeRefusal>
         ensures found { reached (Some (Self.base self.old)) (Self.entries self.old) (lives self.old) }
-        ensures visited { todo_of outcome ≢ Nothing → LifeVisited notes (Self.entries self.old) (Self.entries self.new) (lives self.old) (Self.faults self.old) (Self.faults self.new) generation outcome result }
+        ensures left { reached (Some (Self.base self.new)) (Self.entries self.new) (lives self.new) }
+        ensures visited { todo_of outcome ≢ Nothing → LifeVisited notes (Self.entries self.old) (Self.entries self.new) (lives self.old) (lives self.new) (Self.faults self.old) (Self.faults self.new) generation outcome result }
         ensures appends { IsPrefix (Self.entries self.old) (Self.entries self.new) }
         ensures base { Self.base self.new ≡ Self.base self.old }
         ensures counted { Self.faults self.old ≤ Self.faults self.new };
+}
+
+/// A book whose history after each place is a legal one of lives.
+pub trait ToldBook: LifeBook {
+    /// What an entry is, as far as lives go.
+    ghost is_entry: { Self.Entry → LifeEntry → Type 0 };
+
+    /// It does nothing: its contract is the law.
+    fn follows()
+        ensures { Follows Self.reached is_entry };
 }

@@ -3,8 +3,10 @@ ghost use Rattle.std.specs.Prelude.{◌≡◌, ◌≢◌, ◌≤◌, ◌<◌, �
 ghost use Rattle.server_life.specs.declared.life.Todo.TheVariants.{Nothing, Start};
 ghost use Rattle.hub_devices.specs.Calls.{Grows};
 ghost use Rattle.hub_devices.specs.Faults.{Rises};
+ghost use Rattle.hub_devices.specs.Running.{Sets};
 ghost use Rattle.server_work.specs.declared.work.Device.TheVariants as Device;
-ghost use Rattle.server_work.specs.Outcomes.{todo_of, device_of, spawner_did, routes_did};
+ghost use Rattle.server_work.specs.Outcomes.{todo_of, device_of, spawner_did, routes_did, is_end};
+ghost use Rattle.server_work.specs.Runs.{KeepsOthers};
 ghost use Rattle.server_work.specs.LifeVisits.{LifeVisited};
 ghost use Rattle.server_work.specs.Chains.{Chain, ChainEnds};
 ghost use Rattle.server_work.specs.Taken.{Took};
@@ -32,7 +34,8 @@ impl<B: LifeBook> Job<B> for LifeJob {
     ghost acted = { λ j. j.acted };
 
     ghost does = { λ j b r j' b'. B.reached (Some (B.base b)) (B.entries b) (B.lives b)
-        × (todo_of j.outcome ≢ Nothing → LifeVisited B.notes (B.entries b) (B.entries b') (B.lives b) (B.faults b) (B.faults b') j.generation j.outcome r) };
+        × B.reached (Some (B.base b')) (B.entries b') (B.lives b')
+        × (todo_of j.outcome ≢ Nothing → LifeVisited B.notes (B.entries b) (B.entries b') (B.lives b) (B.lives b') (B.faults b) (B.faults b') j.generation j.outcome r) };
 
     fn act(&mut self, book: &mut B) -> Result<Lived, LifeRefusal> {
         self.acted = true;
@@ -61,6 +64,7 @@ fn take_outcome<B: LifeBook, R: Wait>(
 }
 
 /// Makes the one call that is owed, and tells its outcome.
+#[tactic(auto, using(crate::proofs::Running::keeps_same, crate::proofs::Running::sets_keeps))]
 fn ask<S: Spawner, P: RouteLink>(
     spawner: &mut S,
     routes: &mut P,
@@ -75,6 +79,8 @@ fn ask<S: Spawner, P: RouteLink>(
     ensures routes { Grows (P.calls routes.old) (routes_did work.now result) (P.calls routes.new) }
     ensures spawner_counted { S.faults spawner.old ≤ S.faults spawner.new }
     ensures routes_counted { P.faults routes.old ≤ P.faults routes.new }
+    ensures others { KeepsOthers (S.may_run spawner.old) work.now.generation (S.may_run spawner.new) }
+    ensures gone { is_end result ≡ true → Sets (S.may_run spawner.old) work.now.generation false (S.may_run spawner.new) }
     ensures spawner_cause { device_of result ≡ Some Device.Spawner → Rises (S.faults spawner.old) (S.faults spawner.new) }
     ensures routes_cause { device_of result ≡ Some Device.Proxy → Rises (P.faults routes.old) (P.faults routes.new) }
 {
@@ -135,6 +141,8 @@ pub fn drive<B: LifeBook, S: Spawner, P: RouteLink, R: Wait>(
         (record { pass = pass.new; spawner = S.calls spawner.new; routes = P.calls routes.new }) }
     ensures spawner_counted { S.faults spawner.old ≤ S.faults spawner.new }
     ensures routes_counted { P.faults routes.old ≤ P.faults routes.new }
+    ensures others { KeepsOthers (S.may_run spawner.old) work.now.generation (S.may_run spawner.new) }
+    ensures gone { IfSome result (λ tale. tale.stopped ≡ true → Sets (S.may_run spawner.old) work.now.generation false (S.may_run spawner.new)) }
     ensures spawner_cause { IfSome result (λ tale. tale.failed ≡ Some Device.Spawner → Rises (S.faults spawner.old) (S.faults spawner.new)) }
     ensures routes_cause { IfSome result (λ tale. tale.failed ≡ Some Device.Proxy → Rises (P.faults routes.old) (P.faults routes.new)) }
 {

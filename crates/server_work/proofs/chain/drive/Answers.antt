@@ -2,7 +2,8 @@ use Rattle.std.proofs.Common.{rules, ◌≡◌, ◌≢◌, ◌≤◌, ◌<◌, �
 use Rattle.server_life.specs.declared.life.Todo.TheVariants.{Nothing}
 use Rattle.server_work.specs.declared.work.Device.TheVariants as Device
 use Rattle.server_work.specs.Outcomes.{device_of}
-use Rattle.server_work.proofs.Driving.{drove_none, drove_on, told_on, owes_less, owes_no_start, drove_broken, drove_ended, caused}
+use Rattle.server_work.proofs.Driving.{drove_none, drove_on, told_on, owes_less, owes_no_start, drove_broken, drove_ended, stopped_end, caused}
+use Rattle.server_work.proofs.Running.{keeps_same, keeps_then, keeps_sets}
 use Rattle.server_work.proofs.chain.drive.Goals as goal
 
 pub steps-init : goal.steps-init
@@ -11,6 +12,7 @@ steps-init g c = record {
   of = c.requires.of;
   some = c.requires.owed;
   secret = c.requires.secret;
+  others = keeps_same _ c.args.work.now.generation _ refl;
   spawner_counted = omega arith;
   routes_counted = omega arith;
   spawner_cause = λ e. absurd (cc (e, ap (λ t. t.failed) c.new-tale.ensures));
@@ -36,6 +38,7 @@ steps-preserved g c =
       some = search rules;
       secret = λ start. absurd (owes_no_start g.B.LifeBook.reached g.B.LifeBook.notes _ _ c.args.work.now.generation c.ask-outcome.result c.in-Ok.lived c.steps.owed
           m c.ask-outcome.ensures.of c.steps.invariant.some start);
+      others = keeps_then _ _ _ c.args.work.now.generation c.steps.invariant.others c.ask-outcome.ensures.others;
       spawner_counted = omega (arith, c.steps.invariant.spawner_counted, c.ask-outcome.ensures.spawner_counted);
       routes_counted = omega (arith, c.steps.invariant.routes_counted, c.ask-outcome.ensures.routes_counted);
       spawner_cause = λ e. caused c.steps.tale.failed (device_of c.ask-outcome.result) Device.Spawner _ _ _ c.steps.invariant.spawner_counted c.ask-outcome.ensures.spawner_counted
@@ -76,3 +79,14 @@ returns-then-is_nothing-clause-of g c = c.in-Ok.ensures.took.same.0 ∙ c.steps.
 
 pub returns-in-Err-clause-of : goal.returns-in-Err-clause-of
 returns-in-Err-clause-of g c = c.in-Err.ensures.took.same.0 ∙ c.steps.invariant.drove.1.same.0
+
+pub returns-then-is_nothing-clause-others : goal.returns-then-is_nothing-clause-others
+returns-then-is_nothing-clause-others g c = keeps_then _ _ _ c.args.work.now.generation c.steps.invariant.others c.ask-outcome.ensures.others
+
+pub returns-in-Err-clause-others : goal.returns-in-Err-clause-others
+returns-in-Err-clause-others g c = keeps_then _ _ _ c.args.work.now.generation c.steps.invariant.others c.ask-outcome.ensures.others
+
+pub returns-then-is_nothing-clause-gone : goal.returns-then-is_nothing-clause-gone
+returns-then-is_nothing-clause-gone g c = λ stopped.
+    keeps_sets _ _ _ c.args.work.now.generation _ c.steps.invariant.others
+    (c.ask-outcome.ensures.gone (stopped_end c.ask-outcome.result c.in-Ok.lived.kept (sym (ap (λ t. t.stopped) c.with-tale.ensures) ∙ stopped)))

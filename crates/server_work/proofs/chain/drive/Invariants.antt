@@ -4,6 +4,7 @@ use Rattle.server_life.specs.declared.life.Todo.TheVariants.{Nothing, Start}
 use Rattle.hub_devices.specs.Faults.{Rises}
 use Rattle.server_work.specs.declared.work.Device.TheVariants as Device
 use Rattle.server_work.specs.Tales.{new_tale}
+use Rattle.server_work.specs.Runs.{KeepsOthers}
 use Rattle.server_work.specs.Chains.{Step, sight, tale_from, Drove}
 use Rattle.server_work.proofs.Ranks.{rank}
 use Rattle.server_work.proofs.chain.drive.Given as goal
@@ -17,6 +18,7 @@ invariant-steps g l = record {
   of : l.pass.of ≡ l.desk;
   some : l.owed ≢ Nothing;
   secret : l.owed ≡ Start → IsSome l.work.secret;
+  others : KeepsOthers (g.S.Spawner.may_run l.fn.spawner) l.work.generation (g.S.Spawner.may_run l.spawner);
   spawner_counted : g.S.Spawner.faults l.fn.spawner ≤ g.S.Spawner.faults l.spawner;
   routes_counted : g.P.RouteLink.faults l.fn.routes ≤ g.P.RouteLink.faults l.routes;
   spawner_cause : l.tale.failed ≡ Some Device.Spawner → Rises (g.S.Spawner.faults l.fn.spawner) (g.S.Spawner.faults l.spawner);
