@@ -98,10 +98,10 @@ impl Purge<OAuthClient> for Client {
     ghost makes = { λ client row. Remove (RowKey.OAuthClient row.id) };
 
     fn is_taken(&self, row: &OAuthClient) -> bool {
-        row.id == self.id
+        *row.id.as_text() == self.id
     }
 
     fn change(&self, alloc: Global, row: &OAuthClient) -> Result<RowChange, AllocError> {
-        Ok(RowChange::Remove(RowKey::OAuthClient(row.id.copy(alloc)?)))
+        Ok(RowChange::Remove(RowKey::OAuthClient(row.id.as_text().copy(alloc)?)))
     }
 }

@@ -136,11 +136,15 @@ impl Purge<OAuthClient> for Clients {
     ghost makes = { λ clients client. Remove (RowKey.OAuthClient client.id) };
 
     fn is_taken(&self, client: &OAuthClient) -> bool {
-        client.id.as_bytes().starts_with(self.beginning.as_bytes())
+        client
+            .id
+            .as_text()
+            .as_bytes()
+            .starts_with(self.beginning.as_bytes())
     }
 
     fn change(&self, alloc: Global, client: &OAuthClient) -> Result<RowChange, AllocError> {
-        Ok(RowChange::Remove(RowKey::OAuthClient(client.id.copy(alloc)?)))
+        Ok(RowChange::Remove(RowKey::OAuthClient(client.id.as_text().copy(alloc)?)))
     }
 }
 

@@ -1,5 +1,5 @@
 //! The rows of a configuration, put into tables.
-ghost use Rattle.std.specs.Prelude.{◌≡◌, ◌++◌, ℕ, Bool, fold, codes, IfOk, OnOk};
+ghost use Rattle.std.specs.Prelude.{◌≡◌, ℕ, Bool, fold, IfOk, OnOk};
 ghost use Rattle.std.specs.FinMap.{contains_key};
 ghost use Rattle.std.specs.List.{filter};
 ghost use Rattle.std.specs.Option.{option_copied};
@@ -16,6 +16,8 @@ use hub_kit::moment::Moment;
 use hub_kit::names::{GroupName, ServiceName, UserName};
 use hub_kit::text::Text;
 use hub_rows::changes::RowChange;
+use hub_rows::client_id::ClientId;
+use hub_rows::counter::Counter;
 use hub_rows::records::{Group, Next, OAuthClient, Role, Service, Token, User};
 use hub_rows::rows::Row;
 use hub_tables::tables::Tables;
@@ -83,9 +85,9 @@ impl Configured for ConfigToken {
     ghost put = { spec.with_token };
 
     fn put(&self, alloc: Global, tables: &mut Tables, now: Moment) -> Result<(), AllocError> {
-        let name = Text::from_str(alloc, "token")?;
+        let name = Counter::token(alloc)?;
         let hash = hash_of(alloc, self.text.as_bytes())?;
-        let id = next_token(tables, &name);
+        let id = next_token(tables, name.as_text());
         if !tables.token_is_new(id, &hash) || !has_owner(tables, &self.owner) {
             return Ok(());
         }
@@ -205,15 +207,6 @@ fn add_service(tables: &mut Tables, name: ServiceName) -> Result<(), AllocError>
     change(tables, RowChange::Put(Row::Service(Service { name })))
 }
 
-/// The id of the client that a service is.
-fn client_id(alloc: Global, service: &ServiceName) -> Result<Text, AllocError>
-    ensures { IfOk result (λ id. id ≡ codes "service:" ++ service.now) }
-{
-    let mut id = Text::from_str(alloc, "service:")?;
-    id.push_str(service.as_str())?;
-    Ok(id)
-}
-
 /// The client of OAuth that a configured service is.
 fn client_of(alloc: Global, service: &ConfigService) -> Result<Option<OAuthClient>, AllocError>
     ensures { IfOk result (λ client. client ≡ spec.client_of service.now) }
@@ -225,7 +218,7 @@ fn client_of(alloc: Global, service: &ConfigService) -> Result<Option<OAuthClien
         return Ok(None);
     };
     Ok(Some(OAuthClient {
-        id: client_id(alloc, &service.name)?,
+        id: ClientId::of_service(alloc, &service.name)?,
         hash: hash_of(alloc, secret.as_bytes())?,
         redirect_uri: uri.copy(alloc)?,
     }))

@@ -2,7 +2,10 @@
 //! Ids, generations and the numbers of `Next` begin at 1.
 ghost use Rattle.std.specs.Prelude.{◌≡◌, IfOk};
 
+use crate::client_id::ClientId;
+use crate::counter::Counter;
 use crate::keys::ShareKey;
+use crate::shared_scopes::SharedScopes;
 use hub_kit::list::List;
 use hub_kit::moment::Moment;
 use hub_kit::names::{GroupName, RoleName, ServerKey, ServiceName, UserName};
@@ -137,7 +140,7 @@ impl Lease {
 pub struct Share {
     pub key: ShareKey,
     pub created: Moment,
-    pub scopes: List<RawScope>,
+    pub scopes: SharedScopes,
 }
 
 impl Share {
@@ -147,7 +150,7 @@ impl Share {
         Ok(Share {
             key: self.key,
             created: self.created,
-            scopes: copy_scopes(alloc, &self.scopes)?,
+            scopes: self.scopes.copy(alloc)?,
         })
     }
 }
@@ -178,10 +181,10 @@ impl ShareCode {
     }
 }
 
-/// A client of OAuth, `server:USER/SERVER` or `service:NAME`, with the hash of its secret.
+/// A client of OAuth, with the hash of its secret.
 #[derive(Drop)]
 pub struct OAuthClient {
-    pub id: Text,
+    pub id: ClientId,
     pub hash: Text,
     pub redirect_uri: Text,
 }
@@ -224,10 +227,10 @@ impl OAuthCode {
     }
 }
 
-/// The next number of a kind: `code`, `generation` or `token`.
+/// The next number of a kind.
 #[derive(Drop)]
 pub struct Next {
-    pub name: Text,
+    pub name: Counter,
     pub next: u64,
 }
 

@@ -85,7 +85,7 @@ impl Keyed<Text> for OAuthClient {
     ghost key_of = { λ row. row.id };
 
     fn key(&self) -> &Text {
-        &self.id
+        self.id.as_text()
     }
 }
 
@@ -101,6 +101,6 @@ impl Keyed<Text> for Next {
     ghost key_of = { λ row. row.name };
 
     fn key(&self) -> &Text {
-        &self.name
+        self.name.as_text()
     }
 }

@@ -81,9 +81,9 @@ impl Row {
             Row::Lease(row) => Ok(RowKey::Lease(row.target.copy(alloc)?)),
             Row::Share(row) => Ok(RowKey::Share(row.key)),
             Row::ShareCode(row) => Ok(RowKey::ShareCode(row.id)),
-            Row::OAuthClient(row) => Ok(RowKey::OAuthClient(row.id.copy(alloc)?)),
+            Row::OAuthClient(row) => Ok(RowKey::OAuthClient(row.id.as_text().copy(alloc)?)),
             Row::OAuthCode(row) => Ok(RowKey::OAuthCode(row.hash.copy(alloc)?)),
-            Row::Next(row) => Ok(RowKey::Next(row.name.copy(alloc)?)),
+            Row::Next(row) => Ok(RowKey::Next(row.name.as_text().copy(alloc)?)),
         }
     }
 }

@@ -25,7 +25,7 @@ pub fn make_grant_code(
 {
     Ok(OAuthCode {
         hash: hash_of(alloc, text.as_bytes())?,
-        client: client.id.copy(alloc)?,
+        client: client.id.as_text().copy(alloc)?,
         expires_at: now.later(LIFE),
         owner: *owner,
         redirect_uri: client.redirect_uri.copy(alloc)?,

@@ -1,10 +1,13 @@
 -- The objects of servers, leases, shares and next numbers.
-use Rattle.std.specs.Prelude.{ℕ, map, codes, Option, Some, None, refl}
+use Rattle.std.specs.Prelude.{ℕ, map, codes, Option, Some, None, IsTrue, refl}
 use Rattle.std.specs.List.{AllByRecursion}
 use Rattle.std.proofs.Common.{arith}
 use Rattle.hub_kit.specs.Targets.{IsTarget}
+use Rattle.keyed_rows.specs.Sorted.{IsInOrder}
 use Rattle.scope_filters.specs.Scopes.{scope_text}
 use Rattle.serde_json.specs.Data.{Data, string, object, Members, member, no_members}
+use Rattle.hub_rows.specs.Counters.{is_counter}
+use Rattle.hub_rows.specs.SharedScopes.{scope_cmp}
 use Rattle.hub_rows.specs.declared.records.Lease.{Lease}
 use Rattle.hub_rows.specs.declared.records.Next.{Next}
 use Rattle.hub_rows.specs.declared.records.ServerRow.{ServerRow}
@@ -52,8 +55,10 @@ pub record IsShare (s : Share) : Type 0 where
   pub key : IsShareKey s.key
   pub created : IsMoment s.created
   pub scopes : AllByRecursion IsScope s.scopes
+  pub in_order : IsInOrder scope_cmp s.scopes
 
 pub record IsNext (n : Next) : Type 0 where
+  pub name : IsTrue (is_counter n.name)
   pub next : IsWord n.next
 
 pub server_plain : (r : ServerRow) → IsServerRow r → IsRecordData (server_object r)

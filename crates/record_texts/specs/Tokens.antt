@@ -1,10 +1,11 @@
 -- The objects of tokens, share codes, and the clients and codes of OAuth.
-use Rattle.std.specs.Prelude.{map, codes, refl}
+use Rattle.std.specs.Prelude.{map, codes, IsTrue, refl}
 use Rattle.std.specs.List.{AllByRecursion}
 use Rattle.std.proofs.Common.{arith}
 use Rattle.hub_kit.specs.Names.{IsName}
 use Rattle.scope_filters.specs.Scopes.{scope_text}
 use Rattle.serde_json.specs.Data.{Data, string, object, member, no_members}
+use Rattle.hub_rows.specs.ClientIds.{is_client_id}
 use Rattle.hub_rows.specs.declared.records.OAuthClient.{OAuthClient}
 use Rattle.hub_rows.specs.declared.records.OAuthCode.{OAuthCode}
 use Rattle.hub_rows.specs.declared.records.ShareCode.{ShareCode}
@@ -62,8 +63,8 @@ pub record IsCode (c : ShareCode) : Type 0 where
   pub scopes : AllByRecursion IsScope c.scopes
   pub server : IsServer c.server
 
--- each value of the type
 pub record IsClient (c : OAuthClient) : Type 0 where
+  pub id : IsTrue (is_client_id c.id)
 
 pub record IsGrantCode (c : OAuthCode) : Type 0 where
   pub expires_at : IsMoment c.expires_at

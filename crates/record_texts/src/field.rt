@@ -4,16 +4,22 @@ ghost use Rattle.std.specs.List.{AllByRecursion};
 ghost use Rattle.serde_json.specs.Data.{boolean, string};
 ghost use Rattle.serde_json.specs.Find.{get};
 ghost use Rattle.serde_json.specs.View.{view, items_view};
-ghost use Rattle.keyed_rows.specs.Sorted.{is_in_order};
+ghost use Rattle.keyed_rows.specs.Sorted.{is_in_order, IsInOrder};
+ghost use Rattle.scope_filters.specs.Scopes.{scope_text};
+ghost use Rattle.scope_filters.specs.declared.scope.RawScope.{RawScope};
+ghost use Rattle.hub_rows.specs.SharedScopes.{scope_cmp};
 ghost use Rattle.record_texts.specs.Fields.{whole, maybe, strings, lines, IfThere};
 ghost use Rattle.record_texts.specs.Finds.{Finds};
+ghost use Rattle.record_texts.specs.KeyTexts.{IsScope};
 
 use crate::textual::Textual;
 use crate::unread::Unread;
 use crate::whole::Whole;
 use hub_kit::key::Key;
 use hub_kit::list::List;
+use hub_rows::shared_scopes::SharedScopes;
 use keyed_rows::sorted::Sorted;
+use scope_filters::scope::RawScope;
 use serde_json::Value;
 use std::alloc::{AllocError, Global};
 
@@ -215,6 +221,22 @@ fn sorted<K: Key + Copy>(keys: List<K>) -> Result<Sorted<K>, Unread>
 {
     match Sorted::of_ordered(keys.into_vec()) {
         Some(keys) => Ok(keys),
+        None => Err(Unread::Bad),
+    }
+}
+
+/// The scopes of a share.
+pub(crate) fn shared_at(alloc: Global, value: &Value, name: &str) -> Result<SharedScopes, Unread>
+    ensures { (xs : List RawScope) → AllByRecursion IsScope xs → IsInOrder scope_cmp xs → get name.now (view value.now) ≡ Some (lines scope_text xs) → Finds result xs }
+{
+    shared(alloc, texts_at(alloc, value, name)?)
+}
+
+fn shared(alloc: Global, scopes: List<RawScope>) -> Result<SharedScopes, Unread>
+    ensures { IsInOrder scope_cmp scopes → Finds result scopes }
+{
+    match SharedScopes::of_ordered(alloc, scopes)? {
+        Some(scopes) => Ok(scopes),
         None => Err(Unread::Bad),
     }
 }

@@ -2,7 +2,7 @@
 ghost use Rattle.record_texts.specs.KeyTexts.{server_text, share_text};
 ghost use Rattle.record_texts.specs.Servers.{server_object, lease_object, share_object, next_object, IsServerRow, IsLease, IsShare, IsNext, server_plain, lease_plain, share_plain, next_plain};
 
-use crate::field::{both, lacking_number_at, maybe_number_at, number_at, text_at, texts_at};
+use crate::field::{both, lacking_number_at, maybe_number_at, number_at, shared_at, text_at};
 use crate::fields::Fields;
 use crate::record::Record;
 use crate::textual::Textual;
@@ -10,6 +10,7 @@ use crate::unread::Unread;
 use hub_kit::names::ServerKey;
 use hub_kit::target::Target;
 use hub_kit::text::Text;
+use hub_rows::counter::Counter;
 use hub_rows::keys::ShareKey;
 use hub_rows::records::{Lease, Next, ServerRow, Share};
 use serde_json::Value;
@@ -120,7 +121,7 @@ impl Record for Share {
         Ok(Share {
             key: ShareKey::of_text(alloc, key)?,
             created: number_at(value, "created")?,
-            scopes: texts_at(alloc, value, "scopes")?,
+            scopes: shared_at(alloc, value, "scopes")?,
         })
     }
 }
@@ -143,6 +144,7 @@ impl Record for Next {
     }
 
     fn value(&self, alloc: Global) -> Result<Value, AllocError> {
+        let _name = self.name.as_text();
         let next = self.next;
         let fields = Fields::new(alloc).number("next", next)?;
         Ok(fields.into_object())
@@ -150,7 +152,7 @@ impl Record for Next {
 
     fn find(alloc: Global, key: &str, value: &Value) -> Result<Next, Unread> {
         Ok(Next {
-            name: Text::of_text(alloc, key)?,
+            name: Counter::of_text(alloc, key)?,
             next: number_at(value, "next")?,
         })
     }

@@ -1,10 +1,12 @@
 //! What has a text of its own: names, servers, owners, the keys of shares, scopes and numbers.
-ghost use Rattle.std.specs.Prelude.{◌≡◌, ◌<◌, ◌^◌, ◌++◌, ℕ, List, decimal, codes, ⊤, IfOk, OnOk};
+ghost use Rattle.std.specs.Prelude.{◌≡◌, ◌<◌, ◌^◌, ◌++◌, ℕ, List, decimal, codes, ⊤, IfOk, OnOk, IsTrue};
 ghost use Rattle.std.specs.Option.{option_copied};
 ghost use Rattle.hub_kit.specs.Names.{IsName};
 ghost use Rattle.hub_kit.specs.Targets.{IsTarget};
 ghost use Rattle.scope_filters.specs.Scopes.{before, after};
 ghost use Rattle.scope_filters.specs.Scopes as scopes;
+ghost use Rattle.hub_rows.specs.ClientIds.{is_client_id};
+ghost use Rattle.hub_rows.specs.Counters.{is_counter};
 ghost use Rattle.hub_rows.specs.declared.keys.ShareKey.{ShareKey};
 ghost use Rattle.record_texts.specs.Finds.{Finds};
 ghost use Rattle.record_texts.specs.KeyTexts.{server_text, owner_text, recipient_text, share_text, IsServer, IsOwner, IsRecipient, IsShareKey, IsScope};
@@ -14,6 +16,8 @@ use hub_kit::names::{self, GroupName, RoleName, ServerKey, ServiceName, UserName
 use hub_kit::target::Target;
 use hub_kit::targets::{TargetError, read_target};
 use hub_kit::text::Text;
+use hub_rows::client_id::ClientId;
+use hub_rows::counter::Counter;
 use hub_rows::keys::{Recipient, ShareKey};
 use scope_filters::holder::Owner;
 use scope_filters::scope::{RawScope, ScopeError, read_scope, scope_text};
@@ -45,6 +49,40 @@ impl Textual for Text {
 
     fn of_text(alloc: Global, text: &str) -> Result<Text, Unread> {
         Ok(Text::from_str(alloc, text)?)
+    }
+}
+
+impl Textual for Counter {
+    ghost text_of = { λ counter. counter };
+
+    ghost valid = { λ counter. IsTrue (is_counter counter) };
+
+    fn text(&self, alloc: Global) -> Result<Text, AllocError> {
+        self.as_text().copy(alloc)
+    }
+
+    fn of_text(alloc: Global, text: &str) -> Result<Counter, Unread> {
+        match Counter::from_text(Text::from_str(alloc, text)?) {
+            Some(counter) => Ok(counter),
+            None => Err(Unread::Bad),
+        }
+    }
+}
+
+impl Textual for ClientId {
+    ghost text_of = { λ id. id };
+
+    ghost valid = { λ id. IsTrue (is_client_id id) };
+
+    fn text(&self, alloc: Global) -> Result<Text, AllocError> {
+        self.as_text().copy(alloc)
+    }
+
+    fn of_text(alloc: Global, text: &str) -> Result<ClientId, Unread> {
+        match ClientId::from_text(Text::from_str(alloc, text)?) {
+            Some(id) => Ok(id),
+            None => Err(Unread::Bad),
+        }
     }
 }
 

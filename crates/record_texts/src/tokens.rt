@@ -8,6 +8,7 @@ use crate::record::Record;
 use crate::textual::Textual;
 use crate::unread::Unread;
 use hub_kit::text::Text;
+use hub_rows::client_id::ClientId;
 use hub_rows::records::{OAuthClient, OAuthCode, ShareCode, Token};
 use serde_json::Value;
 use std::alloc::{AllocError, Global};
@@ -143,6 +144,7 @@ impl Record for OAuthClient {
     }
 
     fn value(&self, alloc: Global) -> Result<Value, AllocError> {
+        let _id = self.id.as_text();
         let fields = Fields::new(alloc)
             .string("hash", self.hash.as_str())?
             .string("redirect_uri", self.redirect_uri.as_str())?;
@@ -150,7 +152,7 @@ impl Record for OAuthClient {
     }
 
     fn find(alloc: Global, key: &str, value: &Value) -> Result<OAuthClient, Unread> {
-        let named = both(Text::of_text(alloc, key), text_at(alloc, value, "hash"));
+        let named = both(ClientId::of_text(alloc, key), text_at(alloc, value, "hash"));
         let redirect_uri = text_at(alloc, value, "redirect_uri");
         let ((id, hash), redirect_uri) = both(named, redirect_uri)?;
         Ok(OAuthClient {

@@ -1,5 +1,8 @@
-//! What no clause says of rows: that those of ten kinds are put and counted, and that they are shown, where there is memory. The rows are records that
-//! are read from their texts.
+//! What no clause says of rows: that those of each kind are put, counted and found by their hashes, and that they are shown, where there is
+//! memory. The rows are records that are read from their texts.
+ghost use Rattle.std.specs.Prelude.{◌≡◌};
+ghost use Rattle.std.specs.FinMap as map;
+
 use crate::of_hub_tables::{LIMITS, no_rows};
 use hub_kit::text::Text;
 use hub_rows::records::{Share, ShareCode, Token};
@@ -84,6 +87,39 @@ fn a_row_of_ten_kinds(rt: HostRuntime) {
     assert!(rt; are_keyed_put(&rt, rt.alloc(), &mut tables));
     assert!(rt; are_counted_put(&rt, rt.alloc(), &mut tables));
     assert!(rt; are_counted(&tables));
+    drop(tables);
+}
+
+/// Whether a share code is put where there is none.
+fn is_code_put(tables: &mut Tables, code: ShareCode) -> bool
+    requires { tables.old.codes ≡ map.empty }
+{
+    tables.put_code(code, 0).is_ok()
+}
+
+/// Whether a token is new, and put.
+fn is_token_put(tables: &mut Tables, token: Token) -> bool {
+    if !tables.token_is_new(token.id, &token.hash) {
+        return false;
+    }
+    tables.put_token(token, 0).is_ok()
+}
+
+/// Whether a token and a share code of these hashes are found.
+fn are_found(rt: &impl Abort, alloc: Global, tables: &Tables, token: &str, code: &str) -> bool {
+    let token = Text::from_str(alloc, token).expect(rt, "there is memory");
+    let code = Text::from_str(alloc, code).expect(rt, "there is memory");
+    tables.token_of_hash(&token).is_some() & tables.code_of_hash(&code).is_some()
+}
+
+#[test]
+fn a_token_and_a_share_code_by_their_hashes(rt: HostRuntime) {
+    let alloc = rt.alloc();
+    let mut tables = no_rows(&rt, alloc, &LIMITS);
+    assert!(rt; is_code_put(&mut tables, record(&rt, alloc, 9, "3", CODE)));
+    assert!(rt; is_token_put(&mut tables, record(&rt, alloc, 5, "7", TOKEN)));
+    assert!(rt; are_found(&rt, alloc, &tables, "ab", "h"));
+    assert!(rt; !are_found(&rt, alloc, &tables, "h", "ab"));
     drop(tables);
 }
 

@@ -1,7 +1,8 @@
 //! The texts of records, against texts written by hand. What is read is written again and compared, so a text that reads is
 //! also the text that is written. The rows have a kind, a key, a text, and whether that is a record: with every field in use, and with
 //! none. Refused are another kind, a key out of the grammar, a blank, another order, a float, a moment past the greatest, null for a
-//! number, a member too few and one too many, names out of order, twice and out of the grammar, and numbers with a leading zero.
+//! number, a member too few and one too many, names out of order, twice and out of the grammar, and numbers with a leading zero; also a
+//! share's scopes out of order and twice, a client that is no server's and no service's, and another next number.
 use crate::check::check;
 use hub_kit::text::Text;
 use hub_rows::records::{
@@ -134,7 +135,7 @@ const LEASES: [(u8, &str, &str, bool); 2] = [
     ),
 ];
 
-const SHARES: [(u8, &str, &str, bool); 2] = [
+const SHARES: [(u8, &str, &str, bool); 4] = [
     (
         8,
         "ann/x,user:bob",
@@ -142,6 +143,18 @@ const SHARES: [(u8, &str, &str, bool); 2] = [
         true,
     ),
     (8, "ann/,group:lab", r#"{"created":1,"scopes":[]}"#, true),
+    (
+        8,
+        "ann/x,user:bob",
+        r#"{"created":1,"scopes":["read:servers!server=ann/x","access:servers!server=ann/x"]}"#,
+        false,
+    ),
+    (
+        8,
+        "ann/x,user:bob",
+        r#"{"created":1,"scopes":["access:servers!server=ann/x","access:servers!server=ann/x"]}"#,
+        false,
+    ),
 ];
 
 const SHARE_CODES: [(u8, &str, &str, bool); 2] = [
@@ -159,12 +172,38 @@ const SHARE_CODES: [(u8, &str, &str, bool); 2] = [
     ),
 ];
 
-const CLIENTS: [(u8, &str, &str, bool); 1] = [(
-    10,
-    "service:idle",
-    r#"{"hash":"h","redirect_uri":"/oauth_callback"}"#,
-    true,
-)];
+const CLIENTS: [(u8, &str, &str, bool); 5] = [
+    (
+        10,
+        "service:idle",
+        r#"{"hash":"h","redirect_uri":"/oauth_callback"}"#,
+        true,
+    ),
+    (
+        10,
+        "server:ann/",
+        r#"{"hash":"h","redirect_uri":"/oauth_callback"}"#,
+        true,
+    ),
+    (
+        10,
+        "server:ann",
+        r#"{"hash":"h","redirect_uri":"/oauth_callback"}"#,
+        false,
+    ),
+    (
+        10,
+        "service:Idle",
+        r#"{"hash":"h","redirect_uri":"/oauth_callback"}"#,
+        false,
+    ),
+    (
+        10,
+        "idle",
+        r#"{"hash":"h","redirect_uri":"/oauth_callback"}"#,
+        false,
+    ),
+];
 
 const CODES: [(u8, &str, &str, bool); 2] = [
     (
@@ -181,10 +220,11 @@ const CODES: [(u8, &str, &str, bool); 2] = [
     ),
 ];
 
-const NEXTS: [(u8, &str, &str, bool); 3] = [
+const NEXTS: [(u8, &str, &str, bool); 4] = [
     (12, "token", r#"{"next":18446744073709551615}"#, true),
     (12, "code", r#"{"next":1}"#, true),
     (12, "token", r#"{"next":01}"#, false),
+    (12, "user", r#"{"next":1}"#, false),
 ];
 
 fn is_read<R: Record>(rt: &impl Abort, alloc: Global, kind: u8, key: &str, text: &str) -> bool {

@@ -3,18 +3,16 @@ use Rattle.std.proofs.Common.{◌≡◌, ℕ, Bool, true, false, List, [], ◌�
 use Rattle.std.specs.Prelude.{Option, Some, None}
 use Rattle.std.specs.List.{fold}
 use Rattle.std.specs.Cmp.{IsTotalOrder, tied_itself}
-use Rattle.std.specs.Cmp.Lexicographic.{nat_list_cmp_total}
 use Rattle.std.specs.Ordering.{ordering_reverse}
 use Rattle.std.specs.declared.cmp.Ordering.{Ordering}
 use Rattle.std.specs.declared.cmp.Ordering.TheVariants.{Less, Equal, Greater}
-use Rattle.hub_kit.specs.KeyOrder.{name_cmp}
 use Rattle.keyed_rows.specs.Sorted.{placed, with_key}
-use Rattle.scope_filters.specs.Scopes.{scope_text}
 use Rattle.scope_filters.specs.declared.scope.RawScope.{RawScope}
 use Rattle.hub_rows.specs.declared.keys.ShareKey.{ShareKey}
 use Rattle.hub_rows.specs.declared.records.Share.{Share}
+use Rattle.hub_rows.specs.SharedScopes.{scope_cmp, with_scopes}
+use Rattle.hub_rows.proofs.InOrder.{scope_total}
 use Rattle.shares.specs.Granting.{granted}
-use Rattle.shares.specs.ScopeLists.{scope_cmp, with_scopes}
 
 false_true : false ≡ true → ⊥
 false_true h = cc
@@ -89,13 +87,6 @@ module _ {K : Type 0} (R : K → K → Ordering) (o : IsTotalOrder R) where
 
   twice : (xs l : List K) → puts (puts l xs) xs ≡ puts l xs
   twice xs l = unchanged xs (puts l xs) (all_found xs l)
-
-scope_total : IsTotalOrder scope_cmp
-scope_total = record {
-  antisymm = λ a b. nat_list_cmp_total.antisymm (scope_text a) (scope_text b);
-  trans = λ a b c. nat_list_cmp_total.trans (scope_text a) (scope_text b) (scope_text c);
-  congr = λ a b c. nat_list_cmp_total.congr (scope_text a) (scope_text b) (scope_text c);
-}
 
 pub granted_twice : (key : ShareKey) (scopes : List RawScope) (kept : Option Share) (now later : ℕ) → granted later key scopes (Some (granted now key scopes kept)) ≡ granted now key scopes kept
 granted_twice key scopes None now later = ap (λ s. record { key = key; created = now; scopes = s }) (twice scope_cmp scope_total scopes [])

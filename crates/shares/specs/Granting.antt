@@ -7,9 +7,9 @@ use Rattle.hub_rows.specs.declared.keys.Recipient.{Recipient}
 use Rattle.hub_rows.specs.declared.keys.Recipient.TheVariants as To
 use Rattle.hub_rows.specs.declared.keys.ShareKey.{ShareKey}
 use Rattle.hub_rows.specs.declared.records.Share.{Share}
+use Rattle.hub_rows.specs.SharedScopes.{with_scopes, without_scopes}
 use Rattle.hub_tables.specs.State.{State}
 use Rattle.shares.specs.Allowed.{or_access, by_rules, if_so, if_refused_scope}
-use Rattle.shares.specs.ScopeLists.{with_scopes, without_scopes}
 use Rattle.shares.specs.declared.allowed.ShareError.{ShareError}
 use Rattle.shares.specs.declared.allowed.ShareError.TheVariants.{NoRecipient}
 

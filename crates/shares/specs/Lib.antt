@@ -1,4 +1,3 @@
 pub mod Allowed
 pub mod Codes
 pub mod Granting
-pub mod ScopeLists

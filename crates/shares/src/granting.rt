@@ -9,12 +9,11 @@ ghost use Rattle.shares.specs.Allowed.{if_refused_scope, if_so, Checks, Tells};
 ghost use Rattle.shares.specs.Granting.{grant_share, granted, granted_share, is_kept, left, revoke_share, share_of};
 
 use crate::allowed::{ShareError, check_scopes, or_access};
-use crate::scope_lists::{with_scopes, without_scopes};
-use hub_kit::list::List;
 use hub_kit::moment::Moment;
 use hub_kit::names::ServerKey;
 use hub_rows::keys::{Recipient, ShareKey};
 use hub_rows::records::Share;
+use hub_rows::shared_scopes::SharedScopes;
 use hub_tables::tables::Tables;
 use scope_filters::scope::RawScope;
 use std::alloc::{AllocError, Global};
@@ -112,12 +111,12 @@ fn granted(
         None => Ok(Share {
             key,
             created: now,
-            scopes: List::from_vec(with_scopes(alloc, more, &[])?),
+            scopes: SharedScopes::new(alloc).with(alloc, more)?,
         }),
         Some(kept) => Ok(Share {
             key: kept.key,
             created: kept.created,
-            scopes: List::from_vec(with_scopes(alloc, more, kept.scopes.as_slice())?),
+            scopes: kept.scopes.with(alloc, more)?,
         }),
     }
 }
@@ -126,24 +125,24 @@ fn granted(
 fn remains(alloc: Global, gone: &[RawScope], kept: &Share) -> Result<Option<Share>, AllocError>
     ensures { IfOk result (λ share. share ≡ share_of kept.now (left gone.now kept.now.scopes)) }
 {
-    let scopes = left(alloc, gone, kept.scopes.as_slice())?;
-    if scopes.is_empty() {
+    let scopes = left(alloc, gone, &kept.scopes)?;
+    if scopes.as_slice().is_empty() {
         return Ok(None);
     }
     Ok(Some(Share {
         key: kept.key,
         created: kept.created,
-        scopes: List::from_vec(scopes),
+        scopes,
     }))
 }
 
-fn left(alloc: Global, gone: &[RawScope], kept: &[RawScope]) -> Result<Vec<RawScope>, AllocError>
-    ensures { IfOk result (λ scopes. scopes.items ≡ left gone.now kept.now) }
+fn left(alloc: Global, gone: &[RawScope], kept: &SharedScopes) -> Result<SharedScopes, AllocError>
+    ensures { IfOk result (λ scopes. scopes ≡ left gone.now kept.now) }
 {
     if gone.is_empty() {
-        return Ok(Vec::new(alloc));
+        return Ok(SharedScopes::new(alloc));
     }
-    without_scopes(alloc, gone, kept)
+    kept.without(alloc, gone)
 }
 
 /// Granting twice is granting once: the share that a grant left is what the same grant leaves of it, at any later moment.

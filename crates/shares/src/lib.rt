@@ -5,4 +5,3 @@
 pub mod allowed;
 pub mod codes;
 pub mod granting;
-mod scope_lists;

@@ -14,9 +14,9 @@ pub returns : goal.returns
 returns c r valid key shape =
     let at : (name : List ℕ) → get name (view c.args.value.now) ≡ get name (next_object r) = λ name. ap (get name) (sym shape) in
     λ i. record {
-      name = c.in_ok-of_text.ensures r.name tt key i;
+      name = c.in_ok-of_text.ensures r.name valid.name key i;
       next = c.in_ok-number_at.ensures r.next valid.next (at (codes "next")) i;
     }
 
 pub returns-in_err-of_text : goal.returns-in_err-of_text
-returns-in_err-of_text c r valid key shape = absent _ _ r.name r c.from_residual.ensures.1 (c.in_err-of_text.ensures r.name tt key)
+returns-in_err-of_text c r valid key shape = absent _ _ r.name r c.from_residual.ensures.1 (c.in_err-of_text.ensures r.name valid.name key)

@@ -10,10 +10,10 @@ returns-in_err-number_at c r valid key shape =
     let at : (name : List ℕ) → get name (view c.args.value.now) ≡ get name (share_object r) = λ name. ap (get name) (sym shape) in
     absent _ _ r.created r c.from_residual-in_err-number_at.ensures.1 (c.in_err-number_at.ensures r.created valid.created (at (codes "created")))
 
-pub returns-in_err-texts_at : goal.returns-in_err-texts_at
-returns-in_err-texts_at c r valid key shape =
+pub returns-in_err-shared_at : goal.returns-in_err-shared_at
+returns-in_err-shared_at c r valid key shape =
     let at : (name : List ℕ) → get name (view c.args.value.now) ≡ get name (share_object r) = λ name. ap (get name) (sym shape) in
-    absent _ _ r.scopes r c.from_residual-in_err-texts_at.ensures.1 (c.in_err-texts_at.ensures r.scopes valid.scopes (at (codes "scopes")))
+    absent _ _ r.scopes r c.from_residual-in_err-shared_at.ensures.1 (c.in_err-shared_at.ensures r.scopes valid.scopes valid.in_order (at (codes "scopes")))
 
 pub returns : goal.returns
 returns c r valid key shape =
@@ -21,5 +21,5 @@ returns c r valid key shape =
     λ i. record {
       key = c.in_ok-of_text.ensures r.key valid.key key i;
       created = c.in_ok-number_at.ensures r.created valid.created (at (codes "created")) i;
-      scopes = c.in_ok-texts_at.ensures r.scopes valid.scopes (at (codes "scopes")) i;
+      scopes = c.in_ok-shared_at.ensures r.scopes valid.scopes valid.in_order (at (codes "scopes")) i;
     }

@@ -1,8 +1,8 @@
 use Rattle.std.proofs.Common.{◌≡◌}
 use Rattle.keyed_rows.specs.Sorted.{with_key}
-use Rattle.shares.specs.ScopeLists.{scope_cmp}
-use Rattle.shares.proofs.Places.{put_from}
-use Rattle.shares.proofs.scope_lists.place_of_text.Given as goal
+use Rattle.hub_rows.specs.SharedScopes.{scope_cmp}
+use Rattle.hub_rows.proofs.Places.{put_from}
+use Rattle.hub_rows.proofs.shared_scopes.place_of_text.Given as goal
 
 -- the scope comes after those so far
 abbrev pub invariant-loop-at : goal.invariant-loop-at

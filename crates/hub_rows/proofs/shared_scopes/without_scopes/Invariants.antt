@@ -1,6 +1,6 @@
 use Rattle.std.proofs.Common.{◌≡◌, ◌++◌, drop}
-use Rattle.shares.specs.ScopeLists.{without_scopes}
-use Rattle.shares.proofs.scope_lists.without_scopes.Given as goal
+use Rattle.hub_rows.specs.SharedScopes.{without_scopes}
+use Rattle.hub_rows.proofs.shared_scopes.without_scopes.Given as goal
 
 -- those that are left so far, and of those to come
 abbrev pub invariant-loop-scope : goal.invariant-loop-scope

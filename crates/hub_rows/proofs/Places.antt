@@ -6,7 +6,7 @@ use Rattle.std.specs.declared.cmp.Ordering.{Ordering}
 use Rattle.std.specs.declared.cmp.Ordering.TheVariants.{Less, Equal, Greater}
 use Rattle.keyed_rows.specs.Sorted.{placed, with_key}
 use Rattle.scope_filters.specs.declared.scope.RawScope.{RawScope}
-use Rattle.shares.specs.ScopeLists.{scope_cmp, placed_at}
+use Rattle.hub_rows.specs.SharedScopes.{scope_cmp, placed_at}
 
 -- the scopes before a place, and the scope put into those from there on
 abbrev pub put_from : RawScope → List RawScope → ℕ → List RawScope

@@ -1,4 +1,4 @@
--- Scopes in the order of their texts, without repeats.
+-- The scopes of a share: in the order of their texts, without repeats.
 use Rattle.std.specs.Prelude.{ℕ, Bool, not, List, Option, Some, None}
 use Rattle.std.specs.List.{filter, fold, insert, list_any}
 use Rattle.std.specs.declared.cmp.Ordering.{Ordering}
