@@ -1,8 +1,11 @@
 -- None of the changes puts a row that is found by a hash, and so each put of them fits.
 use Rattle.std.proofs.Common.{◌≡◌, ℕ, Bool, true, false, ◌||◌, List, [], ◌∷◌, ◌++◌, map, filter, refl, sym, subst}
-use Rattle.std.specs.List.{list_any}
-use Rattle.std.specs.FinMap.{values}
+use Rattle.std.specs.Prelude.{Option, Some, None}
+use Rattle.std.specs.List.{flat_map, list_any}
+use Rattle.std.specs.FinMap.{get, values}
+use Rattle.hub_kit.specs.declared.names.ServerKey.{ServerKey}
 use Rattle.hub_rows.specs.declared.records.Token.{Token}
+use Rattle.hub_rows.specs.declared.records.User.{User}
 use Rattle.hub_rows.specs.declared.records.ServerRow.{ServerRow}
 use Rattle.hub_rows.specs.declared.records.Share.{Share}
 use Rattle.hub_rows.specs.declared.records.ShareCode.{ShareCode}
@@ -15,7 +18,8 @@ use Rattle.hub_rows.specs.declared.rows.Row.TheVariants as Row
 use Rattle.hub_rows.specs.declared.rows.RowKey.TheVariants as RowKey
 use Rattle.hub_tables.specs.Changes.{puts_hashed, with_row, FitsKey, FitAll}
 use Rattle.hub_tables.specs.State.{State}
-use Rattle.admin_rules.specs.Purges.{changes_of, has_member, without_member, is_held_by_user, without_user, is_token_of_user, is_server_of_user, is_share_of_user, is_code_of_user, is_called, clients_of_user, is_grant_of_user, user_rows, is_held_by_group, without_group, is_share_to_group, group_rows, is_held_by_service, without_service, is_token_of_service, is_client, client_of_service, service_rows}
+use Rattle.admin_rules.specs.Purges.{changes_of, has_member, without_member, is_held_by_user, without_user, is_token_of_user, is_server_of_user, is_share_of_user, is_code_of_user, is_called, clients_of_user, is_grant_of_user, user_rows, is_held_by_group, without_group, is_share_to_group, group_rows, is_held_by_service, without_service, is_token_of_service, is_client, client_of_service, service_rows, is_share_of_server, is_code_of_server, server_rows}
+use Rattle.admin_rules.specs.Servers.{Told, newer, server_activity, server_of, server_seen, servers_activity, user_activity, user_seen}
 use Rattle.admin_rules.specs.Users.{new_user}
 use Rattle.admin_rules.specs.Rules.{ArePlain}
 
@@ -101,6 +105,36 @@ plain_service s service =
     (changed (is_token_of_service service) of_tokens (λ _. refl) (values s.tokens)))
     (changed (is_client (client_of_service service)) of_clients (λ _. refl) (values s.clients))
 
+plain_server : (s : State) (server : ServerKey) → ArePlain (server_rows s server)
+plain_server s server =
+    let of_shares : Share → RowChange = λ share. Remove (RowKey.Share share.key) in
+    let of_codes : ShareCode → RowChange = λ code. Remove (RowKey.ShareCode code.id) in
+    let row : List RowChange = Remove (RowKey.ServerRow server) ∷ [] in
+    three row (changes_of (is_share_of_server server) of_shares (values s.shares)) (changes_of (is_code_of_server server) of_codes (values s.codes))
+    refl
+    (changed (is_share_of_server server) of_shares (λ _. refl) (values s.shares))
+    (changed (is_code_of_server server) of_codes (λ _. refl) (values s.codes))
+
+plain_flat : {X : Type 0} (changes : X → List RowChange) → ((x : X) → ArePlain (changes x)) → (rows : List X) → ArePlain (flat_map changes rows)
+plain_flat changes h [] = refl
+plain_flat changes h (x ∷ xs) = plain-append (changes x) (flat_map changes xs) (h x) (plain_flat changes h xs)
+
+plain_user_seen : (user : User) (at : Option ℕ) → ArePlain (user_seen user at)
+plain_user_seen user None = refl
+plain_user_seen user (Some at) = refl
+
+plain_user_activity : (now : ℕ) (told : Option ℕ) (kept : Option User) → ArePlain (user_activity now told kept)
+plain_user_activity now told None = refl
+plain_user_activity now told (Some user) = plain_user_seen user (newer now user.last_activity told)
+
+plain_server_seen : (row : ServerRow) (at : Option ℕ) → ArePlain (server_seen row at)
+plain_server_seen row None = refl
+plain_server_seen row (Some at) = refl
+
+plain_server_activity : (now : ℕ) (told : Option ℕ) (kept : Option ServerRow) → ArePlain (server_activity now told kept)
+plain_server_activity now told None = refl
+plain_server_activity now told (Some row) = plain_server_seen row (newer now row.last_activity told)
+
 -- ---- the same of rows that are these
 
 pub users_plain : (admin : Bool) (now : ℕ) (names : List (List ℕ)) (rows : List RowChange) → rows ≡ map (new_user admin now) names → ArePlain rows
@@ -114,6 +148,16 @@ group_plain s group rows e = subst ArePlain (sym e) (plain_group s group)
 
 pub service_plain : (s : State) (service : List ℕ) (rows : List RowChange) → rows ≡ service_rows s service → ArePlain rows
 service_plain s service rows e = subst ArePlain (sym e) (plain_service s service)
+
+pub server_plain : (s : State) (server : ServerKey) (rows : List RowChange) → rows ≡ server_rows s server → ArePlain rows
+server_plain s server rows e = subst ArePlain (sym e) (plain_server s server)
+
+pub activity_plain : (s : State) (user : List ℕ) (now : ℕ) (told : Option ℕ) (servers : Told) (first rows : List RowChange)
+    → first ≡ user_activity now told (get s.users user) → rows ≡ first ++ servers_activity s now user servers → ArePlain rows
+activity_plain s user now told servers first rows e h =
+    subst ArePlain (sym h) (plain-append first (servers_activity s now user servers)
+    (subst ArePlain (sym e) (plain_user_activity now told (get s.users user)))
+    (plain_flat (λ x. server_activity now x.1 (get s.servers (server_of user x.0))) (λ x. plain_server_activity now x.1 (get s.servers (server_of user x.0))) servers))
 
 -- ---- rows that aren't found by a hash fit anywhere
 

@@ -4,3 +4,4 @@ pub mod Roles
 pub mod Rules
 pub mod Services
 pub mod Users
+pub mod Servers

@@ -4,7 +4,9 @@ use Rattle.std.specs.List.{starts_with}
 use Rattle.std.specs.FinMap.{values}
 use Rattle.hub_kit.specs.KeyOrder.{name_cmp}
 use Rattle.keyed_rows.specs.Sorted.{is_among, without_keys}
+use Rattle.hub_kit.specs.declared.names.ServerKey.{ServerKey}
 use Rattle.scope_filters.specs.Contexts.{same}
+use Rattle.scope_filters.specs.Admits.{same_server}
 use Rattle.scope_filters.specs.declared.holder.Owner.{Owner}
 use Rattle.scope_filters.specs.declared.holder.Owner.TheVariants as Of
 use Rattle.hub_rows.specs.declared.keys.Recipient.{Recipient}
@@ -135,3 +137,18 @@ service_rows s service =
     ++ Remove (RowKey.Service service) ∷ []
     ++ changes_of (is_token_of_service service) (λ token. Remove (RowKey.Token token.id)) (values s.tokens)
     ++ changes_of (is_client (client_of_service service)) (λ client. Remove (RowKey.OAuthClient client.id)) (values s.clients)
+
+-- ---- with a server
+
+abbrev pub is_share_of_server : ServerKey → Share → Bool
+is_share_of_server server share = same_server share.key.server server
+
+abbrev pub is_code_of_server : ServerKey → ShareCode → Bool
+is_code_of_server server code = same_server code.server server
+
+-- the server's row, and the shares and share codes of it
+abbrev pub server_rows : State → ServerKey → List RowChange
+server_rows s server =
+    Remove (RowKey.ServerRow server) ∷ []
+    ++ changes_of (is_share_of_server server) (λ share. Remove (RowKey.Share share.key)) (values s.shares)
+    ++ changes_of (is_code_of_server server) (λ code. Remove (RowKey.ShareCode code.id)) (values s.codes)

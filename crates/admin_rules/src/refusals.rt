@@ -2,7 +2,7 @@
 ghost use Rattle.admin_rules.specs.Rules.{Checks, if_full, if_so};
 ghost use Rattle.admin_rules.specs.declared.refusals.RuleRefusal.TheVariants.{Exists};
 
-use hub_kit::names::UserName;
+use hub_kit::names::{ServerName, UserName};
 use hub_kit::text::Text;
 use std::alloc::{AllocError, Global};
 
@@ -15,6 +15,8 @@ pub enum RuleRefusal {
     LiveServers,
     /// A user that isn't kept, the first in the order given.
     UnknownUser(UserName),
+    /// A server whose row isn't kept, the first in the order given.
+    UnknownServer(ServerName),
     /// The roles `user` and `admin` can't be changed.
     FixedRole,
     /// The text of the first scope whose custom name isn't declared.

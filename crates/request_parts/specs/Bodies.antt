@@ -1,5 +1,5 @@
 -- What a body says: it is one JSON object (RFC 8259), of whose equal keys the last counts. The empty body says what {} says.
-use Rattle.std.specs.Prelude.{ℕ, Bool, List, [], ◌∷◌, Option, Some, None, option_and_then, if◌then◌else◌}
+use Rattle.std.specs.Prelude.{ℕ, Bool, List, [], ◌∷◌, Option, Some, None, option_and_then, option_map, if◌then◌else◌}
 use Rattle.std.specs.Str.{is_utf8}
 use Rattle.serde_json.specs.Data.{Data, null, boolean, number, string, array, object, Items, no_items, item, no_members}
 use Rattle.serde_json.specs.Read.{read}
@@ -53,6 +53,14 @@ list_of (Some value) = as_array value
 -- what an item is by a reader of texts
 abbrev pub item_read : {N : Type 0} → (List ℕ → Option N) → Data → Option N
 item_read reads value = as_str value >>= reads
+
+abbrev pub optional : {N : Type 0} → (List ℕ → Option N) → Option Data → Option (Option N)
+optional reads None = Some None
+optional reads (Some value) = option_map Some (item_read reads value)
+
+-- the text of a form at a key, which may be absent: none where anything else stands there
+unfoldable pub optional_at : {N : Type 0} → (List ℕ → Option N) → List ℕ → Data → Option (Option N)
+optional_at reads key body = optional reads (get key body)
 
 -- what the items are: none where one of them is no text, or not of its form
 abbrev pub each_read : {N : Type 0} → (List ℕ → Option N) → Items → Option (List N)

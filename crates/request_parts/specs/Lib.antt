@@ -1,3 +1,4 @@
+pub mod Activity
 pub mod Bodies
 pub mod Names
 pub mod Paths

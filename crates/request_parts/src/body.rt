@@ -119,6 +119,21 @@ fn read_into<N: FromText>(
     Ok(true)
 }
 
+/// The text of a form at a key, which may be absent, or nothing where anything else stands there.
+#[tactic(auto, unfolding(crate::specs::Bodies::optional_at))]
+pub fn optional_at<N: FromText>(
+    alloc: Global,
+    body: &Value,
+    key: &str,
+) -> Result<Option<Option<N>>, AllocError>
+    ensures { IfOk result (λ value. value ≡ spec.optional_at N.reads key.now (view body.now)) }
+{
+    match body.get(key) {
+        None => Ok(Some(None)),
+        Some(value) => Ok(item_read(alloc, value)?.map(Some)),
+    }
+}
+
 /// What one item is.
 fn item_read<N: FromText>(alloc: Global, item: &Value) -> Result<Option<N>, AllocError>
     ensures { IfOk result (λ value. value ≡ spec.item_read N.reads (view item.now)) }

@@ -1,9 +1,12 @@
-//! What a text can be: a name of some kind, or the text itself.
+//! What a text can be: a name of some kind, a moment, or the text itself.
 ghost use Rattle.std.specs.Prelude.{◌≡◌, ℕ, List, Option, Some, IfOk};
-ghost use Rattle.request_parts.specs.Names.{name_of};
+ghost use Rattle.request_parts.specs.Names.{moment_of, name_of, server_of};
 
+use hub_kit::moment::Moment;
+use hub_kit::moments::read_moment;
 use hub_kit::names::{
-    GroupName, RoleName, ServiceName, UserName, read_group, read_role, read_service, read_user,
+    GroupName, RoleName, ServerName, ServiceName, UserName, read_group, read_role, read_server,
+    read_service, read_user,
 };
 use hub_kit::text::Text;
 use std::alloc::{AllocError, Global};
@@ -46,6 +49,23 @@ impl FromText for RoleName {
 
     fn from_text(_: Global, text: &str) -> Result<Option<Self>, AllocError> {
         Ok(read_role(text.as_bytes()).ok())
+    }
+}
+
+impl FromText for ServerName {
+    ghost reads = { server_of };
+
+    fn from_text(_: Global, text: &str) -> Result<Option<Self>, AllocError> {
+        Ok(read_server(text.as_bytes()).ok())
+    }
+}
+
+impl FromText for Moment {
+    ghost reads = { moment_of };
+
+    fn from_text(alloc: Global, text: &str) -> Result<Option<Self>, AllocError> {
+        let text = Text::from_str(alloc, text)?;
+        Ok(read_moment(&text).ok())
     }
 }
 

@@ -3,6 +3,7 @@
 //! of its members. The interfaces that make calls of requests stand above.
 #![tactic(auto)]
 
+pub mod activity;
 pub mod body;
 pub mod from_text;
 pub mod path;
