@@ -5,8 +5,9 @@ use Rattle.serde_json.specs.Data.{Data}
 use Rattle.http_wire.specs.declared.request.Request.{Request}
 use Rattle.scope_filters.specs.declared.scope.RawScope.{RawScope}
 use Rattle.request_parts.specs.Steps.{◌>>=◌}
-use Rattle.request_parts.specs.Names.{name_of}
-use Rattle.request_parts.specs.Bodies.{body_object, truth_at, truth_or, list_at}
+use Rattle.request_parts.specs.Names.{name_of, moment_of}
+use Rattle.request_parts.specs.Activity.{activity_at}
+use Rattle.request_parts.specs.Bodies.{body_object, truth_at, truth_or, list_at, optional_at}
 use Rattle.request_parts.specs.Scopes.{scopes_read}
 use Rattle.request_parts.specs.declared.scopes.ScopeFault.{ScopeFault}
 use Rattle.hub_api.specs.declared.refusal.ApiRefusal.{ApiRefusal}
@@ -55,6 +56,14 @@ unfoldable pub distinct_names : List ℕ → Data → Result (List (List ℕ)) A
 distinct_names key body = do
   read ← some_names key body
   if_of_form (are_distinct read) read
+
+-- a moment, which may be absent
+unfoldable pub moment : List ℕ → Data → Result (Option ℕ) ApiRefusal
+moment key body = ok_or (optional_at moment_of key body) BadBody
+
+-- of each of some servers its name, and when it was last active, if that is told
+unfoldable pub activity : List ℕ → Data → Result (List (List ℕ × Option ℕ)) ApiRefusal
+activity key body = ok_or (activity_at key body) BadBody
 
 -- at most 64 texts that are to be scopes
 unfoldable pub scope_texts : Data → Result (List (List ℕ)) ApiRefusal

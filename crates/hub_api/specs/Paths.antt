@@ -7,7 +7,7 @@ use Rattle.matchit.specs.Router.{RouteOf, route_from}
 use Rattle.matchit.specs.Seek.{first}
 use Rattle.matchit.specs.declared.error.InsertError.{InsertError}
 use Rattle.hub_api.specs.declared.paths.Path.{Path}
-use Rattle.hub_api.specs.declared.paths.Path.TheVariants.{Bare, Version, Info, Identity, Users, User, Groups, Group, Members, Services, Service, Roles, Role}
+use Rattle.hub_api.specs.declared.paths.Path.TheVariants.{Bare, Version, Info, Identity, Users, User, Activity, Groups, Group, Members, Services, Service, Roles, Role}
 
 -- the text of each path; a name between braces stands for one segment of a byte or more
 abbrev pub text_of : Path → List ℕ
@@ -17,6 +17,7 @@ text_of Info = codes "/hub/api/info"
 text_of Identity = codes "/hub/api/user"
 text_of Users = codes "/hub/api/users"
 text_of User = codes "/hub/api/users/{user}"
+text_of Activity = codes "/hub/api/users/{user}/activity"
 text_of Groups = codes "/hub/api/groups"
 text_of Group = codes "/hub/api/groups/{group}"
 text_of Members = codes "/hub/api/groups/{group}/users"
@@ -27,7 +28,7 @@ text_of Role = codes "/hub/api/roles/{role}"
 
 -- the paths of the calls that are built
 unfoldable pub every_path : List Path
-every_path = Bare ∷ Version ∷ Info ∷ Identity ∷ Users ∷ User ∷ Groups ∷ Group ∷ Members ∷ Services ∷ Service ∷ Roles ∷ Role ∷ []
+every_path = Bare ∷ Version ∷ Info ∷ Identity ∷ Users ∷ User ∷ Activity ∷ Groups ∷ Group ∷ Members ∷ Services ∷ Service ∷ Roles ∷ Role ∷ []
 
 -- a route at its place among the routes of a router
 abbrev pub with_route : Result Scan InsertError → Path → RowsOf (RouteOf Path) → RowsOf (RouteOf Path)

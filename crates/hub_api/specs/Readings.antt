@@ -2,12 +2,12 @@
 use Rattle.std.specs.Prelude.{ℕ, List, codes, Result, Ok}
 use Rattle.http_wire.specs.declared.request.Request.{Request}
 use Rattle.hub_machine.specs.declared.call.Call.{Call}
-use Rattle.hub_machine.specs.declared.call.Call.TheVariants.{GetIdentity, GetUsers, PostUsers, GetUser, PostUser, PatchUser, DeleteUser, GetGroups, GetGroup, PostGroup, DeleteGroup, JoinGroup, LeaveGroup, GetServices, GetService, PostService, DeleteService, GetRoles, GetRole, PutRole, DeleteRole}
+use Rattle.hub_machine.specs.declared.call.Call.TheVariants.{GetIdentity, GetUsers, PostUsers, GetUser, PostUser, PatchUser, DeleteUser, PostActivity, GetGroups, GetGroup, PostGroup, DeleteGroup, JoinGroup, LeaveGroup, GetServices, GetService, PostService, DeleteService, GetRoles, GetRole, PutRole, DeleteRole}
 use Rattle.request_parts.specs.Steps.{◌>>=◌}
 use Rattle.hub_api.specs.Names.{name_at}
 use Rattle.hub_api.specs.Queries.{page_of, server_of}
-use Rattle.hub_api.specs.declared.paths.Path.TheVariants.{User, Group, Members, Service, Role}
-use Rattle.hub_api.specs.Bodies.{body_of, needed_truth, truth, names, some_names, distinct_names, scope_texts, scopes}
+use Rattle.hub_api.specs.declared.paths.Path.TheVariants.{User, Activity, Group, Members, Service, Role}
+use Rattle.hub_api.specs.Bodies.{body_of, needed_truth, truth, names, some_names, distinct_names, moment, activity, scope_texts, scopes}
 use Rattle.hub_api.specs.declared.refusal.ApiRefusal.{ApiRefusal}
 
 -- GET /user
@@ -60,6 +60,15 @@ abbrev pub delete_user : Request → Result Call ApiRefusal
 delete_user q = do
   user ← user_at q
   Ok (DeleteUser user)
+
+-- POST /users/{user}/activity
+unfoldable pub post_activity : Request → Result Call ApiRefusal
+post_activity q = do
+  user ← name_at Activity (codes "{user}") q
+  body ← body_of q
+  last_activity ← moment (codes "last_activity") body
+  servers ← activity (codes "servers") body
+  Ok (PostActivity user last_activity servers)
 
 -- ---- groups
 

@@ -11,10 +11,12 @@ use crate::paths::Path;
 use crate::refusal::ApiRefusal;
 use http_wire::request::Request;
 use hub_kit::list::List;
-use hub_kit::names::{ServerKey, UserName, read_key};
+use hub_kit::moment::Moment;
+use hub_kit::names::{ServerKey, ServerName, UserName, read_key};
 use hub_kit::text::Text;
 use hub_view::Page;
-use request_parts::body::{body_object, list_at, truth_at, truth_or};
+use request_parts::activity::activity_at;
+use request_parts::body::{body_object, list_at, optional_at, truth_at, truth_or};
 use request_parts::from_text::FromText;
 use request_parts::path::{read_in_path, segment_number};
 use request_parts::query::{query_number, query_value};
@@ -111,6 +113,32 @@ pub(crate) fn truth(body: &Value, key: &str) -> Result<bool, ApiRefusal>
 {
     match truth_or(body, key, false) {
         Some(value) => Ok(value),
+        None => Err(ApiRefusal::BadBody),
+    }
+}
+
+/// A moment of the body, which may be absent.
+#[tactic(auto, unfolding(crate::specs::Bodies::moment))]
+pub(crate) fn moment(alloc: Global, body: &Value, key: &str) -> Result<Option<Moment>, ApiRefusal>
+    ensures { Gives result (spec.moment key.now (view body.now)) }
+{
+    match optional_at(alloc, body, key)? {
+        Some(moment) => Ok(moment),
+        None => Err(ApiRefusal::BadBody),
+    }
+}
+
+/// Of each of some servers its name, and when it was last active, if that is told.
+#[tactic(auto, unfolding(crate::specs::Bodies::activity))]
+pub(crate) fn activity_of(
+    alloc: Global,
+    body: &Value,
+    key: &str,
+) -> Result<List<(ServerName, Option<Moment>)>, ApiRefusal>
+    ensures { Gives result (spec.activity key.now (view body.now)) }
+{
+    match activity_at(alloc, body, key)? {
+        Some(servers) => Ok(servers),
         None => Err(ApiRefusal::BadBody),
     }
 }

@@ -16,6 +16,7 @@ pub enum Path {
     Identity,
     Users,
     User,
+    Activity,
     Groups,
     Group,
     Members,
@@ -37,6 +38,7 @@ impl Path {
             Path::Identity => "/hub/api/user",
             Path::Users => "/hub/api/users",
             Path::User => "/hub/api/users/{user}",
+            Path::Activity => "/hub/api/users/{user}/activity",
             Path::Groups => "/hub/api/groups",
             Path::Group => "/hub/api/groups/{group}",
             Path::Members => "/hub/api/groups/{group}/users",
@@ -49,13 +51,14 @@ impl Path {
 }
 
 /// All paths.
-static PATHS: [Path; 13] = [
+static PATHS: [Path; 14] = [
     Path::Bare,
     Path::Version,
     Path::Info,
     Path::Identity,
     Path::Users,
     Path::User,
+    Path::Activity,
     Path::Groups,
     Path::Group,
     Path::Members,

@@ -12,7 +12,7 @@ use crate::paths::{ApiRouter, Path, path_of};
 use crate::refusal::ApiRefusal;
 use crate::roles::{role, roles};
 use crate::services::{service, services};
-use crate::users::{user, users};
+use crate::users::{activity, user, users};
 use http_wire::request::Request;
 use hub_machine::call::{Asked, Call};
 use std::alloc::Global;
@@ -65,6 +65,7 @@ fn at_path(alloc: Global, path: Path, method: Method, request: &Request) -> Resu
         Path::Identity => identity(alloc, method, request),
         Path::Users => users(alloc, method, request),
         Path::User => user(alloc, method, request),
+        Path::Activity => activity(alloc, method, request),
         Path::Groups => groups(alloc, method, request),
         Path::Group => group(alloc, method, request),
         Path::Members => members(alloc, method, request),

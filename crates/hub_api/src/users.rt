@@ -4,7 +4,9 @@ ghost use Rattle.hub_api.specs.Readings as spec;
 ghost use Rattle.hub_api.specs.Calls as paths;
 
 use crate::method::Method;
-use crate::parts::{body_of, distinct_names, name_at, needed_truth, page_of, truth};
+use crate::parts::{
+    activity_of, body_of, distinct_names, moment, name_at, needed_truth, page_of, truth,
+};
 use crate::paths::Path;
 use crate::refusal::ApiRefusal;
 use http_wire::request::Request;
@@ -49,6 +51,16 @@ pub(crate) fn user(alloc: Global, method: Method, request: &Request) -> Result<C
     }
 }
 
+/// `/users/{user}/activity`, by its methods.
+pub(crate) fn activity(alloc: Global, method: Method, request: &Request) -> Result<Call, ApiRefusal>
+    ensures { Gives result (paths.activity method request.now) }
+{
+    match method {
+        Method::Post => post_activity(alloc, request),
+        _ => Err(ApiRefusal::NoMethod),
+    }
+}
+
 #[tactic(auto, unfolding(crate::specs::Readings::get_users))]
 fn get_users(alloc: Global, request: &Request) -> Result<Call, ApiRefusal>
     ensures { Gives result (spec.get_users request.now) }
@@ -86,5 +98,21 @@ fn patch_user(alloc: Global, request: &Request) -> Result<Call, ApiRefusal>
     Ok(Call::PatchUser {
         user,
         admin: admin?,
+    })
+}
+
+#[tactic(auto, unfolding(crate::specs::Readings::post_activity))]
+fn post_activity(alloc: Global, request: &Request) -> Result<Call, ApiRefusal>
+    ensures { Gives result (spec.post_activity request.now) }
+{
+    let user: UserName = name_at(alloc, request, Path::Activity, "{user}")?;
+    let body = body_of(alloc, request)?;
+    let last_activity = moment(alloc, &body, "last_activity");
+    let servers = activity_of(alloc, &body, "servers");
+    drop(body);
+    Ok(Call::PostActivity {
+        user,
+        last_activity: last_activity?,
+        servers: servers?,
     })
 }

@@ -4,6 +4,7 @@ pub mod Ruling
 pub mod AddingUsers
 pub mod Statuses
 pub mod UserCalls
+pub mod ServerCalls
 pub mod GroupCalls
 pub mod ServiceCalls
 pub mod RoleCalls

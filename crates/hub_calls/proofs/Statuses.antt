@@ -18,6 +18,7 @@ no_rule : (r : RuleRefusal) → (status_of (refusal_of r) == 503) ≡ false
 no_rule (Rule.Exists key) = refl
 no_rule Rule.LiveServers = refl
 no_rule (Rule.UnknownUser user) = refl
+no_rule (Rule.UnknownServer server) = refl
 no_rule Rule.FixedRole = refl
 no_rule (Rule.UnknownScope scope) = refl
 no_rule (Rule.UnknownHolder name) = refl

@@ -16,6 +16,7 @@ abbrev pub refusal_of : RuleRefusal → Refusal
 refusal_of (Rule.Exists key) = No.Exists key
 refusal_of Rule.LiveServers = No.Rule (codes "live servers")
 refusal_of (Rule.UnknownUser user) = No.Rule (codes "unknown user " ++ user)
+refusal_of (Rule.UnknownServer server) = No.Rule (codes "unknown server " ++ server)
 refusal_of Rule.FixedRole = No.Rule (codes "fixed role")
 refusal_of (Rule.UnknownScope scope) = No.Rule (codes "unknown scope " ++ scope)
 refusal_of (Rule.UnknownHolder name) = No.Rule (codes "unknown holder " ++ name)

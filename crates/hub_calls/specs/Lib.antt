@@ -3,6 +3,7 @@ pub mod Facts
 pub mod Calling
 pub mod Puts
 pub mod UserCalls
+pub mod ServerCalls
 pub mod GroupCalls
 pub mod ServiceCalls
 pub mod RoleCalls

@@ -9,5 +9,6 @@ pub mod group_calls;
 mod lists;
 pub mod role_calls;
 mod ruled;
+pub mod server_calls;
 pub mod service_calls;
 pub mod user_calls;

@@ -34,6 +34,7 @@ fn refusal_said(alloc: Global, refusal: RuleRefusal) -> Result<Refusal, AllocErr
         RuleRefusal::Exists(key) => Ok(Refusal::Exists(key)),
         RuleRefusal::LiveServers => worded(alloc, "live servers", ""),
         RuleRefusal::UnknownUser(user) => worded(alloc, "unknown user ", user.as_str()),
+        RuleRefusal::UnknownServer(server) => worded(alloc, "unknown server ", server.as_str()),
         RuleRefusal::FixedRole => worded(alloc, "fixed role", ""),
         RuleRefusal::UnknownScope(scope) => worded(alloc, "unknown scope ", scope.as_str()),
         RuleRefusal::UnknownHolder(name) => worded(alloc, "unknown holder ", name.as_str()),

@@ -1,7 +1,7 @@
 -- No row that an answer changes is one that a test finds, where the test finds none of the kinds of rows that answers change.
 use Rattle.std.proofs.Common.{◌≡◌, ℕ, Bool, true, false, ◌||◌, not, cond, List, [], ◌∷◌, ◌++◌, map, filter, length, Option, refl, sym, subst}
 use Rattle.std.specs.Prelude.{Some, None, Ok, Err}
-use Rattle.std.specs.List.{list_any}
+use Rattle.std.specs.List.{flat_map, list_any}
 use Rattle.std.specs.FinMap.{get, contains_key, len, values}
 use Rattle.hub_kit.specs.KeyOrder.{name_cmp}
 use Rattle.hub_kit.specs.declared.names.ServerKey.{ServerKey}
@@ -28,6 +28,7 @@ use Rattle.admin_rules.specs.Rules as rules
 use Rattle.admin_rules.specs.Users as users
 use Rattle.admin_rules.specs.Users.{new_user}
 use Rattle.admin_rules.specs.Groups as groups
+use Rattle.admin_rules.specs.Servers as servers
 use Rattle.admin_rules.specs.Services as services
 use Rattle.admin_rules.specs.Roles as roles
 use Rattle.admin_rules.specs.Purges.{changes_of, has_member, without_member, is_held_by_user, without_user, is_token_of_user, is_server_of_user, is_share_of_user, is_code_of_user, is_called, clients_of_user, is_grant_of_user, user_rows, is_held_by_group, without_group, is_share_to_group, group_rows, is_held_by_service, without_service, is_token_of_service, is_client, client_of_service, service_rows}
@@ -48,7 +49,7 @@ use Rattle.hub_machine.specs.declared.refusal.Refusal.{Refusal}
 use Rattle.hub_machine.specs.declared.refusal.Refusal.TheVariants.{SeenPast, NotFound, TrailFull}
 use Rattle.hub_machine.specs.declared.call.Asked.{Asked}
 use Rattle.hub_machine.specs.declared.call.Call.{Call}
-use Rattle.hub_machine.specs.declared.call.Call.TheVariants.{PostUsers, PostUser, PatchUser, DeleteUser, PostGroup, DeleteGroup, JoinGroup, LeaveGroup, PostService, DeleteService, PutRole, DeleteRole}
+use Rattle.hub_machine.specs.declared.call.Call.TheVariants.{PostUsers, PostUser, PatchUser, DeleteUser, PostActivity, PostGroup, DeleteGroup, JoinGroup, LeaveGroup, PostService, DeleteService, PutRole, DeleteRole}
 
 -- the test finds none of the kinds of rows that answers change
 pub record IsCalm (test : RowChange → Bool) : Type 0 where
@@ -61,6 +62,7 @@ pub record IsCalm (test : RowChange → Bool) : Type 0 where
   pub put_role : (x : Role) → test (Put (Row.Role x)) ≡ false
   pub remove_role : (x : List ℕ) → test (Remove (RowKey.Role x)) ≡ false
   pub remove_token : (x : ℕ) → test (Remove (RowKey.Token x)) ≡ false
+  pub put_server : (x : ServerRow) → test (Put (Row.ServerRow x)) ≡ false
   pub remove_server : (x : ServerKey) → test (Remove (RowKey.ServerRow x)) ≡ false
   pub remove_share : (x : ShareKey) → test (Remove (RowKey.Share x)) ≡ false
   pub remove_code : (x : ℕ) → test (Remove (RowKey.ShareCode x)) ≡ false
@@ -217,6 +219,32 @@ module _ (test : RowChange → Bool) (calm : IsCalm test) where
   one_role r None = one (Put (Row.Role r)) (calm.put_role r)
   one_role r (Some k) = calm_by_unless (roles.same_role r k) (Put (Row.Role r) ∷ []) (one _ (calm.put_role _))
 
+  user_seen : (user : User) (at : Option ℕ) → AreCalm (servers.user_seen user at)
+  user_seen user None = refl
+  user_seen user (Some at) = one _ (calm.put_user _)
+
+  user_active : (now : ℕ) (told : Option ℕ) (kept : Option User) → AreCalm (servers.user_activity now told kept)
+  user_active now told None = refl
+  user_active now told (Some user) = user_seen user (servers.newer now user.last_activity told)
+
+  server_seen : (row : ServerRow) (at : Option ℕ) → AreCalm (servers.server_seen row at)
+  server_seen row None = refl
+  server_seen row (Some at) = one _ (calm.put_server _)
+
+  server_active : (now : ℕ) (told : Option ℕ) (kept : Option ServerRow) → AreCalm (servers.server_activity now told kept)
+  server_active now told None = refl
+  server_active now told (Some row) = server_seen row (servers.newer now row.last_activity told)
+
+  servers_active : (t : State) (now : ℕ) (user : List ℕ) (told : servers.Told) → AreCalm (servers.servers_activity t now user told)
+  servers_active t now user [] = refl
+  servers_active t now user (x ∷ rest) =
+      calm-append (servers.server_activity now x.1 (get t.servers (servers.server_of user x.0))) (servers.servers_activity t now user rest)
+      (server_active now x.1 (get t.servers (servers.server_of user x.0))) (servers_active t now user rest)
+
+  all_active : (t : State) (now : ℕ) (user : List ℕ) (last : Option ℕ) (told : servers.Told) → AreCalm (servers.user_activity now last (get t.users user) ++ servers.servers_activity t now user told)
+  all_active t now user last told =
+      calm-append (servers.user_activity now last (get t.users user)) (servers.servers_activity t now user told) (user_active now last (get t.users user)) (servers_active t now user told)
+
   -- ---- each call
 
   calm_by_row : (s : Hub) (may : Rights) (now : ℕ) (k : Token) (call : Call) → Calm test (row s may now k call)
@@ -225,6 +253,8 @@ module _ (test : RowChange → Bool) (calm : IsCalm test) where
   calm_by_row s may now k (PatchUser user admin) = calm_by_rules s (users.set_admin s.tables user admin) (λ after. good 200 (user_at may after user)) (λ rows e. calm_by_ok _ rows (one_admin admin (get s.tables.users user)) e)
   calm_by_row s may now k (DeleteUser user) = calm_by_rules s (users.delete_user s.tables user (has_live_server s.lives user)) _
       (λ rows e. calm_by_ruled (rules.if_so (has_live_server s.lives user) LiveServers ∷ []) _ rows (calm_by_if (contains_key s.tables.users user) (user_rows s.tables user) (calm_user s.tables user)) e)
+  calm_by_row s may now k (PostActivity user last told) = calm_by_rules s (servers.note_activity s.tables user now last told) done
+      (λ rows e. calm_by_ruled (servers.if_unknown_server s.tables user told ∷ []) _ rows (all_active s.tables now user last told) e)
   calm_by_row s may now k (PostGroup group names) = calm_by_rules s (groups.add_group s.tables group names) _
       (λ rows e. calm_by_ruled (rules.if_so (contains_key s.tables.groups group) (Exists group) ∷ groups.if_unknown_user s.tables names ∷ rules.if_full 2 s.tables.limits.groups (len s.tables.groups) 1 ∷ []) (Put (Row.Group (record { name = group; users = in_order name_cmp names })) ∷ []) rows (one _ (calm.put_group _)) e)
   calm_by_row s may now k (DeleteGroup group) = calm_by_rules s (groups.delete_group s.tables group) done

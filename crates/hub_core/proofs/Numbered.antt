@@ -66,6 +66,7 @@ none_numbered = record {
   put_role = λ x. refl;
   remove_role = λ x. refl;
   remove_token = λ x. refl;
+  put_server = λ x. refl;
   remove_server = λ x. refl;
   remove_share = λ x. refl;
   remove_code = λ x. refl;

@@ -12,6 +12,7 @@ use Rattle.hub_calls.specs.RoleCalls.{role_of}
 use Rattle.hub_calls.specs.UserCalls.{get_version}
 use Rattle.hub_calls.proofs.Statuses.{is_503}
 use Rattle.hub_calls.proofs.UserCalls as users
+use Rattle.hub_calls.proofs.ServerCalls as servers
 use Rattle.hub_calls.proofs.GroupCalls as groups
 use Rattle.hub_calls.proofs.ServiceCalls as services
 use Rattle.hub_calls.proofs.RoleCalls as roles
@@ -25,7 +26,7 @@ use Rattle.hub_machine.specs.declared.refusal.Refusal.{Refusal}
 use Rattle.hub_machine.specs.declared.refusal.Refusal.TheVariants.{SeenPast, Needs, NotFound, TrailFull}
 use Rattle.hub_machine.specs.declared.call.Asked.{Asked}
 use Rattle.hub_machine.specs.declared.call.Call.{Call}
-use Rattle.hub_machine.specs.declared.call.Call.TheVariants.{PostUsers, PostUser, PatchUser, DeleteUser, PostGroup, DeleteGroup, JoinGroup, LeaveGroup, PostService, DeleteService, PutRole, DeleteRole}
+use Rattle.hub_machine.specs.declared.call.Call.TheVariants.{PostUsers, PostUser, PatchUser, DeleteUser, PostActivity, PostGroup, DeleteGroup, JoinGroup, LeaveGroup, PostService, DeleteService, PutRole, DeleteRole}
 
 -- ---- the calls
 
@@ -34,6 +35,7 @@ no_row s may now k (PostUsers names admin) = users.post_users s may now names ad
 no_row s may now k (PostUser user) = users.post_user s may now user
 no_row s may now k (PatchUser user admin) = users.patch_user s may user admin
 no_row s may now k (DeleteUser user) = users.delete_user s user
+no_row s may now k (PostActivity user last_activity told) = servers.post_activity s now user last_activity told
 no_row s may now k (PostGroup group names) = groups.post_group s may group names
 no_row s may now k (DeleteGroup group) = groups.delete_group s group
 no_row s may now k (JoinGroup group names) = groups.join_group s may group names

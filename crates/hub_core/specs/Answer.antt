@@ -12,6 +12,7 @@ use Rattle.hub_machine.specs.Trails.{in_trail}
 use Rattle.hub_machine.specs.Replies.{Answer, refuses, gives, rules, if_so}
 use Rattle.hub_core.specs.Needs.{needs, needs_token, is_there}
 use Rattle.hub_calls.specs.UserCalls.{get_version, get_info, get_identity, get_users, post_users, get_user, post_user, patch_user, delete_user}
+use Rattle.hub_calls.specs.ServerCalls.{post_activity}
 use Rattle.hub_calls.specs.GroupCalls.{get_groups, get_group, post_group, delete_group, join_group, leave_group}
 use Rattle.hub_calls.specs.ServiceCalls.{get_services, get_service, post_service, delete_service}
 use Rattle.hub_calls.specs.RoleCalls.{get_roles, get_role, role_of, put_role, delete_role}
@@ -21,7 +22,7 @@ use Rattle.hub_machine.specs.declared.refusal.Refusal.{Refusal}
 use Rattle.hub_machine.specs.declared.refusal.Refusal.TheVariants.{SeenPast, NoValidToken, Needs, NotFound}
 use Rattle.hub_machine.specs.declared.call.Asked.{Asked}
 use Rattle.hub_machine.specs.declared.call.Call.{Call}
-use Rattle.hub_machine.specs.declared.call.Call.TheVariants.{GetVersion, GetInfo, GetIdentity, GetUsers, PostUsers, GetUser, PostUser, PatchUser, DeleteUser, GetGroups, GetGroup, PostGroup, DeleteGroup, JoinGroup, LeaveGroup, GetServices, GetService, PostService, DeleteService, GetRoles, GetRole, PutRole, DeleteRole}
+use Rattle.hub_machine.specs.declared.call.Call.TheVariants.{GetVersion, GetInfo, GetIdentity, GetUsers, PostUsers, GetUser, PostUser, PatchUser, DeleteUser, PostActivity, GetGroups, GetGroup, PostGroup, DeleteGroup, JoinGroup, LeaveGroup, GetServices, GetService, PostService, DeleteService, GetRoles, GetRole, PutRole, DeleteRole}
 
 -- what is decided over all scopes and objects, and not by looking into the tables (see Judged)
 pub record Judgement : Type 0 where
@@ -44,6 +45,7 @@ row s may now k (GetUser user) = get_user s may user
 row s may now k (PostUser user) = post_user s may now user
 row s may now k (PatchUser user admin) = patch_user s may user admin
 row s may now k (DeleteUser user) = delete_user s user
+row s may now k (PostActivity user last_activity servers) = post_activity s now user last_activity servers
 row s may now k (GetGroups offset limit paged) = get_groups s may (page offset limit paged)
 row s may now k (GetGroup group) = get_group s may group
 row s may now k (PostGroup group users) = post_group s may group users

@@ -8,7 +8,7 @@ use Rattle.admin_rules.specs.Roles.{is_fixed_role}
 use Rattle.hub_core.specs.declared.need.Need.{Need}
 use Rattle.hub_core.specs.declared.need.Need.TheVariants.{GoodToken, Held, On}
 use Rattle.hub_machine.specs.declared.call.Call.{Call}
-use Rattle.hub_machine.specs.declared.call.Call.TheVariants.{GetVersion, GetInfo, GetIdentity, GetUsers, PostUsers, GetUser, PostUser, PatchUser, DeleteUser, GetGroups, GetGroup, PostGroup, DeleteGroup, JoinGroup, LeaveGroup, GetServices, GetService, PostService, DeleteService, GetRoles, GetRole, PutRole, DeleteRole}
+use Rattle.hub_machine.specs.declared.call.Call.TheVariants.{GetVersion, GetInfo, GetIdentity, GetUsers, PostUsers, GetUser, PostUser, PatchUser, DeleteUser, PostActivity, GetGroups, GetGroup, PostGroup, DeleteGroup, JoinGroup, LeaveGroup, GetServices, GetService, PostService, DeleteService, GetRoles, GetRole, PutRole, DeleteRole}
 
 abbrev pub needs : Call → Need
 needs GetVersion = GoodToken
@@ -20,6 +20,7 @@ needs (GetUser user) = On A.ReadUsersName (Ob.User user)
 needs (PostUser user) = On A.AdminUsers (Ob.User user)
 needs (PatchUser user admin) = On A.AdminUsers Ob.Hub
 needs (DeleteUser user) = On A.DeleteUsers (Ob.User user)
+needs (PostActivity user last_activity servers) = On A.UsersActivity (Ob.User user)
 needs (GetGroups offset limit paged) = Held A.ListGroups
 needs (GetGroup group) = On A.ReadGroupsName (Ob.Group group)
 needs (PostGroup group users) = On A.AdminGroups (Ob.Group group)
@@ -45,6 +46,7 @@ abbrev pub is_there : State → Call → Bool
 is_there t (GetUser user) = contains_key t.users user
 is_there t (PatchUser user admin) = contains_key t.users user
 is_there t (DeleteUser user) = contains_key t.users user
+is_there t (PostActivity user last_activity servers) = contains_key t.users user
 is_there t (GetGroup group) = contains_key t.groups group
 is_there t (DeleteGroup group) = contains_key t.groups group
 is_there t (JoinGroup group users) = contains_key t.groups group

@@ -9,6 +9,7 @@ use hub_calls::group_calls::{
     delete_group, get_group, get_groups, join_group, leave_group, post_group,
 };
 use hub_calls::role_calls::{delete_role, get_role, get_roles, put_role, role_of};
+use hub_calls::server_calls::post_activity;
 use hub_calls::service_calls::{delete_service, get_service, get_services, post_service};
 use hub_calls::user_calls::{
     delete_user, get_identity, get_info, get_user, get_users, get_version, patch_user, post_user,
@@ -79,6 +80,11 @@ pub(crate) fn row(
         Call::PostUser { user } => post_user(alloc, hub, rights, now, user),
         Call::PatchUser { user, admin } => patch_user(alloc, hub, rights, user, *admin),
         Call::DeleteUser { user } => delete_user(alloc, hub, user),
+        Call::PostActivity {
+            user,
+            last_activity,
+            servers,
+        } => post_activity(alloc, hub, now, user, *last_activity, servers.as_slice()),
         Call::GetGroups {
             offset,
             limit,

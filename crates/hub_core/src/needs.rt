@@ -34,6 +34,7 @@ pub(crate) fn needs(call: &Call) -> Need
         Call::GetUser { user } => Need::On(Action::ReadUsersName, Object::User(*user)),
         Call::PostUser { user } => Need::On(Action::AdminUsers, Object::User(*user)),
         Call::DeleteUser { user } => Need::On(Action::DeleteUsers, Object::User(*user)),
+        Call::PostActivity { user, .. } => Need::On(Action::UsersActivity, Object::User(*user)),
         Call::GetGroups { .. } => Need::Held(Action::ListGroups),
         Call::GetGroup { group } => Need::On(Action::ReadGroupsName, Object::Group(*group)),
         Call::PostGroup { group, .. } => Need::On(Action::AdminGroups, Object::Group(*group)),
@@ -107,8 +108,10 @@ pub(crate) fn is_there(hub: &Machine, call: &Call) -> bool
     ensures { result ≡ need.is_there hub.now.tables call.now }
 {
     match call {
-        Call::GetUser { user } | Call::PatchUser { user, .. } | Call::DeleteUser { user } =>
-            has_user(hub, user),
+        Call::GetUser { user }
+        | Call::PatchUser { user, .. }
+        | Call::DeleteUser { user }
+        | Call::PostActivity { user, .. } => has_user(hub, user),
         Call::GetGroup { group }
         | Call::DeleteGroup { group }
         | Call::JoinGroup { group, .. }

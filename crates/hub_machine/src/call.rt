@@ -1,6 +1,7 @@
 //! What is asked of the hub.
 use hub_kit::list::List;
-use hub_kit::names::{GroupName, RoleName, ServerKey, ServiceName, UserName};
+use hub_kit::moment::Moment;
+use hub_kit::names::{GroupName, RoleName, ServerKey, ServerName, ServiceName, UserName};
 use hub_kit::text::Text;
 use scope_filters::scope::RawScope;
 
@@ -43,6 +44,13 @@ pub enum Call {
     /// `DELETE /users/{user}`
     DeleteUser {
         user: UserName,
+    },
+    /// `POST /users/{user}/activity`. Of each of the servers its name, and when it was last active, if that is told, in the order
+    /// of names.
+    PostActivity {
+        user: UserName,
+        last_activity: Option<Moment>,
+        servers: List<(ServerName, Option<Moment>)>,
     },
     /// `GET /groups`
     GetGroups {

@@ -31,7 +31,30 @@ struct Session {
 const NEVER: u64 = u64::MAX;
 
 /// The hub's clock stands at 1700000000.
-const SESSIONS: [Session; 14] = [
+const SESSIONS: [Session; 15] = [
+    Session {
+        name: "activity counts 30 seconds later, and up to now",
+        words: "session 1700000000 ann secret-token-ann",
+        cut: 1000,
+        failing_read: NEVER,
+        failing_write: NEVER,
+        input: b"POST /hub/api/users/ann/activity HTTP/1.1\r\nAuthorization: token secret-token-ann\r\nContent-Length: 40\r\n\r\n{\"last_activity\":\"2023-11-14T22:12:50Z\"}\
+    POST /hub/api/users/ann/activity HTTP/1.1\r\nAuthorization: token secret-token-ann\r\nContent-Length: 40\r\n\r\n{\"last_activity\":\"2023-11-14T22:13:19Z\"}\
+    POST /hub/api/users/ann/activity HTTP/1.1\r\nAuthorization: token secret-token-ann\r\nContent-Length: 40\r\n\r\n{\"last_activity\":\"2030-01-01T00:00:00Z\"}\
+    GET /hub/api/user HTTP/1.1\r\nAuthorization: token secret-token-ann\r\n\r\n\
+    POST /hub/api/users/ann/activity HTTP/1.1\r\nAuthorization: token secret-token-ann\r\nContent-Length: 22\r\n\r\n{\"servers\":{\"lab\":{}}}\
+    POST /hub/api/users/ann/activity HTTP/1.1\r\nAuthorization: token secret-token-ann\r\nContent-Length: 22\r\n\r\n{\"last_activity\":null}\
+    GET /hub/api/users/ann/activity HTTP/1.1\r\nAuthorization: token secret-token-ann\r\n\r\n",
+        spaces: 0,
+        status: 0,
+        output: b"HTTP/1.1 204 No Content\r\nX-Hub-Revision: 1\r\n\r\n\
+    HTTP/1.1 204 No Content\r\nX-Hub-Revision: 1\r\n\r\n\
+    HTTP/1.1 204 No Content\r\nX-Hub-Revision: 2\r\n\r\n\
+    HTTP/1.1 200 OK\r\nContent-Type: application/json\r\nContent-Length: 160\r\nX-Hub-Revision: 2\r\n\r\n{\"admin\":false,\"created\":\"2023-11-14T22:13:20Z\",\"groups\":[],\"kind\":\"user\",\"last_activity\":\"2023-11-14T22:13:20Z\",\"name\":\"ann\",\"scopes\":[\"inherit\"],\"servers\":{}}\
+    HTTP/1.1 400 Bad Request\r\nContent-Type: application/json\r\nContent-Length: 45\r\nX-Hub-Revision: 2\r\n\r\n{\"message\":\"unknown server lab\",\"status\":400}\
+    HTTP/1.1 400 Bad Request\r\nContent-Type: application/json\r\nContent-Length: 35\r\n\r\n{\"message\":\"bad body\",\"status\":400}\
+    HTTP/1.1 405 Method Not Allowed\r\nContent-Type: application/json\r\nContent-Length: 45\r\n\r\n{\"message\":\"method not allowed\",\"status\":405}",
+    },
     Session {
         name: "an admin gives the own right away",
         words: "session 1700000000 ann secret-token-ann --admin",
