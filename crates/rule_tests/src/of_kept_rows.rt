@@ -94,7 +94,7 @@ fn a_row_of_ten_kinds(rt: HostRuntime) {
 fn is_code_put(tables: &mut Tables, code: ShareCode) -> bool
     requires { tables.old.codes ≡ map.empty }
 {
-    tables.put_code(code, 0).is_ok()
+    tables.put_code(code, Some(0)).is_ok()
 }
 
 /// Whether a token is new, and put.
@@ -102,7 +102,7 @@ fn is_token_put(tables: &mut Tables, token: Token) -> bool {
     if !tables.token_is_new(token.id, &token.hash) {
         return false;
     }
-    tables.put_token(token, 0).is_ok()
+    tables.put_token(token, Some(0)).is_ok()
 }
 
 /// Whether a token and a share code of these hashes are found.
