@@ -25,7 +25,7 @@ user_at q = name_at User (codes "{user}") q
 unfoldable pub get_users : Request → Result Call ApiRefusal
 get_users q = do
   page ← page_of q
-  Ok (GetUsers page.offset page.limit page.paged)
+  Ok (GetUsers page)
 
 -- POST /users
 unfoldable pub post_users : Request → Result Call ApiRefusal
@@ -79,7 +79,7 @@ group_at q = name_at Group (codes "{group}") q
 unfoldable pub get_groups : Request → Result Call ApiRefusal
 get_groups q = do
   page ← page_of q
-  Ok (GetGroups page.offset page.limit page.paged)
+  Ok (GetGroups page)
 
 -- GET /groups/{group}
 abbrev pub get_group : Request → Result Call ApiRefusal
@@ -130,7 +130,7 @@ service_at q = name_at Service (codes "{service}") q
 unfoldable pub get_services : Request → Result Call ApiRefusal
 get_services q = do
   page ← page_of q
-  Ok (GetServices page.offset page.limit page.paged)
+  Ok (GetServices page)
 
 -- GET /services/{service}
 abbrev pub get_service : Request → Result Call ApiRefusal
@@ -159,7 +159,7 @@ role_at q = name_at Role (codes "{role}") q
 unfoldable pub get_roles : Request → Result Call ApiRefusal
 get_roles q = do
   page ← page_of q
-  Ok (GetRoles page.offset page.limit page.paged)
+  Ok (GetRoles page)
 
 -- GET /roles/{role}
 abbrev pub get_role : Request → Result Call ApiRefusal

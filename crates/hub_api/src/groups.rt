@@ -61,11 +61,8 @@ pub(crate) fn members(alloc: Global, method: Method, request: &Request) -> Resul
 fn get_groups(alloc: Global, request: &Request) -> Result<Call, ApiRefusal>
     ensures { Gives result (spec.get_groups request.now) }
 {
-    let page = page_of(alloc, request)?;
     Ok(Call::GetGroups {
-        offset: page.offset,
-        limit: page.limit,
-        paged: page.paged,
+        page: page_of(alloc, request)?,
     })
 }
 

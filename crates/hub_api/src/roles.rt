@@ -55,11 +55,8 @@ pub(crate) fn role(alloc: Global, method: Method, request: &Request) -> Result<C
 fn get_roles(alloc: Global, request: &Request) -> Result<Call, ApiRefusal>
     ensures { Gives result (spec.get_roles request.now) }
 {
-    let page = page_of(alloc, request)?;
     Ok(Call::GetRoles {
-        offset: page.offset,
-        limit: page.limit,
-        paged: page.paged,
+        page: page_of(alloc, request)?,
     })
 }
 

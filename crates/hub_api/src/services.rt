@@ -51,10 +51,7 @@ pub(crate) fn service(alloc: Global, method: Method, request: &Request) -> Resul
 fn get_services(alloc: Global, request: &Request) -> Result<Call, ApiRefusal>
     ensures { Gives result (spec.get_services request.now) }
 {
-    let page = page_of(alloc, request)?;
     Ok(Call::GetServices {
-        offset: page.offset,
-        limit: page.limit,
-        paged: page.paged,
+        page: page_of(alloc, request)?,
     })
 }

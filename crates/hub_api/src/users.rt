@@ -65,11 +65,8 @@ pub(crate) fn activity(alloc: Global, method: Method, request: &Request) -> Resu
 fn get_users(alloc: Global, request: &Request) -> Result<Call, ApiRefusal>
     ensures { Gives result (spec.get_users request.now) }
 {
-    let page = page_of(alloc, request)?;
     Ok(Call::GetUsers {
-        offset: page.offset,
-        limit: page.limit,
-        paged: page.paged,
+        page: page_of(alloc, request)?,
     })
 }
 

@@ -6,7 +6,6 @@ use Rattle.hub_tables.specs.Ends.{is_over}
 use Rattle.hub_tables.specs.Hashes.{row_with}
 use Rattle.hub_tables.specs.State.{State}
 use Rattle.hub_view.specs.Fields.{Rights}
-use Rattle.hub_view.specs.declared.pages.Page.{Page}
 use Rattle.hub_machine.specs.State.{Hub}
 use Rattle.hub_machine.specs.Trails.{in_trail}
 use Rattle.hub_machine.specs.Replies.{Answer, refuses, gives, rules, if_so}
@@ -31,32 +30,29 @@ pub record Judgement : Type 0 where
   -- whether the caller may do what the call needs on some object at all
   pub is_held : Bool
 
-abbrev page : ℕ → ℕ → Bool → Page
-page offset limit paged = record { offset = offset; limit = limit; paged = paged }
-
 -- the rules of the call in their order, and its Ok: one definition for each call
 abbrev pub row : Hub → Rights → ℕ → Token → Call → Answer
 row s may now k GetVersion = get_version
 row s may now k GetInfo = get_info s
 row s may now k (GetIdentity server) = get_identity s may k server
-row s may now k (GetUsers offset limit paged) = get_users s may (page offset limit paged)
+row s may now k (GetUsers page) = get_users s may page
 row s may now k (PostUsers names admin) = post_users s may now names admin
 row s may now k (GetUser user) = get_user s may user
 row s may now k (PostUser user) = post_user s may now user
 row s may now k (PatchUser user admin) = patch_user s may user admin
 row s may now k (DeleteUser user) = delete_user s user
 row s may now k (PostActivity user last_activity servers) = post_activity s now user last_activity servers
-row s may now k (GetGroups offset limit paged) = get_groups s may (page offset limit paged)
+row s may now k (GetGroups page) = get_groups s may page
 row s may now k (GetGroup group) = get_group s may group
 row s may now k (PostGroup group users) = post_group s may group users
 row s may now k (DeleteGroup group) = delete_group s group
 row s may now k (JoinGroup group users) = join_group s may group users
 row s may now k (LeaveGroup group users) = leave_group s may group users
-row s may now k (GetServices offset limit paged) = get_services s may (page offset limit paged)
+row s may now k (GetServices page) = get_services s may page
 row s may now k (GetService service) = get_service s may service
 row s may now k (PostService service) = post_service s may service
 row s may now k (DeleteService service) = delete_service s service
-row s may now k (GetRoles offset limit paged) = get_roles s (page offset limit paged)
+row s may now k (GetRoles page) = get_roles s page
 row s may now k (GetRole role) = get_role s role
 row s may now k (PutRole role scopes users groups services) = put_role s (role_of role scopes users groups services)
 row s may now k (DeleteRole role) = delete_role s role

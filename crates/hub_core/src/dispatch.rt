@@ -22,7 +22,6 @@ use hub_machine::answer::Answer;
 use hub_machine::call::Call;
 use hub_machine::machine::Machine;
 use hub_rows::records::Token;
-use hub_view::Page;
 use scope_filters::grant::Grant;
 use scope_filters::scope::RawScope;
 use std::alloc::{AllocError, Global};
@@ -68,11 +67,7 @@ pub(crate) fn row(
         Call::GetVersion => get_version(alloc),
         Call::GetInfo => get_info(alloc, hub),
         Call::GetIdentity { for_server } => get_identity(alloc, hub, rights, token, for_server),
-        Call::GetUsers {
-            offset,
-            limit,
-            paged,
-        } => get_users(alloc, hub, rights, page(*offset, *limit, *paged)),
+        Call::GetUsers { page } => get_users(alloc, hub, rights, *page),
         Call::PostUsers { usernames, admin } => {
             post_users(alloc, hub, rights, now, usernames.as_slice(), *admin)
         }
@@ -85,11 +80,7 @@ pub(crate) fn row(
             last_activity,
             servers,
         } => post_activity(alloc, hub, now, user, *last_activity, servers.as_slice()),
-        Call::GetGroups {
-            offset,
-            limit,
-            paged,
-        } => get_groups(alloc, hub, rights, page(*offset, *limit, *paged)),
+        Call::GetGroups { page } => get_groups(alloc, hub, rights, *page),
         Call::GetGroup { group } => get_group(alloc, hub, rights, group),
         Call::PostGroup { group, users } => post_group(alloc, hub, rights, group, users.as_slice()),
         Call::DeleteGroup { group } => delete_group(alloc, hub, group),
@@ -101,19 +92,11 @@ pub(crate) fn row(
             group,
             users.as_slice(),
         ),
-        Call::GetServices {
-            offset,
-            limit,
-            paged,
-        } => get_services(alloc, hub, rights, page(*offset, *limit, *paged)),
+        Call::GetServices { page } => get_services(alloc, hub, rights, *page),
         Call::GetService { service } => get_service(alloc, hub, rights, service),
         Call::PostService { service } => post_service(alloc, hub, rights, service),
         Call::DeleteService { service } => delete_service(alloc, hub, service),
-        Call::GetRoles {
-            offset,
-            limit,
-            paged,
-        } => get_roles(alloc, hub, page(*offset, *limit, *paged)),
+        Call::GetRoles { page } => get_roles(alloc, hub, *page),
         Call::GetRole { role } => get_role(alloc, hub, role),
         Call::PutRole {
             role,
@@ -123,15 +106,5 @@ pub(crate) fn row(
             services,
         } => put_role_with(alloc, hub, role, scopes, users, groups, services),
         Call::DeleteRole { role } => delete_role(alloc, hub, role),
-    }
-}
-
-fn page(offset: u64, limit: u64, paged: bool) -> Page
-    ensures { result ≡ record { offset = offset; limit = limit; paged = paged } }
-{
-    Page {
-        offset,
-        limit,
-        paged,
     }
 }

@@ -3,10 +3,11 @@ use hub_kit::list::List;
 use hub_kit::moment::Moment;
 use hub_kit::names::{GroupName, RoleName, ServerKey, ServerName, ServiceName, UserName};
 use hub_kit::text::Text;
+use hub_view::Page;
 use scope_filters::scope::RawScope;
 
 /// A call of JupyterHub's REST API, named by its method and what it is on. The fields are the path's names, the query's keys and
-/// the body's keys, in this order; a list that can be paged has `paged` last.
+/// the body's keys, in this order; of a list that can be paged it is the page.
 #[derive(Drop)]
 pub enum Call {
     /// `GET /`: the version. It needs no token.
@@ -19,9 +20,7 @@ pub enum Call {
     },
     /// `GET /users`
     GetUsers {
-        offset: u64,
-        limit: u64,
-        paged: bool,
+        page: Page,
     },
     /// `POST /users`. There is a name, and the names are distinct.
     PostUsers {
@@ -54,9 +53,7 @@ pub enum Call {
     },
     /// `GET /groups`
     GetGroups {
-        offset: u64,
-        limit: u64,
-        paged: bool,
+        page: Page,
     },
     /// `GET /groups/{group}`
     GetGroup {
@@ -83,9 +80,7 @@ pub enum Call {
     },
     /// `GET /services`
     GetServices {
-        offset: u64,
-        limit: u64,
-        paged: bool,
+        page: Page,
     },
     /// `GET /services/{service}`
     GetService {
@@ -101,9 +96,7 @@ pub enum Call {
     },
     /// `GET /roles`
     GetRoles {
-        offset: u64,
-        limit: u64,
-        paged: bool,
+        page: Page,
     },
     /// `GET /roles/{role}`
     GetRole {

@@ -21,6 +21,7 @@ use Rattle.hub_tables.proofs.RowsAt.{own_users, own_groups, own_services}
 use Rattle.hub_view.specs.Json.{Json, whole, pairs, line}
 use Rattle.hub_view.specs.Fields as view
 use Rattle.hub_view.specs.Pages.{paged_list}
+use Rattle.hub_view.specs.declared.pages.Page.{Page}
 use Rattle.hub_view.specs.Records.{role_body}
 use Rattle.hub_machine.specs.State.{Hub}
 use Rattle.hub_machine.specs.Trails.{in_trail}
@@ -184,21 +185,21 @@ module _ (k : Token) (s t : Hub) (seen : SeesSame k s t) where
         same_found (contains_key s.tables.roles r) (contains_key t.tables.roles r) _ _ (ap (λ roles. contains_key roles r) same)
         (λ there. ap (λ roles. body_of_role (get roles r)) same))
 
-    all_users : (offset limit : ℕ) (paged : Bool) → Same (GetUsers offset limit paged)
-    all_users offset limit paged can = where_held j.is_held (Needs A.ListUsers) _ _
-        (ap (λ shown. gives (good 200 (paged_list (codes "/users") (record { offset = offset; limit = limit; paged = paged }) shown))) (same_users own own' j.may can))
+    all_users : (page : Page) → Same (GetUsers page)
+    all_users page can = where_held j.is_held (Needs A.ListUsers) _ _
+        (ap (λ shown. gives (good 200 (paged_list (codes "/users") page shown))) (same_users own own' j.may can))
 
-    all_groups : (offset limit : ℕ) (paged : Bool) → Same (GetGroups offset limit paged)
-    all_groups offset limit paged can = where_held j.is_held (Needs A.ListGroups) _ _
-        (ap (λ shown. gives (good 200 (paged_list (codes "/groups") (record { offset = offset; limit = limit; paged = paged }) shown))) (same_groups own own' j.may can))
+    all_groups : (page : Page) → Same (GetGroups page)
+    all_groups page can = where_held j.is_held (Needs A.ListGroups) _ _
+        (ap (λ shown. gives (good 200 (paged_list (codes "/groups") page shown))) (same_groups own own' j.may can))
 
-    all_services : (offset limit : ℕ) (paged : Bool) → Same (GetServices offset limit paged)
-    all_services offset limit paged can = where_held j.is_held (Needs A.ListServices) _ _
-        (ap (λ shown. gives (good 200 (paged_list (codes "/services") (record { offset = offset; limit = limit; paged = paged }) shown))) (same_services own own' j.may can))
+    all_services : (page : Page) → Same (GetServices page)
+    all_services page can = where_held j.is_held (Needs A.ListServices) _ _
+        (ap (λ shown. gives (good 200 (paged_list (codes "/services") page shown))) (same_services own own' j.may can))
 
-    all_roles : (offset limit : ℕ) (paged : Bool) → Same (GetRoles offset limit paged)
-    all_roles offset limit paged can = on_object j.is_held (j.may A.AdminRoles Ob.Hub) (Needs A.AdminRoles) _ _ (λ m.
-        ap (λ (roles : FinMap name_cmp Role). gives (good 200 (paged_list (codes "/roles") (record { offset = offset; limit = limit; paged = paged }) (map role_body (values roles)))))
+    all_roles : (page : Page) → Same (GetRoles page)
+    all_roles page can = on_object j.is_held (j.may A.AdminRoles Ob.Hub) (Needs A.AdminRoles) _ _ (λ m.
+        ap (λ (roles : FinMap name_cmp Role). gives (good 200 (paged_list (codes "/roles") page (map role_body (values roles)))))
         (same_all_roles own own' j.may can m))
 
     who : (server : Option ServerKey) → Same (GetIdentity server)
@@ -220,13 +221,13 @@ module _ (k : Token) (s t : Hub) (seen : SeesSame k s t) where
     by_get GetInfo get a b = on_one GetInfo (same_on A.ReadHub Ob.Hub j j' a b) (says (On A.ReadHub Ob.Hub) j a) (info own own' now j)
     by_get (GetIdentity server) get a b =
         who own own' now j server (says GoodToken j a) ∙ ap (λ (may : view.Rights). gives (good 200 (identity may t k server k.owner))) (same_rights GoodToken GoodToken j j' a b)
-    by_get (GetUsers offset limit paged) get a b = on_one (GetUsers offset limit paged) (same_some A.ListUsers j j' a b) (says (Held A.ListUsers) j a) (all_users own own' now j offset limit paged)
+    by_get (GetUsers page) get a b = on_one (GetUsers page) (same_some A.ListUsers j j' a b) (says (Held A.ListUsers) j a) (all_users own own' now j page)
     by_get (GetUser user) get a b = on_one (GetUser user) (same_on A.ReadUsersName (Ob.User user) j j' a b) (says (On A.ReadUsersName (Ob.User user)) j a) (one_user own own' now j user)
-    by_get (GetGroups offset limit paged) get a b = on_one (GetGroups offset limit paged) (same_some A.ListGroups j j' a b) (says (Held A.ListGroups) j a) (all_groups own own' now j offset limit paged)
+    by_get (GetGroups page) get a b = on_one (GetGroups page) (same_some A.ListGroups j j' a b) (says (Held A.ListGroups) j a) (all_groups own own' now j page)
     by_get (GetGroup group) get a b = on_one (GetGroup group) (same_on A.ReadGroupsName (Ob.Group group) j j' a b) (says (On A.ReadGroupsName (Ob.Group group)) j a) (one_group own own' now j group)
-    by_get (GetServices offset limit paged) get a b = on_one (GetServices offset limit paged) (same_some A.ListServices j j' a b) (says (Held A.ListServices) j a) (all_services own own' now j offset limit paged)
+    by_get (GetServices page) get a b = on_one (GetServices page) (same_some A.ListServices j j' a b) (says (Held A.ListServices) j a) (all_services own own' now j page)
     by_get (GetService service) get a b = on_one (GetService service) (same_on A.ReadServicesName (Ob.Service service) j j' a b) (says (On A.ReadServicesName (Ob.Service service)) j a) (one_service own own' now j service)
-    by_get (GetRoles offset limit paged) get a b = on_one (GetRoles offset limit paged) (same_on A.AdminRoles Ob.Hub j j' a b) (says (On A.AdminRoles Ob.Hub) j a) (all_roles own own' now j offset limit paged)
+    by_get (GetRoles page) get a b = on_one (GetRoles page) (same_on A.AdminRoles Ob.Hub j j' a b) (says (On A.AdminRoles Ob.Hub) j a) (all_roles own own' now j page)
     by_get (GetRole role) get a b = on_one (GetRole role) (same_on A.AdminRoles Ob.Hub j j' a b) (says (On A.AdminRoles Ob.Hub) j a) (one_role own own' now j role)
     by_get _ get a b = absurd (cc)
 

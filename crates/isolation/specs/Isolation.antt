@@ -17,13 +17,13 @@ abbrev pub is_get : Call → Bool
 is_get GetVersion = true
 is_get GetInfo = true
 is_get (GetIdentity server) = true
-is_get (GetUsers offset limit paged) = true
+is_get (GetUsers page) = true
 is_get (GetUser user) = true
-is_get (GetGroups offset limit paged) = true
+is_get (GetGroups page) = true
 is_get (GetGroup group) = true
-is_get (GetServices offset limit paged) = true
+is_get (GetServices page) = true
 is_get (GetService service) = true
-is_get (GetRoles offset limit paged) = true
+is_get (GetRoles page) = true
 is_get (GetRole role) = true
 is_get _ = false
 
