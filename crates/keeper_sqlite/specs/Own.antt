@@ -1,6 +1,7 @@
 -- A store that this keeper made: which rows are in it.
 use Rattle.std.specs.Prelude.{◌≡◌, ◌⊎◌, false, Bool, IsTrue, List, [], ◌∷◌}
 use Rattle.keeper.specs.Rows.{Rows, no_rows}
+use Rattle.sqlite.specs.Disk.{MoreFaults}
 use Rattle.sqlite.specs.Effect.{Database}
 use Rattle.sqlite.specs.Held.{Held, state}
 use Rattle.sqlite.specs.Order.{Row}
@@ -34,6 +35,10 @@ module _ {S : Type 0} (g : Ghosts S) where
 
   abbrev pub told_rows : Held S → Rows
   told_rows h = rows_in (state g h).now
+
+  -- the disk failed, which was counted, and that shut the connection
+  abbrev pub IsShutByFault : Held S → Held S → Type 0
+  IsShutByFault old new = ((state g new).is_open ≡ false) × MoreFaults (state g old).faults (state g new).faults
 
   -- the store is as it was, unless it is shut
   abbrev pub Stands : Held S → Held S → Type 0

@@ -1,5 +1,5 @@
 //! A keeper over a database.
-ghost use Rattle.std.specs.Prelude.{◌≡◌, ◌≤◌, false, Ok, IsTrue, IfOk, IfErr, IsOkAnd, MatchResult, OnOk, OnErr};
+ghost use Rattle.std.specs.Prelude.{◌≡◌, ◌≤◌, ◌⊎◌, false, Ok, IsTrue, IfOk, IfErr, IsOkAnd, MatchResult, OnOk, OnErr};
 ghost use Rattle.hub_devices.specs.FailingCalls.{one_more};
 ghost use Rattle.hub_devices.specs.Faults.{Rises};
 ghost use Rattle.keeper.specs.Rows.{AreSame, Lists, no_rows, after_items, place_of};
@@ -8,7 +8,7 @@ ghost use Rattle.sqlite.specs.Held.{state};
 ghost use Rattle.sqlite.specs.View.{doubt};
 ghost use Rattle.sqlite.specs.Steps.{over_memory};
 ghost use Rattle.row_table.specs.Tables.{no_schema};
-ghost use Rattle.keeper_sqlite.specs.Own.{IsOwned, IsOwnStore, IsTold, Stands, told_rows};
+ghost use Rattle.keeper_sqlite.specs.Own.{IsOwned, IsOwnStore, IsShutByFault, IsTold, Stands, told_rows};
 ghost use Rattle.keeper_sqlite.specs.Statements.{IsCommitted, IsLoaded};
 ghost use Rattle.keeper_sqlite.specs.Causes.{cause_of, counted, faults_after, IsNotRead};
 
@@ -167,6 +167,9 @@ impl<S: Alter + Drop> Keeper for SqliteKeeper<S> {
         ensures kept { IsTold S.Store self.new.connection self.new.is_own → IsTold S.Store self.old.connection self.old.is_own × AreSame (told_rows S.Store self.new.connection) (told_rows S.Store self.old.connection) }
         ensures own { self.new.is_own ≡ self.old.is_own }
         ensures tells { HasCleanDisk (state S.Store self.new.connection) → OnOk result (IsTold S.Store self.old.connection self.old.is_own → IsTold S.Store self.new.connection self.new.is_own) }
+        ensures stays { HasCleanDisk (state S.Store self.new.connection) → IsTold S.Store self.old.connection self.old.is_own
+            → IsTold S.Store self.new.connection self.new.is_own ⊎ IsShutByFault S.Store self.old.connection self.new.connection }
+        ensures disk { (state S.Store self.old.connection).faults ≤ (state S.Store self.new.connection).faults }
         ensures loaded { HasCleanDisk (state S.Store self.new.connection) → IfOk result (λ all. IsLoaded S.Store self.old.connection self.new.connection all.items) }
     {
         match store::load_rows(self.alloc, &mut self.connection) {
@@ -186,6 +189,9 @@ impl<S: Alter + Drop> Keeper for SqliteKeeper<S> {
         ensures err { IsTold S.Store self.new.connection self.new.is_own → OnErr result (AreSame (told_rows S.Store self.new.connection) (told_rows S.Store self.old.connection)) }
         ensures own { self.new.is_own ≡ self.old.is_own }
         ensures tells { HasCleanDisk (state S.Store self.new.connection) → OnOk result (IsTold S.Store self.old.connection self.old.is_own → IsTold S.Store self.new.connection self.new.is_own) }
+        ensures stays { HasCleanDisk (state S.Store self.new.connection) → IsTold S.Store self.old.connection self.old.is_own
+            → IsTold S.Store self.new.connection self.new.is_own ⊎ IsShutByFault S.Store self.old.connection self.new.connection }
+        ensures disk { (state S.Store self.old.connection).faults ≤ (state S.Store self.new.connection).faults }
         ensures done { HasCleanDisk (state S.Store self.new.connection) → OnOk result (IsCommitted S.Store batch.now self.old.connection self.new.connection) }
         ensures undone { HasCleanDisk (state S.Store self.new.connection) → IsTrue (state S.Store self.new.connection).is_open
             → OnErr result (((state S.Store self.new.connection).now ≡ (state S.Store self.old.connection).now) × ((state S.Store self.new.connection).committed ≡ (state S.Store self.old.connection).committed)) }

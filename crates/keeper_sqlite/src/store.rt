@@ -6,6 +6,7 @@ ghost use Rattle.sqlite.specs.declared.types.Value.TheVariants.{Int};
 ghost use Rattle.sqlite.specs.State.{HasCleanDisk, ExecutesInside};
 ghost use Rattle.sqlite.specs.Held.{state};
 ghost use Rattle.keeper.specs.Rows.{Lists};
+ghost use Rattle.row_table.specs.Open.{StaysOpen};
 ghost use Rattle.row_table.specs.Tables.{no_schema};
 ghost use Rattle.row_table.specs.Texts.{number_text, StaysInside, Leaves};
 ghost use Rattle.row_table.specs.Unread.{IsUnread};
@@ -86,6 +87,7 @@ pub(crate) fn is_own<S: Alter>(conn: &mut Connection<S>) -> Result<bool, Error>
 fn raise<S: Alter>(tx: &mut Transaction<'_, S>, form: Form) -> Result<(), Error>
     ensures same_reference { tx.new.conn.ghost_name ≡ tx.old.conn.ghost_name }
     ensures clean { doubt (state S.Store tx.old.conn.now).is_clean ≤ doubt (state S.Store tx.new.conn.now).is_clean }
+    ensures stays { StaysOpen (state S.Store tx.old.conn.now) (state S.Store tx.new.conn.now) }
     ensures kept { HasCleanDisk (state S.Store tx.new.conn.now) → StaysInside (state S.Store tx.old.conn.now) (state S.Store tx.new.conn.now) result }
     ensures raised { HasCleanDisk (state S.Store tx.new.conn.now) → OnOk result (IsRaised S.Store form tx.old.conn.now tx.new.conn.now) }
 {
@@ -99,6 +101,7 @@ fn raise<S: Alter>(tx: &mut Transaction<'_, S>, form: Form) -> Result<(), Error>
 fn renew<S: Alter>(tx: &mut Transaction<'_, S>, is_empty: bool) -> Result<(), Error>
     ensures same_reference { tx.new.conn.ghost_name ≡ tx.old.conn.ghost_name }
     ensures clean { doubt (state S.Store tx.old.conn.now).is_clean ≤ doubt (state S.Store tx.new.conn.now).is_clean }
+    ensures stays { StaysOpen (state S.Store tx.old.conn.now) (state S.Store tx.new.conn.now) }
     ensures kept { HasCleanDisk (state S.Store tx.new.conn.now) → StaysInside (state S.Store tx.old.conn.now) (state S.Store tx.new.conn.now) result }
     ensures renewed { HasCleanDisk (state S.Store tx.new.conn.now) → OnOk result (IsRenewed S.Store is_empty tx.old.conn.now tx.new.conn.now) }
 {
@@ -112,6 +115,7 @@ fn renew<S: Alter>(tx: &mut Transaction<'_, S>, is_empty: bool) -> Result<(), Er
 fn do_item<S: Alter>(tx: &mut Transaction<'_, S>, item: &Item) -> Result<usize, Error>
     ensures same_reference { tx.new.conn.ghost_name ≡ tx.old.conn.ghost_name }
     ensures clean { doubt (state S.Store tx.old.conn.now).is_clean ≤ doubt (state S.Store tx.new.conn.now).is_clean }
+    ensures stays { StaysOpen (state S.Store tx.old.conn.now) (state S.Store tx.new.conn.now) }
     ensures done { HasCleanDisk (state S.Store tx.new.conn.now) → IsTrue (state S.Store tx.old.conn.now).in_transaction
         → ExecutesInside 0 (text_of item.now) (values_of item.now) (state S.Store tx.old.conn.now) (state S.Store tx.new.conn.now) result }
 {
@@ -125,6 +129,7 @@ fn do_item<S: Alter>(tx: &mut Transaction<'_, S>, item: &Item) -> Result<usize, 
 fn do_items<S: Alter>(tx: &mut Transaction<'_, S>, items: &[Item]) -> Result<(), Error>
     ensures same_reference { tx.new.conn.ghost_name ≡ tx.old.conn.ghost_name }
     ensures clean { doubt (state S.Store tx.old.conn.now).is_clean ≤ doubt (state S.Store tx.new.conn.now).is_clean }
+    ensures stays { StaysOpen (state S.Store tx.old.conn.now) (state S.Store tx.new.conn.now) }
     ensures kept { HasCleanDisk (state S.Store tx.new.conn.now) → StaysInside (state S.Store tx.old.conn.now) (state S.Store tx.new.conn.now) result }
     ensures done { HasCleanDisk (state S.Store tx.new.conn.now) → IsTrue (state S.Store tx.old.conn.now).in_transaction
         → OnOk result (AreDone S.Store items.now tx.old.conn.now tx.new.conn.now) }
@@ -139,6 +144,7 @@ fn do_items<S: Alter>(tx: &mut Transaction<'_, S>, items: &[Item]) -> Result<(),
 pub(crate) fn commit_items<S: Alter>(conn: &mut Connection<S>, items: &[Item]) -> Result<(), Error>
     ensures done { HasCleanDisk (state S.Store conn.new) → OnOk result (IsCommitted S.Store items.now conn.old conn.new) }
     ensures clean { doubt (state S.Store conn.old).is_clean ≤ doubt (state S.Store conn.new).is_clean }
+    ensures stays { StaysOpen (state S.Store conn.old) (state S.Store conn.new) }
     ensures was_open { HasCleanDisk (state S.Store conn.new) → IsTrue (state S.Store conn.new).is_open → IsTrue (state S.Store conn.old).is_open }
     ensures ended { conn.old.in_transaction ≡ false → conn.new.in_transaction ≡ false }
     ensures open { HasCleanDisk (state S.Store conn.new) → OnOk result (IsTrue (state S.Store conn.new).is_open) }
@@ -158,6 +164,7 @@ pub(crate) fn commit_items<S: Alter>(conn: &mut Connection<S>, items: &[Item]) -
 /// The form of the store, by the number that it holds.
 fn find_form<S: Alter>(conn: &mut Connection<S>) -> Result<Form, Error>
     ensures clean { doubt (state S.Store conn.old).is_clean ≤ doubt (state S.Store conn.new).is_clean }
+    ensures stays { StaysOpen (state S.Store conn.old) (state S.Store conn.new) }
     ensures mode { conn.old.in_transaction ≡ false → conn.new.in_transaction ≡ false }
     ensures left { HasCleanDisk (state S.Store conn.new) → Leaves number_text (state S.Store conn.old) (state S.Store conn.new) }
     ensures form { HasCleanDisk (state S.Store conn.new) → IfOk result (λ form. IsOfForm S.Store form conn.old conn.new) }
@@ -172,6 +179,7 @@ pub(crate) fn load_rows<S: Alter>(
     conn: &mut Connection<S>,
 ) -> Result<Vec<Row>, Error>
     ensures clean { doubt (state S.Store conn.old).is_clean ≤ doubt (state S.Store conn.new).is_clean }
+    ensures stays { StaysOpen (state S.Store conn.old) (state S.Store conn.new) }
     ensures ended { conn.old.in_transaction ≡ false → conn.new.in_transaction ≡ false }
     ensures loaded { HasCleanDisk (state S.Store conn.new) → IfOk result (λ all. IsLoaded S.Store conn.old conn.new all.items) }
     ensures open { HasCleanDisk (state S.Store conn.new) → IsTrue (state S.Store conn.old).is_open → OnOk result (IsTrue (state S.Store conn.new).is_open) }

@@ -1,5 +1,6 @@
 pub mod Words
 pub mod Inside
+pub mod Open
 pub mod Means
 pub mod Deletes
 pub mod Upsert

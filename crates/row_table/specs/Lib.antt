@@ -1,3 +1,4 @@
+pub mod Open
 pub mod Ours
 pub mod Shown
 pub mod Stored

@@ -8,6 +8,7 @@ ghost use Rattle.sqlite.specs.Held.{state};
 ghost use Rattle.keeper.specs.Rows.{with_text, no_rows, Lists};
 ghost use Rattle.row_table.specs.Tables.{no_schema, store_schema};
 ghost use Rattle.keeper.specs.declared.keeper.Row.{Row as Kept};
+ghost use Rattle.row_table.specs.Open.{StaysOpen};
 ghost use Rattle.row_table.specs.Ours.{AreOurs};
 ghost use Rattle.row_table.specs.Shown.{shown, front};
 ghost use Rattle.row_table.specs.Unread.{IsUnread};
@@ -20,6 +21,7 @@ use sqlite::{Alter, Connection, Error, Row, Transaction, params};
 pub fn make_tables<S: Alter>(tx: &mut Transaction<'_, S>) -> Result<(), Error>
     ensures same_reference { tx.new.conn.ghost_name ≡ tx.old.conn.ghost_name }
     ensures clean { doubt (state S.Store tx.old.conn.now).is_clean ≤ doubt (state S.Store tx.new.conn.now).is_clean }
+    ensures stays { StaysOpen (state S.Store tx.old.conn.now) (state S.Store tx.new.conn.now) }
     ensures kept { HasCleanDisk (state S.Store tx.new.conn.now) → StaysInside (state S.Store tx.old.conn.now) (state S.Store tx.new.conn.now) result }
     ensures made { HasCleanDisk (state S.Store tx.new.conn.now) → (state S.Store tx.old.conn.now).now.schema ≡ no_schema → OnOk result (HasRows (state S.Store tx.new.conn.now).now no_rows) }
     ensures ran { HasCleanDisk (state S.Store tx.new.conn.now) → OnOk result (ExecutesAllInside S.Store 0 make_text tx.old.conn.now tx.new.conn.now (Ok tt)) }
@@ -33,6 +35,7 @@ pub fn make_tables<S: Alter>(tx: &mut Transaction<'_, S>) -> Result<(), Error>
 pub fn raise_number<S: Alter>(tx: &mut Transaction<'_, S>) -> Result<(), Error>
     ensures same_reference { tx.new.conn.ghost_name ≡ tx.old.conn.ghost_name }
     ensures clean { doubt (state S.Store tx.old.conn.now).is_clean ≤ doubt (state S.Store tx.new.conn.now).is_clean }
+    ensures stays { StaysOpen (state S.Store tx.old.conn.now) (state S.Store tx.new.conn.now) }
     ensures kept { HasCleanDisk (state S.Store tx.new.conn.now) → StaysInside (state S.Store tx.old.conn.now) (state S.Store tx.new.conn.now) result }
     ensures raised { HasCleanDisk (state S.Store tx.new.conn.now) → IsRowStore (state S.Store tx.old.conn.now).now
         → OnOk result (HasRows (state S.Store tx.new.conn.now).now (rows_of ((state S.Store tx.old.conn.now).now.trees 0))) }
@@ -45,6 +48,7 @@ pub fn raise_number<S: Alter>(tx: &mut Transaction<'_, S>) -> Result<(), Error>
 pub fn find_number<S: Alter>(tx: &mut Transaction<'_, S>) -> Result<Row, Error>
     ensures same_reference { tx.new.conn.ghost_name ≡ tx.old.conn.ghost_name }
     ensures clean { doubt (state S.Store tx.old.conn.now).is_clean ≤ doubt (state S.Store tx.new.conn.now).is_clean }
+    ensures stays { StaysOpen (state S.Store tx.old.conn.now) (state S.Store tx.new.conn.now) }
     ensures kept { HasCleanDisk (state S.Store tx.new.conn.now) → StaysInside (state S.Store tx.old.conn.now) (state S.Store tx.new.conn.now) result }
     ensures found { HasCleanDisk (state S.Store tx.new.conn.now) → IfOk result (λ row. QueriesRow number_text [] (state S.Store tx.old.conn.now) (state S.Store tx.new.conn.now) (Ok row)) }
 {
@@ -60,6 +64,7 @@ pub fn put_row<S: Alter>(
 ) -> Result<usize, Error>
     ensures same_reference { tx.new.conn.ghost_name ≡ tx.old.conn.ghost_name }
     ensures clean { doubt (state S.Store tx.old.conn.now).is_clean ≤ doubt (state S.Store tx.new.conn.now).is_clean }
+    ensures stays { StaysOpen (state S.Store tx.old.conn.now) (state S.Store tx.new.conn.now) }
     ensures put { HasCleanDisk (state S.Store tx.new.conn.now) → IsTrue (state S.Store tx.old.conn.now).in_transaction → IsRowStore (state S.Store tx.old.conn.now).now
         → OnOk result (HasRows (state S.Store tx.new.conn.now).now (with_text kind key.now (Some text.now) (rows_of ((state S.Store tx.old.conn.now).now.trees 0)))) }
     ensures runs { HasCleanDisk (state S.Store tx.new.conn.now) → IsTrue (state S.Store tx.old.conn.now).in_transaction
@@ -79,6 +84,7 @@ pub fn delete_row<S: Alter>(
 ) -> Result<usize, Error>
     ensures same_reference { tx.new.conn.ghost_name ≡ tx.old.conn.ghost_name }
     ensures clean { doubt (state S.Store tx.old.conn.now).is_clean ≤ doubt (state S.Store tx.new.conn.now).is_clean }
+    ensures stays { StaysOpen (state S.Store tx.old.conn.now) (state S.Store tx.new.conn.now) }
     ensures deleted { HasCleanDisk (state S.Store tx.new.conn.now) → IsTrue (state S.Store tx.old.conn.now).in_transaction → IsRowStore (state S.Store tx.old.conn.now).now
         → OnOk result (HasRows (state S.Store tx.new.conn.now).now (with_text kind key.now None (rows_of ((state S.Store tx.old.conn.now).now.trees 0)))) }
     ensures runs { HasCleanDisk (state S.Store tx.new.conn.now) → IsTrue (state S.Store tx.old.conn.now).in_transaction
@@ -93,6 +99,7 @@ pub fn delete_row<S: Alter>(
 /// All rows, in the order of kind and key.
 pub fn select_rows<S: Alter>(conn: &mut Connection<S>) -> Result<Vec<Row>, Error>
     ensures clean { doubt (state S.Store conn.old).is_clean ≤ doubt (state S.Store conn.new).is_clean }
+    ensures stays { StaysOpen (state S.Store conn.old) (state S.Store conn.new) }
     ensures mode { conn.old.in_transaction ≡ false → conn.new.in_transaction ≡ false }
     ensures left { HasCleanDisk (state S.Store conn.new) → Leaves select_text (state S.Store conn.old) (state S.Store conn.new) }
     ensures listed { HasCleanDisk (state S.Store conn.new) → IsRowStore (state S.Store conn.old).now
@@ -105,6 +112,7 @@ pub fn select_rows<S: Alter>(conn: &mut Connection<S>) -> Result<Vec<Row>, Error
 /// The rows of the table with their rowids, each once, in the order of the rowids.
 pub fn select_all<S: Alter>(conn: &mut Connection<S>) -> Result<Vec<Row>, Error>
     ensures clean { doubt (state S.Store conn.old).is_clean ≤ doubt (state S.Store conn.new).is_clean }
+    ensures stays { StaysOpen (state S.Store conn.old) (state S.Store conn.new) }
     ensures mode { conn.old.in_transaction ≡ false → conn.new.in_transaction ≡ false }
     ensures left { HasCleanDisk (state S.Store conn.new) → Leaves all_text (state S.Store conn.old) (state S.Store conn.new) }
     ensures whole { HasCleanDisk (state S.Store conn.new) → (state S.Store conn.old).now.schema ≡ store_schema

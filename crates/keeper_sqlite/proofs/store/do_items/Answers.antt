@@ -3,6 +3,7 @@ use Rattle.std.proofs.lemmas.List.{take_more}
 use Rattle.sqlite.specs.Held.{state}
 use Rattle.sqlite.proofs.InsideLemmas.{keeps_then}
 use Rattle.row_table.proofs.Inside.{runs_keep}
+use Rattle.row_table.proofs.Open.{open_then}
 use Rattle.keeper_sqlite.proofs.Inside.{done_more}
 use Rattle.keeper_sqlite.proofs.store.do_items.Goals as goal
 
@@ -14,8 +15,9 @@ loop-item-preserved g c =
     let before = c.loop-item.invariant in (
       c.do_item.ensures.same_reference ∙ before.0,
       omega (arith, before.1, c.do_item.ensures.clean),
+      open_then (state g.S.Store start) (state g.S.Store mid) (state g.S.Store last) before.2 c.do_item.ensures.clean c.do_item.ensures.stays,
       λ clean inside.
-          let early = before.2 (omega (arith, c.do_item.ensures.clean, clean)) inside in
+          let early = before.3 (omega (arith, c.do_item.ensures.clean, clean)) inside in
           let ran = c.in_ok-do_item.ensures.done clean early.1 in
           let kept = runs_keep _ _ (state g.S.Store mid) (state g.S.Store last) (Ok c.in_ok-do_item.field-0) ran in (
             keeps_then (state g.S.Store start) (state g.S.Store mid) (state g.S.Store last) early.0 kept.0,

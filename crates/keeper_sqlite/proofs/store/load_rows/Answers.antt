@@ -6,8 +6,9 @@ use Rattle.sqlite.specs.State.{HasCleanDisk}
 use Rattle.keeper_sqlite.specs.Own.{told_rows}
 use Rattle.keeper_sqlite.specs.Statements.{HasNoTables}
 use Rattle.keeper_sqlite.proofs.Inside.{all_loaded}
-use Rattle.keeper_sqlite.proofs.Open.{shown_open, on_ok}
+use Rattle.keeper_sqlite.proofs.Open.{on_ok}
 use Rattle.row_table.specs.Texts.{select_text}
+use Rattle.row_table.proofs.Open.{still_open, open_then, shown_open}
 use Rattle.keeper_sqlite.proofs.Told.{number_stands, rows_stand, loaded_listed, settled_by, empty_listed}
 use Rattle.keeper_sqlite.proofs.store.load_rows.Goals as goal
 
@@ -55,3 +56,14 @@ pub returns-clause-open : goal.returns-clause-open
 returns-clause-open g c clean open_before =
     on_ok c.rows_of.result
     (shown_open select_text [] (state g.S.Store c.find_form.new.conn) (state g.S.Store c.select_rows.new.conn) c.in_ok-select_rows.field-0.items (c.in_ok-select_rows.ensures.shown clean))
+
+pub returns-then-is_empty-clause-stays : goal.returns-then-is_empty-clause-stays
+returns-then-is_empty-clause-stays g c = still_open (state g.S.Store c.args.conn.now)
+
+pub returns-in_err-select_rows-clause-stays : goal.returns-in_err-select_rows-clause-stays
+returns-in_err-select_rows-clause-stays g c =
+    open_then (state g.S.Store c.args.conn.now) (state g.S.Store c.find_form.new.conn) (state g.S.Store c.select_rows.new.conn) c.find_form.ensures.stays c.select_rows.ensures.clean c.select_rows.ensures.stays
+
+pub returns-clause-stays : goal.returns-clause-stays
+returns-clause-stays g c =
+    open_then (state g.S.Store c.args.conn.now) (state g.S.Store c.find_form.new.conn) (state g.S.Store c.select_rows.new.conn) c.find_form.ensures.stays c.select_rows.ensures.clean c.select_rows.ensures.stays

@@ -1,4 +1,5 @@
 use Rattle.sqlite.specs.Held.{state}
+use Rattle.row_table.proofs.Open.{survives_open}
 use Rattle.row_table.proofs.Deleted.{deletes_inside}
 use Rattle.row_table.proofs.statements.delete_row.Goals as goal
 
@@ -12,3 +13,6 @@ returns-clause-deleted g c clean inside store =
 
 pub returns-clause-runs : goal.returns-clause-runs
 returns-clause-runs g c clean inside = rw (c.params-to_sql.ensures, c.params-to_sql-2.ensures, c.from.ensures) at (c.execute.ensures.runs clean inside)
+
+pub returns-clause-stays : goal.returns-clause-stays
+returns-clause-stays g c = survives_open _ _ _ c.execute.ensures.survives

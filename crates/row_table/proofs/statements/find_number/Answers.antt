@@ -1,4 +1,5 @@
 use Rattle.sqlite.specs.Held.{state}
+use Rattle.row_table.proofs.Open.{survives_open}
 use Rattle.row_table.proofs.Inside.{query_keeps, row_found}
 use Rattle.row_table.proofs.statements.find_number.Goals as goal
 
@@ -11,3 +12,6 @@ returns-clause-kept g c clean inside =
 
 pub returns-clause-found : goal.returns-clause-found
 returns-clause-found g c clean = row_found _ _ _ _ c.query_row.result (c.query_row.ensures.row clean)
+
+pub returns-clause-stays : goal.returns-clause-stays
+returns-clause-stays g c = survives_open _ _ _ c.query_row.ensures.survives

@@ -1,3 +1,4 @@
+use Rattle.row_table.proofs.Open.{survives_open}
 use Rattle.row_table.proofs.Inside.{goes_on, all_ran}
 use Rattle.row_table.proofs.Made.{made_inside}
 use Rattle.row_table.proofs.statements.make_tables.Goals as goal
@@ -13,3 +14,6 @@ returns-clause-ran g c clean = all_ran g.S.Store _ _ _ c.execute_batch.result (c
 
 pub returns-clause-made : goal.returns-clause-made
 returns-clause-made g c clean empty = made_inside g.S.Store c.args.tx.now.conn.now c.execute_batch.new.self.conn.now c.execute_batch.result empty (c.execute_batch.ensures.ran clean)
+
+pub returns-clause-stays : goal.returns-clause-stays
+returns-clause-stays g c = survives_open _ _ _ c.execute_batch.ensures.survives

@@ -1,5 +1,6 @@
 use Rattle.std.proofs.lemmas.Result.{IfOk-weaker}
 use Rattle.sqlite.specs.Held.{state}
+use Rattle.row_table.proofs.Open.{survives_open}
 use Rattle.row_table.proofs.Asked.{all_leave}
 use Rattle.row_table.proofs.Lists.{all_shown, all_ours}
 use Rattle.row_table.proofs.Refused.{unread_if}
@@ -19,3 +20,6 @@ returns-clause-ours g c clean store =
 
 pub returns-clause-unread : goal.returns-clause-unread
 returns-clause-unread g c clean has = unread_if (state g.S.Store c.args.conn.now) (state g.S.Store c.query_all.new.self) c.query_all.result has (c.query_all.ensures.err clean)
+
+pub returns-clause-stays : goal.returns-clause-stays
+returns-clause-stays g c = survives_open _ _ _ c.query_all.ensures.survives

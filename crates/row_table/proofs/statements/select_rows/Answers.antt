@@ -1,5 +1,6 @@
 use Rattle.std.proofs.lemmas.Result.{IfOk-weaker}
 use Rattle.sqlite.specs.Held.{state}
+use Rattle.row_table.proofs.Open.{survives_open}
 use Rattle.row_table.proofs.Asked.{all_leave}
 use Rattle.row_table.proofs.Lists.{lists}
 use Rattle.row_table.proofs.Loaded.{all_listed}
@@ -14,3 +15,6 @@ returns-clause-listed g c clean store =
 pub returns-clause-left : goal.returns-clause-left
 returns-clause-left g c clean =
     all_leave _ (state g.S.Store c.args.conn.now) (state g.S.Store c.query_all.new.self) (λ rows. rows.items) _ c.query_all.result (c.query_all.ensures.ok clean) (c.query_all.ensures.err clean)
+
+pub returns-clause-stays : goal.returns-clause-stays
+returns-clause-stays g c = survives_open _ _ _ c.query_all.ensures.survives

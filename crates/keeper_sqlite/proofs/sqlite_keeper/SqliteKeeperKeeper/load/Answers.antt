@@ -1,8 +1,9 @@
-use Rattle.std.proofs.Common.{◌≡◌, IsTrue, arith, sym, subst}
+use Rattle.std.proofs.Common.{◌≡◌, ◌≤◌, IsTrue, arith, refl, sym, subst}
 use Rattle.keeper.specs.Rows.{AreSame}
 use Rattle.sqlite.specs.Held.{state}
 use Rattle.sqlite.specs.State.{HasCleanDisk}
 use Rattle.keeper_sqlite.specs.Own.{told_rows}
+use Rattle.keeper_sqlite.proofs.Open.{goes_on_telling}
 use Rattle.keeper_sqlite.proofs.Props.{lists_known, stands_known, owned_then}
 use Rattle.keeper_sqlite.proofs.Told.{loaded_owned, same_told}
 use Rattle.keeper_sqlite.proofs.sqlite_keeper.SqliteKeeperKeeper.load.Goals as goal
@@ -35,3 +36,19 @@ returns-in-Err-clause-kept g c told =
       (omega (arith, c.load_rows.ensures.clean, clean), all.0, is_own),
       subst (λ h. AreSame (told_rows g.S.Store h) (told_rows g.S.Store c.args.self.now.connection)) (sym conn) all.1,
     )
+
+pub returns-in-Ok-clause-stays : goal.returns-in-Ok-clause-stays
+returns-in-Ok-clause-stays g c =
+    goes_on_telling g.S.Store c.args.self.now.connection c.load_rows.new.conn c.args.self.now.is_own c.load_rows.new.conn c.args.self.now.is_own c.load_rows.ensures.stays refl refl
+
+pub returns-in-Ok-clause-disk : goal.returns-in-Ok-clause-disk
+returns-in-Ok-clause-disk g c = c.load_rows.ensures.stays.counts
+
+pub returns-in-Err-clause-stays : goal.returns-in-Err-clause-stays
+returns-in-Err-clause-stays g c =
+    goes_on_telling g.S.Store c.args.self.now.connection c.load_rows.new.conn c.args.self.now.is_own c.refused.new.self.connection c.refused.new.self.is_own c.load_rows.ensures.stays
+    c.refused.ensures.same.0 c.refused.ensures.same.1
+
+pub returns-in-Err-clause-disk : goal.returns-in-Err-clause-disk
+returns-in-Err-clause-disk g c =
+    subst (λ h. (state g.S.Store c.args.self.now.connection).faults ≤ (state g.S.Store h).faults) (sym c.refused.ensures.same.0) c.load_rows.ensures.stays.counts
