@@ -4,7 +4,7 @@ use Rattle.hub_rows.specs.declared.records.Lease.{Lease}
 use Rattle.serde_json.specs.Data.{string, object, member, no_members}
 use Rattle.serde_json.specs.Find.{get}
 use Rattle.record_texts.specs.Fields.{whole}
-use Rattle.record_texts.specs.KeyTexts.{server_text}
+use Rattle.key_texts.specs.KeyTexts.{server_text}
 use Rattle.record_texts.specs.Servers.{with_generation, lease_object}
 
 server_in : (o : Option ℕ) (server : List ℕ) → get (codes "server") (object (with_generation o (member (codes "server") (string server) no_members))) ≡ Some (string server)

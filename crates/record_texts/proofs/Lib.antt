@@ -1,7 +1,6 @@
 pub mod Texts
 pub mod Lists
-pub mod Results
-pub mod ShareTexts
+pub mod There
 pub mod Leases
 pub mod OneText
 pub mod KeyTexts

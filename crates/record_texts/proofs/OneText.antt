@@ -10,9 +10,9 @@ use Rattle.hub_rows.specs.declared.keys.Recipient.TheVariants as To
 use Rattle.hub_rows.specs.declared.keys.ShareKey.{ShareKey}
 use Rattle.scope_filters.specs.Scopes.{before, after}
 use Rattle.record_texts.specs.Fields.{IsWord}
-use Rattle.record_texts.specs.KeyTexts.{server_text, recipient_text, share_text, IsServer, IsShareKey}
-use Rattle.record_texts.proofs.Results.{same_ok, same_some}
-use Rattle.record_texts.proofs.ShareTexts.{share_front, share_back}
+use Rattle.key_texts.specs.KeyTexts.{server_text, recipient_text, share_text, IsServer, IsShareKey}
+use Rattle.key_texts.proofs.Results.{same_ok, same_some}
+use Rattle.key_texts.proofs.ShareTexts.{share_front, share_back}
 
 abbrev first_byte : List ℕ → ℕ
 first_byte [] = 0

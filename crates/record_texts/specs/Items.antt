@@ -14,7 +14,7 @@ use Rattle.hub_rows.specs.declared.rows.RowKey.TheVariants as RowKey
 use Rattle.keeper.specs.declared.keeper.Item.{Item}
 use Rattle.keeper.specs.declared.keeper.Item.TheVariants as Item
 use Rattle.record_texts.specs.Fields.{IsWord}
-use Rattle.record_texts.specs.KeyTexts.{server_text, share_text, IsServer, IsShareKey}
+use Rattle.key_texts.specs.KeyTexts.{server_text, share_text, IsServer, IsShareKey}
 use Rattle.record_texts.specs.People.{user_object, group_object, service_object, role_object, IsUser, IsGroup, IsService, IsRole}
 use Rattle.record_texts.specs.Rows.{row_with}
 use Rattle.record_texts.specs.Servers.{server_object, lease_object, share_object, next_object, IsServerRow, IsLease, IsShare, IsNext}

@@ -1,7 +1,5 @@
-pub mod Finds
 pub mod Plain
 pub mod Fields
-pub mod KeyTexts
 pub mod People
 pub mod Servers
 pub mod Tokens

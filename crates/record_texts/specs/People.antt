@@ -12,7 +12,7 @@ use Rattle.hub_rows.specs.declared.records.Role.{Role}
 use Rattle.hub_rows.specs.declared.records.Service.{Service}
 use Rattle.hub_rows.specs.declared.records.User.{User}
 use Rattle.record_texts.specs.Fields.{whole, maybe, lines, IfThere, IsMoment, moment_fits, moment_plain, whole_flat, strings_plain, strings_flat}
-use Rattle.record_texts.specs.KeyTexts.{IsScope}
+use Rattle.key_texts.specs.KeyTexts.{IsScope}
 use Rattle.record_texts.specs.Plain.{IsRecordData}
 
 abbrev pub user_object : User → Data

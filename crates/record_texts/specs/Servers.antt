@@ -13,7 +13,7 @@ use Rattle.hub_rows.specs.declared.records.Next.{Next}
 use Rattle.hub_rows.specs.declared.records.ServerRow.{ServerRow}
 use Rattle.hub_rows.specs.declared.records.Share.{Share}
 use Rattle.record_texts.specs.Fields.{whole, maybe, lines, IfThere, IsMoment, IsWord, moment_fits, moment_plain, whole_flat, strings_plain, strings_flat}
-use Rattle.record_texts.specs.KeyTexts.{server_text, IsServer, IsShareKey, IsScope}
+use Rattle.key_texts.specs.KeyTexts.{server_text, IsServer, IsShareKey, IsScope}
 use Rattle.record_texts.specs.Plain.{IsRecordData}
 
 abbrev pub server_object : ServerRow → Data

@@ -11,7 +11,7 @@ use Rattle.hub_rows.specs.declared.records.OAuthCode.{OAuthCode}
 use Rattle.hub_rows.specs.declared.records.ShareCode.{ShareCode}
 use Rattle.hub_rows.specs.declared.records.Token.{Token}
 use Rattle.record_texts.specs.Fields.{whole, maybe, lines, IfThere, IsMoment, IsWord, moment_fits, moment_plain, word_plain, whole_flat, text_plain, text_flat, strings_plain, strings_flat}
-use Rattle.record_texts.specs.KeyTexts.{server_text, owner_text, IsServer, IsOwner, IsScope}
+use Rattle.key_texts.specs.KeyTexts.{server_text, owner_text, IsServer, IsOwner, IsScope}
 use Rattle.record_texts.specs.Plain.{IsRecordData}
 
 abbrev pub token_object : Token → Data

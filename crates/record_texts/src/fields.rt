@@ -6,8 +6,8 @@ ghost use Rattle.serde_json.specs.View.{view, members_view};
 ghost use Rattle.record_texts.specs.Fields.{whole, maybe, lines, IfThere};
 
 use crate::field::{maybe_number, maybe_text, text_value, texts_value};
-use crate::textual::Textual;
 use crate::whole::Whole;
+use key_texts::textual::Textual;
 use serde_json::{Map, Value};
 use std::alloc::{AllocError, Global};
 

@@ -6,10 +6,10 @@ ghost use Rattle.record_texts.specs.Items as spec;
 ghost use Rattle.record_texts.specs.Rows.{row_with};
 
 use crate::record::{Record, row_of};
-use crate::textual::Textual;
 use hub_rows::changes::RowChange;
 use hub_rows::rows::{Row, RowKey};
 use keeper::keeper::Item;
+use key_texts::textual::Textual;
 use std::alloc::{AllocError, Global};
 
 /// The item of a change: the row of the record that is put, or the kind and the key of one that goes.

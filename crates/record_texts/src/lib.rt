@@ -9,7 +9,5 @@ pub mod item;
 mod people;
 pub mod record;
 mod servers;
-mod textual;
 mod tokens;
-mod unread;
 mod whole;

@@ -5,11 +5,11 @@ ghost use Rattle.record_texts.specs.People.{user_object, group_object, service_o
 use crate::field::{bool_at, both, maybe_number_at, number_at, sorted_at, texts_at};
 use crate::fields::Fields;
 use crate::record::Record;
-use crate::textual::Textual;
-use crate::unread::Unread;
 use hub_kit::names::{GroupName, RoleName, ServiceName, UserName};
 use hub_kit::text::Text;
 use hub_rows::records::{Group, Role, Service, User};
+use key_texts::textual::Textual;
+use key_texts::unread::Unread;
 use serde_json::Value;
 use std::alloc::{AllocError, Global};
 

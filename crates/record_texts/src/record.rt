@@ -2,13 +2,13 @@
 ghost use Rattle.std.specs.Prelude.{◌≡◌, ℕ, List, IfOk, IfErr, OnOk, IsTrue};
 ghost use Rattle.serde_json.specs.Data.{Data};
 ghost use Rattle.serde_json.specs.View.{view};
-ghost use Rattle.record_texts.specs.Finds.{Finds};
+ghost use Rattle.key_texts.specs.Finds.{Finds};
 ghost use Rattle.record_texts.specs.Plain.{IsRecordData};
 ghost use Rattle.record_texts.specs.Rows.{row_with, Reads, Names};
 
-use crate::unread::Unread;
 use hub_kit::text::Text;
 use keeper::keeper::Row;
+use key_texts::unread::Unread;
 use serde_json::Value;
 use std::alloc::{AllocError, Global};
 

@@ -1,18 +1,18 @@
 //! The texts of servers, leases, shares and next numbers.
-ghost use Rattle.record_texts.specs.KeyTexts.{server_text, share_text};
+ghost use Rattle.key_texts.specs.KeyTexts.{server_text, share_text};
 ghost use Rattle.record_texts.specs.Servers.{server_object, lease_object, share_object, next_object, IsServerRow, IsLease, IsShare, IsNext, server_plain, lease_plain, share_plain, next_plain};
 
 use crate::field::{both, lacking_number_at, maybe_number_at, number_at, shared_at, text_at};
 use crate::fields::Fields;
 use crate::record::Record;
-use crate::textual::Textual;
-use crate::unread::Unread;
 use hub_kit::names::ServerKey;
 use hub_kit::target::Target;
 use hub_kit::text::Text;
 use hub_rows::counter::Counter;
 use hub_rows::keys::ShareKey;
 use hub_rows::records::{Lease, Next, ServerRow, Share};
+use key_texts::textual::Textual;
+use key_texts::unread::Unread;
 use serde_json::Value;
 use std::alloc::{AllocError, Global};
 

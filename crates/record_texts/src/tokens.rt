@@ -5,11 +5,11 @@ ghost use Rattle.record_texts.specs.Tokens.{token_object, code_object, client_ob
 use crate::field::{both, maybe_number_at, maybe_text_at, number_at, text_at, texts_at};
 use crate::fields::Fields;
 use crate::record::Record;
-use crate::textual::Textual;
-use crate::unread::Unread;
 use hub_kit::text::Text;
 use hub_rows::client_id::ClientId;
 use hub_rows::records::{OAuthClient, OAuthCode, ShareCode, Token};
+use key_texts::textual::Textual;
+use key_texts::unread::Unread;
 use serde_json::Value;
 use std::alloc::{AllocError, Global};
 

@@ -2,7 +2,7 @@ use Rattle.std.proofs.Common.{◌++◌, ◌∷◌, [], ap, sym, ◌∙◌, take,
 use Rattle.std.proofs.lemmas.List.{take_more, take_all}
 use Rattle.serde_json.specs.View.{view}
 use Rattle.record_texts.proofs.Lists.{nth, as_long}
-use Rattle.record_texts.proofs.Results.{not_found}
+use Rattle.key_texts.proofs.Results.{not_found}
 use Rattle.record_texts.proofs.field.texts_in.Goals as goal
 
 pub returns-in-Err : goal.returns-in-Err

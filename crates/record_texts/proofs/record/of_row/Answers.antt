@@ -1,10 +1,10 @@
 use Rattle.std.proofs.Common.{◌≡◌, Some, None, Err, sym, ap, ◌∙◌, subst, rules}
 use Rattle.keeper.specs.declared.keeper.Row.{Row}
 use Rattle.serde_json.specs.Read.{read}
-use Rattle.record_texts.specs.Finds.{Finds}
+use Rattle.key_texts.specs.Finds.{Finds}
 use Rattle.record_texts.specs.Rows.{row_with, Reads}
 use Rattle.record_texts.proofs.Texts.{row_reads}
-use Rattle.record_texts.proofs.Results.{same_some, not_none}
+use Rattle.key_texts.proofs.Results.{same_some, not_none}
 use Rattle.record_texts.proofs.record.of_row.Goals as goal
 
 pub returns-in-Err-clause-only : goal.returns-in-Err-clause-only

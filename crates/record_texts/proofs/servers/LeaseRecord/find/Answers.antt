@@ -1,6 +1,6 @@
 use Rattle.std.proofs.Common.{sym, ap, codes, ◌∙◌}
 use Rattle.serde_json.specs.Find.{get}
-use Rattle.record_texts.proofs.Results.{absent}
+use Rattle.key_texts.proofs.Results.{absent}
 use Rattle.record_texts.proofs.Leases.{lease_server, lease_generation}
 use Rattle.record_texts.proofs.servers.LeaseRecord.find.Goals as goal
 

@@ -1,7 +1,7 @@
 use Rattle.std.proofs.Common.{sym, ap, codes, ◌∙◌}
 use Rattle.serde_json.specs.Data.{string, object, member, no_members, put}
 use Rattle.record_texts.specs.Fields.{whole}
-use Rattle.record_texts.specs.KeyTexts.{server_text}
+use Rattle.key_texts.specs.KeyTexts.{server_text}
 use Rattle.record_texts.specs.Servers.{with_generation}
 use Rattle.record_texts.proofs.servers.LeaseRecord.value.Goals as goal
 

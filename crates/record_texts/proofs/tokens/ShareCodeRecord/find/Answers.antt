@@ -1,7 +1,7 @@
 use Rattle.std.proofs.Common.{◌≡◌, sym, ap, codes, ℕ, List}
 use Rattle.serde_json.specs.Find.{get}
 use Rattle.serde_json.specs.View.{view}
-use Rattle.record_texts.proofs.Results.{absent}
+use Rattle.key_texts.proofs.Results.{absent}
 use Rattle.record_texts.specs.Tokens.{code_object}
 use Rattle.record_texts.proofs.tokens.ShareCodeRecord.find.Goals as goal
 

@@ -1,7 +1,8 @@
 use Rattle.std.proofs.Common.{◌≡◌, sym, ap, codes, ℕ, List}
 use Rattle.serde_json.specs.Find.{get}
 use Rattle.serde_json.specs.View.{view}
-use Rattle.record_texts.proofs.Results.{absent, texts_there}
+use Rattle.key_texts.proofs.Results.{absent}
+use Rattle.record_texts.proofs.There.{texts_there}
 use Rattle.record_texts.specs.Tokens.{token_object}
 use Rattle.record_texts.proofs.tokens.TokenRecord.find.Goals as goal
 

@@ -2,7 +2,7 @@ use Rattle.std.proofs.Common.{rules, ap, codes, ◌∙◌}
 use Rattle.serde_json.specs.Data.{string, object, put}
 use Rattle.scope_filters.specs.Scopes.{scope_text}
 use Rattle.record_texts.specs.Fields.{whole, maybe, lines}
-use Rattle.record_texts.specs.KeyTexts.{server_text, owner_text}
+use Rattle.key_texts.specs.KeyTexts.{server_text, owner_text}
 use Rattle.record_texts.proofs.tokens.TokenRecord.value.Goals as goal
 
 pub returns-clause-shape : goal.returns-clause-shape

@@ -1,8 +1,8 @@
 use Rattle.std.proofs.Common.{sym, ap, ◌∙◌}
 use Rattle.hub_kit.specs.ServerKeys.{key_read}
 use Rattle.hub_kit.proofs.NameTexts.{key_reads}
-use Rattle.record_texts.proofs.Results.{same_ok, not_err}
-use Rattle.record_texts.proofs.textual.ServerKeyTextual.of_text.Goals as goal
+use Rattle.key_texts.proofs.Results.{same_ok, not_err}
+use Rattle.key_texts.proofs.textual.ServerKeyTextual.of_text.Goals as goal
 
 pub returns-in-Ok : goal.returns-in-Ok
 returns-in-Ok c x valid same =

@@ -1,11 +1,9 @@
 -- Answers that are the same, and those that can't be.
-use Rattle.std.proofs.Common.{◌≡◌, ℕ, List, Option, Some, None, Result, Ok, Err, sym, subst}
+use Rattle.std.proofs.Common.{◌≡◌, Option, Some, None, Result, Ok, Err, sym, subst}
 use Rattle.std.specs.Result.{IsErrAnd}
-use Rattle.record_texts.specs.declared.unread.Unread.{Unread}
-use Rattle.record_texts.specs.declared.unread.Unread.TheVariants.{Bad, Memory}
-use Rattle.std.specs.Prelude.{⊤}
-use Rattle.record_texts.specs.Fields.{IfThere}
-use Rattle.record_texts.specs.Finds.{Finds}
+use Rattle.key_texts.specs.declared.unread.Unread.{Unread}
+use Rattle.key_texts.specs.declared.unread.Unread.TheVariants.{Bad, Memory}
+use Rattle.key_texts.specs.Finds.{Finds}
 
 pub same_ok : {A E : Type 0} (a b : A) → ◌≡◌ {A = Result A E} (Ok a) (Ok b) → a ≡ b
 same_ok a b e = cc
@@ -28,7 +26,3 @@ not_found Memory x y h = tt
 pub absent : {X Y : Type 0} (out : Result Y Unread) (e : Unread) (x : X) (y : Y) → IsErrAnd out (λ given. given ≡ e) → Finds (Err e) x → Finds out y
 absent (Ok v) e x y h f = absurd h
 absent (Err given) e x y h f = not_found given x y (subst (λ z. Finds (Err z) x) (sym h) f)
-
-pub texts_there : (o : Option (List ℕ)) → IfThere (λ text. ⊤) o
-texts_there None = tt
-texts_there (Some text) = tt

@@ -1,9 +1,9 @@
 use Rattle.std.proofs.Common.{sym, ap, ◌∙◌}
 use Rattle.std.specs.Option.{option_copied}
-use Rattle.record_texts.specs.KeyTexts.{recipient_text}
-use Rattle.record_texts.proofs.Results.{same_some, not_none}
-use Rattle.record_texts.proofs.ShareTexts.{share_front, share_back}
-use Rattle.record_texts.proofs.textual.ShareKeyTextual.of_text.Goals as goal
+use Rattle.key_texts.specs.KeyTexts.{recipient_text}
+use Rattle.key_texts.proofs.Results.{same_some, not_none}
+use Rattle.key_texts.proofs.ShareTexts.{share_front, share_back}
+use Rattle.key_texts.proofs.textual.ShareKeyTextual.of_text.Goals as goal
 
 pub returns-in-Some : goal.returns-in-Some
 returns-in-Some c x valid same =

@@ -1,7 +1,7 @@
 use Rattle.std.proofs.Common.{sym, ◌∙◌}
 use Rattle.std.proofs.lemmas.Fmt.{parse-decimal}
-use Rattle.record_texts.proofs.Results.{same_ok, not_err}
-use Rattle.record_texts.proofs.textual.U64Textual.of_text.Goals as goal
+use Rattle.key_texts.proofs.Results.{same_ok, not_err}
+use Rattle.key_texts.proofs.textual.U64Textual.of_text.Goals as goal
 
 pub returns-in-Ok : goal.returns-in-Ok
 returns-in-Ok c x valid same =

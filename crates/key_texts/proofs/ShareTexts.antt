@@ -11,7 +11,7 @@ use Rattle.hub_kit.proofs.NameTexts.{server_of_name}
 use Rattle.hub_rows.specs.declared.keys.ShareKey.{ShareKey}
 use Rattle.scope_filters.specs.Scopes.{before, after}
 use Rattle.scope_filters.proofs.Cuts.{is_without, before_marked, after_marked}
-use Rattle.record_texts.specs.KeyTexts.{server_text, recipient_text, share_text, IsServer, IsShareKey}
+use Rattle.key_texts.specs.KeyTexts.{server_text, recipient_text, share_text, IsServer, IsShareKey}
 
 byte_unmarked : (b : ℕ) → is_name_byte b ≡ true → not (b == 44) ≡ true
 byte_unmarked b h = grind (arith, nat_tests)

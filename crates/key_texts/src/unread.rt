@@ -10,7 +10,7 @@ pub enum Unread {
 
 impl From<AllocError> for Unread {
     ghost use Rattle.std.specs.Prelude.{◌≡◌};
-    ghost use Rattle.record_texts.specs.declared.unread.Unread.TheVariants.{Memory};
+    ghost use Rattle.key_texts.specs.declared.unread.Unread.TheVariants.{Memory};
 
     ghost from_gives = { λ _ e. e ≡ Memory };
 
