@@ -1,4 +1,5 @@
 //! Lives of servers as docs/LIFE.md has them, and a pool of one.
+use hub_kit::list::List;
 use hub_kit::names::{ServerKey, read_key};
 use hub_kit::targets::read_target;
 use server_life::LifeEvent::{
@@ -78,6 +79,7 @@ fn leases_of_one(rt: &impl Abort, alloc: Global) -> Leases {
     let target = read_target(alloc, b"http://127.0.0.1:8000").expect(rt, "it is a target");
     let mut pool = Vec::new(alloc);
     pool.push(target).expect(rt, "there is memory");
+    let pool = Pool::new(List::from_vec(pool)).expect(rt, "one target is a pool");
     Leases::new(alloc, pool, 1).expect(rt, "there is memory")
 }
 

@@ -1,6 +1,9 @@
+mod Back
 mod Chains
+mod Distinct
 mod Ends
 mod Index
 mod Places
 mod Ranks
 mod Rows
+mod Users

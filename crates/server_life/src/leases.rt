@@ -1,14 +1,13 @@
 //! The leases of targets: which generation holds which target, for which server.
 
-ghost use Rattle.std.specs.Prelude.{◌≡◌, ◌≢◌, ℕ, ◌+◌, ◌-◌, ◌<◌, ◌≤◌, ◌^◌, length, slice_get, slice_set, All, AllPairs, IfOk, MatchOption, MatchResult, MatchBool, replicate, Some, None};
-ghost use Rattle.hub_kit.specs.declared.target.Target.{Target};
+ghost use Rattle.std.specs.Prelude.{◌≡◌, ◌≢◌, ℕ, ◌+◌, ◌-◌, ◌<◌, ◌≤◌, ◌^◌, length, slice_get, slice_set, All, IfOk, MatchOption, MatchResult, MatchBool, replicate, Some, None};
 ghost use Rattle.hub_kit.specs.declared.names.ServerKey.{ServerKey};
 ghost use Rattle.server_life.specs.LeaseTable.{IsOneToOne};
 ghost use Rattle.server_life.specs.Leased.{IsFree, IsFirstFree, IsNotLive, IsUnleased, HoldsLease};
 
-use crate::ordered::{get, put, remove};
-use hub_kit::names::ServerKey;
-use hub_kit::target::Target;
+use crate::ordered::{get, has_user, put, remove};
+use crate::pool::Pool;
+use hub_kit::names::{ServerKey, UserName};
 use std::alloc::{AllocError, Global};
 use std::marker::Model;
 
@@ -23,7 +22,7 @@ pub struct Held {
 /// place of each live generation and of each leased server.
 #[derive(Drop)]
 pub struct Leases {
-    pool: Vec<Target>,
+    pool: Pool,
     leased: Vec<Option<Held>>,
     next: u64,
     free: Vec<(usize, ())>,
@@ -47,28 +46,27 @@ impl Model for Leases {
     ghost use Rattle.std.specs.Vec.{vec_capacity};
     ghost use Rattle.server_life.specs.LeaseIndex.{IsIndexed};
 
-    ghost view = { λ a. record { pool = a.pool.items; leased = a.leased.items; next = a.next } };
+    ghost view = { λ a. record { pool = a.pool; leased = a.leased.items; next = a.next } };
 
-    ghost invariant = { λ a. IsIndexed (record { pool = a.pool.items; leased = a.leased.items; next = a.next }) a.free.items a.generations.items a.servers.items
-        × (length a.pool.items ≤ vec_capacity a.free) × (length a.pool.items ≤ vec_capacity a.generations) × (length a.pool.items ≤ vec_capacity a.servers) };
+    ghost invariant = { λ a. IsIndexed (record { pool = a.pool; leased = a.leased.items; next = a.next }) a.free.items a.generations.items a.servers.items
+        × (length a.pool ≤ vec_capacity a.free) × (length a.pool ≤ vec_capacity a.generations) × (length a.pool ≤ vec_capacity a.servers) };
 }
 
 impl Leases {
     /// A pool of which nothing is leased. It takes all the memory that the leases ever need.
-    pub fn new(alloc: Global, pool: Vec<Target>, next: u64) -> Result<Leases, AllocError>
-        requires distinct { AllPairs (λ a b. a ≢ b) pool.items }
-        requires small { length pool.items ≤ 1000 }
+    pub fn new(alloc: Global, pool: Pool, next: u64) -> Result<Leases, AllocError>
         requires above { 1 ≤ next }
-        ensures { IfOk result (λ l. l ≡ record { pool = pool.items; leased = replicate (length pool.items) None; next = next }) }
+        ensures { IfOk result (λ l. l ≡ record { pool = pool; leased = replicate (length pool) None; next = next }) }
     {
+        let size = pool.as_slice().len();
         let mut leased = Vec::new(alloc);
-        let mut free = Vec::with_capacity(alloc, pool.len())?;
-        for place in 0..pool.len() {
+        let mut free = Vec::with_capacity(alloc, size)?;
+        for place in 0..size {
             leased.push(None)?;
             put(&mut free, &place, ());
         }
-        let generations = Vec::with_capacity(alloc, pool.len())?;
-        let servers = Vec::with_capacity(alloc, pool.len())?;
+        let generations = Vec::with_capacity(alloc, size)?;
+        let servers = Vec::with_capacity(alloc, size)?;
         Ok(Leases {
             pool,
             leased,
@@ -77,6 +75,20 @@ impl Leases {
             generations,
             servers,
         })
+    }
+
+    /// The targets.
+    pub fn pool(&self) -> &Pool
+        ensures { result.now ≡ self.now.pool }
+    {
+        &self.pool
+    }
+
+    /// The next generation.
+    pub fn next(&self) -> u64
+        ensures { result ≡ self.now.next }
+    {
+        self.next
     }
 
     /// The next generation, and the place of the free target of least index.
@@ -90,7 +102,7 @@ impl Leases {
         ensures one_to_one { IsOneToOne self.now }
     {
         if self.free.is_empty() {
-            let n = self.pool.len() as u32;
+            let n = self.pool.as_slice().len() as u32;
             return Err(NoTarget { live: n, pool: n });
         }
         Ok((self.next, self.free[0].0))
@@ -152,6 +164,28 @@ impl Leases {
             Some(held) => Some(held.generation),
             None => None,
         }
+    }
+
+    /// Whether a server of a user has a lease.
+    pub fn has_lease(&self, user: &UserName) -> bool
+        ensures { MatchBool result
+            ((i g : ℕ) × (key : ServerKey) × HoldsLease self.now.leased i g key × (key.user ≡ user.now))
+            ((i g : ℕ) (key : ServerKey) → HoldsLease self.now.leased i g key → key.user ≢ user.now) }
+    {
+        has_user(self.servers.as_slice(), user)
+    }
+
+    /// Takes back the last lease, as if it hadn't been taken. Takes no memory.
+    pub fn take_back(&mut self, _at: usize, g: u64)
+        requires live { (key : ServerKey) × HoldsLease self.old.leased _at g key }
+        requires last { g + 1 ≡ self.old.next }
+        requires above { 1 ≤ g }
+        ensures { self.new ≡ record { pool = self.old.pool; leased = slice_set self.old.leased _at None; next = g } }
+    {
+        // it tells that a generation has one lease
+        let _next = self.next_free();
+        let _ended = self.free(g);
+        self.next = g;
     }
 
     /// Ends the lease of a generation, and says whether there was one.

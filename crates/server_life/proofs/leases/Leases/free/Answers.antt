@@ -55,7 +55,7 @@ put-requires-clause-new c =
 
 pub invariant_of-self-2 : goal.invariant_of-self-2
 invariant_of-self-2 c =
-    let t : LeaseTable = record { pool = c.self.inside.pool.items; leased = c.self.inside.leased.items; next = c.self.inside.next } in
+    let t : LeaseTable = record { pool = c.self.inside.pool; leased = c.self.inside.leased.items; next = c.self.inside.next } in
     let read = read_lease nat_cmp generation_in c.self.inside.leased.items c.self.inside.generations.items c.args.g c.in-Some.at c.index_mut.result.now c.in-Some-take.held c.self.invariant.0.of_generations
     (c.in-Some.ensures ∙ ap (find nat_cmp c.args.g) c.as_slice.ensures.value) c.index_mut.ensures.value (sym c.take.ensures.value ∙ c.in-Some-take.is) in (
       subst (λ (o : Option Held). IsIndexed (with_lease t c.in-Some.at o) c.put.new.entries.items c.remove.new.entries.items c.remove-2.new.entries.items) (sym c.take.ensures.after)
@@ -70,7 +70,7 @@ invariant_of-self-2 c =
 
 pub returns : goal.returns
 returns c =
-    let t : LeaseTable = record { pool = c.self.inside.pool.items; leased = c.self.inside.leased.items; next = c.self.inside.next } in
+    let t : LeaseTable = record { pool = c.self.inside.pool; leased = c.self.inside.leased.items; next = c.self.inside.next } in
     let read = read_lease nat_cmp generation_in c.self.inside.leased.items c.self.inside.generations.items c.args.g c.in-Some.at c.index_mut.result.now c.in-Some-take.held c.self.invariant.0.of_generations
     (c.in-Some.ensures ∙ ap (find nat_cmp c.args.g) c.as_slice.ensures.value) c.index_mut.ensures.value (sym c.take.ensures.value ∙ c.in-Some-take.is) in (
       c.in-Some.at,

@@ -8,9 +8,9 @@ use Rattle.server_life.proofs.leases.Leases.next_free.Goals as goal
 
 pub returns-then-is_empty-clause-answer : goal.returns-then-is_empty-clause-answer
 returns-then-is_empty-clause-answer c =
-    let size : c.len-n.result ≡ length c.self.inside.pool.items = omega (arith, c.self.inside.pool.ok.0, c.len-n.ensures) in
+    let size : length c.as_slice.result.now ≡ length c.self.inside.pool = ap length c.as_slice.ensures.value in
     let none : length c.self.inside.free.items ≡ 0 = grind (arith, nat_tests, c.self.inside.free.ok.0, c.is_empty.ensures, c.if-is_empty.true) in
-    subst (λ (t : LeaseTable). ((k : ℕ) (d : Option Held) → k < length t.leased → get_or t.leased k d ≢ None) × (none_of c.len-n.result ≡ none_of (length t.pool))) c.self.view_is
+    subst (λ (t : LeaseTable). ((k : ℕ) (d : Option Held) → k < length t.leased → get_or t.leased k d ≢ None) × (none_of (length c.as_slice.result.now) ≡ none_of (length t.pool))) c.self.view_is
     (none_free c.self.inside.leased.items c.self.inside.free.items none c.self.invariant.0.free_places, ap none_of size)
 
 pub returns-clause-answer : goal.returns-clause-answer
