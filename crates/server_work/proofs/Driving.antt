@@ -142,12 +142,20 @@ module _ {E A : Type 0} (reached : Option A → List E → Lives → Type 0) (no
 
 -- ---- faults
 
-pub caused : (t d : Option Device) (x : Device) (a b c : ℕ) → a ≤ b → b ≤ c → (t ≡ Some x → Rises a b) → (d ≡ Some x → Rises b c)
+caused : (t d : Option Device) (x : Device) (a b c : ℕ) → a ≤ b → b ≤ c → (t ≡ Some x → Rises a b) → (d ≡ Some x → Rises b c)
     → first_of t d ≡ Some x → Rises a c
 caused (Some y) d x a b c ab bc f h e = Rises_later a b c (f e) bc
 caused None d x a b c ab bc f h e = Rises_earlier a b c ab (h e) bc
 
-pub stopped_end : (o : LifeEvent) (k : Kept) → is_stopped o k ≡ true → is_end o ≡ true
+stopped_end : (o : LifeEvent) (k : Kept) → is_stopped o k ≡ true → is_end o ≡ true
 stopped_end Event.Ended k e = refl
 stopped_end Event.SpawnFailed k e = refl
 stopped_end o k e = absurd (cc (e))
+
+-- the same of what is told after one outcome more
+pub caused_on : (tale tale' : Tale) (o : LifeEvent) (owes : Todo) (k : Kept) (x : Device) (a b c : ℕ) → tale' ≡ tale_with tale o owes k → a ≤ b → b ≤ c
+    → (tale.failed ≡ Some x → Rises a b) → (device_of o ≡ Some x → Rises b c) → tale'.failed ≡ Some x → Rises a c
+caused_on tale tale' o owes k x a b c is ab bc f h e = caused tale.failed (device_of o) x a b c ab bc f h (sym (ap (λ t. t.failed) is) ∙ e)
+
+pub stopped_on : (tale tale' : Tale) (o : LifeEvent) (owes : Todo) (k : Kept) → tale' ≡ tale_with tale o owes k → tale'.stopped ≡ true → is_end o ≡ true
+stopped_on tale tale' o owes k is e = stopped_end o k (sym (ap (λ t. t.stopped) is) ∙ e)

@@ -1,5 +1,5 @@
 -- What an outcome tells of the call that it came of, and how it is noted.
-use Rattle.std.specs.Prelude.{ℕ, ◌+◌, ◌*◌, Bool, true, false, List, [], ◌∷◌, Option, Some, None}
+use Rattle.std.specs.Prelude.{◌≡◌, ℕ, ◌+◌, ◌*◌, Bool, true, false, List, [], ◌∷◌, Option, Some, None}
 use Rattle.hub_devices.specs.declared.calls.Spawning.{Spawning}
 use Rattle.hub_devices.specs.declared.calls.Spawning.TheVariants as Spawn
 use Rattle.hub_devices.specs.declared.calls.Routing.{Routing}
@@ -85,11 +85,11 @@ noted event K.Kept = event
 noted event K.KeeperFault = EndUnkept
 noted event K.Memory = EndUnkept
 
--- only ends are kept; the keeper's fault comes only where its count rose from the one number to the other
+-- only ends are kept, and for others the book's count of faults stands still; the keeper's fault comes only where that count rose from the one number to the other
 abbrev pub KeptAs : Bool → ℕ → ℕ → Kept → Type 0
 KeptAs true before after K.NotAsked = ⊥
 KeptAs true before after K.Kept = Unit {0}
 KeptAs true before after K.KeeperFault = Rises before after
 KeptAs true before after K.Memory = Unit {0}
-KeptAs false before after K.NotAsked = Unit {0}
+KeptAs false before after K.NotAsked = after ≡ before
 KeptAs false before after _ = ⊥

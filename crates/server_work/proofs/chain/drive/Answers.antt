@@ -1,8 +1,7 @@
 use Rattle.std.proofs.Common.{rules, ◌≡◌, ◌≢◌, ◌≤◌, ◌<◌, ◌+◌, ℕ, Some, refl, sym, ap, ◌∙◌, arith, [], ◌∷◌, ◌++◌}
 use Rattle.server_life.specs.declared.life.Todo.TheVariants.{Nothing}
 use Rattle.server_work.specs.declared.work.Device.TheVariants as Device
-use Rattle.server_work.specs.Outcomes.{device_of}
-use Rattle.server_work.proofs.Driving.{drove_none, drove_on, told_on, owes_less, owes_no_start, drove_broken, drove_ended, stopped_end, caused}
+use Rattle.server_work.proofs.Driving.{drove_none, drove_on, told_on, owes_less, owes_no_start, drove_broken, drove_ended, caused_on, stopped_on}
 use Rattle.server_work.proofs.Running.{keeps_same, keeps_then, keeps_sets}
 use Rattle.server_work.proofs.chain.drive.Goals as goal
 
@@ -41,10 +40,10 @@ steps-preserved g c =
       others = keeps_then _ _ _ c.args.work.now.generation c.steps.invariant.others c.ask-outcome.ensures.others;
       spawner_counted = omega (arith, c.steps.invariant.spawner_counted, c.ask-outcome.ensures.spawner_counted);
       routes_counted = omega (arith, c.steps.invariant.routes_counted, c.ask-outcome.ensures.routes_counted);
-      spawner_cause = λ e. caused c.steps.tale.failed (device_of c.ask-outcome.result) Device.Spawner _ _ _ c.steps.invariant.spawner_counted c.ask-outcome.ensures.spawner_counted
-          c.steps.invariant.spawner_cause c.ask-outcome.ensures.spawner_cause (sym (ap (λ t. t.failed) c.with-tale.ensures) ∙ e);
-      routes_cause = λ e. caused c.steps.tale.failed (device_of c.ask-outcome.result) Device.Proxy _ _ _ c.steps.invariant.routes_counted c.ask-outcome.ensures.routes_counted
-          c.steps.invariant.routes_cause c.ask-outcome.ensures.routes_cause (sym (ap (λ t. t.failed) c.with-tale.ensures) ∙ e);
+      spawner_cause = caused_on c.steps.tale c.with-tale.result c.ask-outcome.result c.in-Ok.lived.todo c.in-Ok.lived.kept Device.Spawner _ _ _ c.with-tale.ensures
+          c.steps.invariant.spawner_counted c.ask-outcome.ensures.spawner_counted c.steps.invariant.spawner_cause c.ask-outcome.ensures.spawner_cause;
+      routes_cause = caused_on c.steps.tale c.with-tale.result c.ask-outcome.result c.in-Ok.lived.todo c.in-Ok.lived.kept Device.Proxy _ _ _ c.with-tale.ensures
+          c.steps.invariant.routes_counted c.ask-outcome.ensures.routes_counted c.steps.invariant.routes_cause c.ask-outcome.ensures.routes_cause;
     }
 
 pub returns-then-is_nothing-clause-ends : goal.returns-then-is_nothing-clause-ends
@@ -65,14 +64,12 @@ returns-in-Err-clause-ends g c =
     d.1 c.steps.invariant.some c.ask-outcome.ensures.of c.ask-outcome.ensures.spawner c.ask-outcome.ensures.routes c.in-Err.ensures.took
 
 pub returns-then-is_nothing-clause-spawner_cause : goal.returns-then-is_nothing-clause-spawner_cause
-returns-then-is_nothing-clause-spawner_cause g c = λ e.
-    caused c.steps.tale.failed (device_of c.ask-outcome.result) Device.Spawner _ _ _ c.steps.invariant.spawner_counted c.ask-outcome.ensures.spawner_counted
-    c.steps.invariant.spawner_cause c.ask-outcome.ensures.spawner_cause (sym (ap (λ t. t.failed) c.with-tale.ensures) ∙ e)
+returns-then-is_nothing-clause-spawner_cause g c = caused_on c.steps.tale c.with-tale.result c.ask-outcome.result c.in-Ok.lived.todo c.in-Ok.lived.kept Device.Spawner _ _ _ c.with-tale.ensures
+    c.steps.invariant.spawner_counted c.ask-outcome.ensures.spawner_counted c.steps.invariant.spawner_cause c.ask-outcome.ensures.spawner_cause
 
 pub returns-then-is_nothing-clause-routes_cause : goal.returns-then-is_nothing-clause-routes_cause
-returns-then-is_nothing-clause-routes_cause g c = λ e.
-    caused c.steps.tale.failed (device_of c.ask-outcome.result) Device.Proxy _ _ _ c.steps.invariant.routes_counted c.ask-outcome.ensures.routes_counted
-    c.steps.invariant.routes_cause c.ask-outcome.ensures.routes_cause (sym (ap (λ t. t.failed) c.with-tale.ensures) ∙ e)
+returns-then-is_nothing-clause-routes_cause g c = caused_on c.steps.tale c.with-tale.result c.ask-outcome.result c.in-Ok.lived.todo c.in-Ok.lived.kept Device.Proxy _ _ _ c.with-tale.ensures
+    c.steps.invariant.routes_counted c.ask-outcome.ensures.routes_counted c.steps.invariant.routes_cause c.ask-outcome.ensures.routes_cause
 
 pub returns-then-is_nothing-clause-of : goal.returns-then-is_nothing-clause-of
 returns-then-is_nothing-clause-of g c = c.in-Ok.ensures.took.same.0 ∙ c.steps.invariant.drove.1.same.0
@@ -89,4 +86,4 @@ returns-in-Err-clause-others g c = keeps_then _ _ _ c.args.work.now.generation c
 pub returns-then-is_nothing-clause-gone : goal.returns-then-is_nothing-clause-gone
 returns-then-is_nothing-clause-gone g c = λ stopped.
     keeps_sets _ _ _ c.args.work.now.generation _ c.steps.invariant.others
-    (c.ask-outcome.ensures.gone (stopped_end c.ask-outcome.result c.in-Ok.lived.kept (sym (ap (λ t. t.stopped) c.with-tale.ensures) ∙ stopped)))
+    (c.ask-outcome.ensures.gone (stopped_on c.steps.tale c.with-tale.result c.ask-outcome.result c.in-Ok.lived.todo c.in-Ok.lived.kept c.with-tale.ensures stopped))
