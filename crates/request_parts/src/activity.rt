@@ -81,8 +81,10 @@ fn server_told(
 {
     match ServerName::from_text(alloc, name)? {
         Some(server) if value.is_object() => {
-            let at = optional_at(alloc, value, "last_activity")?;
-            Ok(at.map(|at| (server, at)))
+            match optional_at(alloc, value, "last_activity")? {
+                Some(at) => Ok(Some((server, at))),
+                None => Ok(None),
+            }
         }
         _ => Ok(None),
     }
