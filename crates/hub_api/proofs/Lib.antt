@@ -1,4 +1,7 @@
 pub mod Additions
 pub mod Distinct
 pub mod PathsOf
-pub mod Routers
+pub mod Walks
+pub mod Fits
+pub mod Routes
+pub mod RoutesFit

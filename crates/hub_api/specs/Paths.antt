@@ -1,11 +1,10 @@
 -- The paths of the calls, and which of them a text is.
-use Rattle.std.specs.Prelude.{◌≡◌, ℕ, List, [], ◌∷◌, fold, codes, Option, option_map, Result, Ok, Err}
+use Rattle.std.specs.Prelude.{◌≡◌, ℕ, List, [], ◌∷◌, codes, Bool, ◌==◌, nat_eq, nat_lt, length, if◌then◌else◌, Option, option_map}
+use Rattle.std.specs.List.{find, slice_split, starts_with}
+use Rattle.std.specs.Cmp.Lexicographic.{pointwise}
 use Rattle.matchit.specs.Rows.{RowsOf}
-use Rattle.matchit.specs.Order.{placed}
-use Rattle.matchit.specs.Route.{Scan, parse_route}
-use Rattle.matchit.specs.Router.{RouteOf, route_from}
+use Rattle.matchit.specs.Router.{RouteOf}
 use Rattle.matchit.specs.Seek.{first}
-use Rattle.matchit.specs.declared.error.InsertError.{InsertError}
 use Rattle.hub_api.specs.declared.paths.Path.{Path}
 use Rattle.hub_api.specs.declared.paths.Path.TheVariants.{Bare, Version, Info, Identity, Users, User, Activity, Groups, Group, Members, Services, Service, Roles, Role}
 
@@ -26,26 +25,26 @@ text_of Service = codes "/hub/api/services/{service}"
 text_of Roles = codes "/hub/api/roles"
 text_of Role = codes "/hub/api/roles/{role}"
 
--- the paths of the calls that are built
+-- the paths of the calls that are built. No text fits two of them, so their order says nothing
 unfoldable pub every_path : List Path
-every_path = Bare ∷ Version ∷ Info ∷ Identity ∷ Users ∷ User ∷ Activity ∷ Groups ∷ Group ∷ Members ∷ Services ∷ Service ∷ Roles ∷ Role ∷ []
+every_path = Members ∷ Group ∷ Groups ∷ Info ∷ Role ∷ Roles ∷ Service ∷ Services ∷ Activity ∷ User ∷ Users ∷ Identity ∷ Version ∷ Bare ∷ []
 
--- a route at its place among the routes of a router
-abbrev pub with_route : Result Scan InsertError → Path → RowsOf (RouteOf Path) → RowsOf (RouteOf Path)
-with_route (Ok s) path routes = placed ((route_from s path).pattern, route_from s path) routes
-with_route (Err e) path routes = routes
+-- what stands between the slashes of a text
+abbrev pub segments : List ℕ → List (List ℕ)
+segments text = slice_split (λ b. b == 47) text
 
-abbrev pub with_path : RowsOf (RouteOf Path) → Path → RowsOf (RouteOf Path)
-with_path routes path = with_route (parse_route (text_of path)) path routes
+-- a part of a path that begins with a brace fits each segment of a byte or more, and any other part fits itself alone
+abbrev pub fits_part : (part segment : List ℕ) → Bool
+fits_part part segment = if starts_with nat_eq part (codes "{") then nat_lt 0 (length segment) else pointwise nat_eq part segment
 
--- the routes of all paths
-unfoldable pub hub_routes : RowsOf (RouteOf Path)
-hub_routes = fold with_path [] every_path
-
--- a router has these and no others
-abbrev pub IsRouter : RowsOf (RouteOf Path) → Type 0
-IsRouter routes = routes ≡ hub_routes
+-- a path fits a text if its parts fit the text's segments, one by one
+abbrev pub fits : (path text : List ℕ) → Bool
+fits path text = pointwise fits_part (segments path) (segments text)
 
 -- the path that a text is. Nothing is decoded before
 unfoldable pub path_of : List ℕ → Option Path
-path_of text = option_map (λ route. route.value) (first hub_routes text)
+path_of text = find (λ path. fits (text_of path) text) every_path
+
+-- a router gives for each text the path that it is
+abbrev pub IsRouter : RowsOf (RouteOf Path) → Type 0
+IsRouter routes = (text : List ℕ) → option_map (λ route. route.value) (first routes text) ≡ path_of text

@@ -1,6 +1,6 @@
 //! The paths of the calls, found by `matchit`.
-ghost use Rattle.std.specs.Prelude.{◌≡◌, [], fold, IfOk, OnOk};
-ghost use Rattle.hub_api.specs.Paths.{IsRouter, with_path, every_path};
+ghost use Rattle.std.specs.Prelude.{◌≡◌, IfOk};
+ghost use Rattle.hub_api.specs.Paths.{IsRouter, every_path};
 ghost use Rattle.hub_api.specs.Paths as spec;
 
 use matchit::Router;
@@ -50,38 +50,26 @@ impl Path {
     }
 }
 
-/// All paths.
+/// All paths, in the order of a router's rows.
 static PATHS: [Path; 14] = [
-    Path::Bare,
-    Path::Version,
-    Path::Info,
-    Path::Identity,
-    Path::Users,
-    Path::User,
-    Path::Activity,
-    Path::Groups,
-    Path::Group,
     Path::Members,
-    Path::Services,
-    Path::Service,
-    Path::Roles,
+    Path::Group,
+    Path::Groups,
+    Path::Info,
     Path::Role,
+    Path::Roles,
+    Path::Service,
+    Path::Services,
+    Path::Activity,
+    Path::User,
+    Path::Users,
+    Path::Identity,
+    Path::Version,
+    Path::Bare,
 ];
 
 /// What finds the path that a text is. A connection makes one and keeps it.
 pub type ApiRouter = Router<Path>;
-
-/// Adds paths to a router.
-fn insert_all(router: &mut ApiRouter, paths: &[Path]) -> Result<(), AllocError>
-    ensures { OnOk result (router.new ≡ fold with_path router.old paths.now) }
-{
-    for path in paths {
-        if router.insert(path.text(), *path).is_err() {
-            return Err(AllocError);
-        }
-    }
-    Ok(())
-}
 
 #[tactic(auto, unfolding(crate::specs::Paths::every_path))]
 fn paths() -> &'static [Path]
@@ -95,11 +83,16 @@ pub fn new_router(alloc: Global) -> Result<ApiRouter, AllocError>
     ensures { IfOk result (λ router. IsRouter router) }
 {
     let mut router = Router::new(alloc);
-    insert_all(&mut router, paths()).and(Ok(router))
+    let all = paths();
+    for path in all {
+        if router.insert(path.text(), *path).is_err() {
+            return Err(AllocError);
+        }
+    }
+    Ok(router)
 }
 
 /// The path that a text is. Nothing is decoded before.
-#[tactic(auto, unfolding(crate::specs::Paths::path_of))]
 pub(crate) fn path_of(router: &ApiRouter, text: &str) -> Option<Path>
     requires { IsRouter router.now }
     ensures { result ≡ spec.path_of text.now }

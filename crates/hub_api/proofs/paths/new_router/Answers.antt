@@ -1,16 +1,19 @@
-use Rattle.std.proofs.Common.{◌≡◌, List, OnOk, subst}
+use Rattle.std.proofs.Common.{◌≡◌, [], refl, subst, sym, ◌∙◌, ap, drop, arith}
 use Rattle.std.specs.Prelude.{fold}
-use Rattle.matchit.specs.Rows.{RowsOf}
-use Rattle.matchit.specs.Router.{RouteOf}
-use Rattle.hub_api.specs.Paths.{IsRouter, every_path, hub_routes, with_path}
-use Rattle.hub_api.specs.declared.paths.Path.{Path}
-use Rattle.hub_api.proofs.Routers.{given_then}
+use Rattle.std.proofs.lemmas.List.{drop_all}
+use Rattle.hub_api.specs.Paths.{IsRouter}
+use Rattle.hub_api.proofs.Routes.{hub_routes, with_path}
+use Rattle.hub_api.proofs.RoutesFit.{hub-router}
 use Rattle.hub_api.proofs.paths.new_router.Goals as goal
 
-pub returns : goal.returns
+pub loop-path-init : goal.loop-path-init
 unfolding hub_routes
-returns c = rw c.and.ensures
-    (given_then c.insert_all.result c.insert_all.new.router IsRouter
-    (subst (λ (routes : RowsOf (RouteOf Path)). OnOk c.insert_all.result (c.insert_all.new.router ≡ fold with_path routes every_path)) c.new-router.ensures
-    (subst (λ (paths : List Path). OnOk c.insert_all.result (c.insert_all.new.router ≡ fold with_path c.new-router.result paths)) c.paths.ensures
-    c.insert_all.ensures)))
+loop-path-init c = rw (c.new-router.ensures, c.paths-all.ensures) refl
+
+pub returns : goal.returns
+returns c =
+    let all = c.paths-all.result.now in
+    let i = c.loop-path.path-index in
+    let end : drop i all ≡ [] = drop_all i all (omega arith) in
+    let done : c.loop-path.router ≡ hub_routes = sym (ap (fold with_path c.loop-path.router) end) ∙ c.loop-path.invariant in
+    subst IsRouter (sym done) hub-router

@@ -1,0 +1,153 @@
+-- The routes of all paths give for each text the path that it is.
+use Rattle.std.proofs.Common.{◌≡◌, ℕ, List, [], ◌∷◌, ◌++◌, Option, Some, true, cond, refl, sym, ap, ◌∙◌, codes, subst, map}
+use Rattle.std.specs.Prelude.{option_map, Result, Ok, Err, Bool, false}
+use Rattle.std.specs.List.{find}
+use Rattle.matchit.specs.Rows.{RowsOf}
+use Rattle.matchit.specs.Seek.{first}
+use Rattle.matchit.specs.Route.{Scan, scan_start, parse_route}
+use Rattle.matchit.specs.Router.{RouteOf, route_from}
+use Rattle.matchit.specs.declared.error.InsertError.{InsertError}
+use Rattle.matchit.proofs.OnLiterals.{matchit_on_literals}
+use Rattle.hub_api.specs.Paths.{IsRouter, every_path, fits, path_of, segments, text_of}
+use Rattle.hub_api.specs.declared.paths.Path.{Path}
+use Rattle.hub_api.specs.declared.paths.Path.TheVariants.{Bare, Version, Info, Identity, Users, User, Activity, Groups, Group, Members, Services, Service, Roles, Role}
+use Rattle.hub_api.proofs.Routes.{hub_routes}
+use Rattle.hub_api.proofs.Walks.{Agrees, after, agrees-branch, agrees-end, agrees-none, agrees-param, agrees-prefix, at_slash, found, matches}
+use Rattle.hub_api.proofs.Fits.{are_parts, fits-pattern, pattern_of}
+
+abbrev scanned : Result Scan InsertError → Scan
+scanned (Ok s) = s
+scanned (Err e) = scan_start
+
+abbrev route : Path → RouteOf Path
+route path = route_from (scanned (parse_route (text_of path))) path
+
+abbrev row : Path → List ℕ × RouteOf Path
+row path = ((route path).pattern, route path)
+
+abbrev leaf : Path → RowsOf (RouteOf Path)
+leaf path = ([], route path) ∷ []
+
+-- the routes of a collection: of the calls of one of its members, of that member, and of all
+abbrev collection : RowsOf (RouteOf Path) → Path → Path → RowsOf (RouteOf Path)
+collection of_one one all = after (codes "/") (after (256 ∷ []) (at_slash of_one (Some (route one)))) ++ leaf all
+
+agrees-collection : (of_one : RowsOf (RouteOf Path)) (one all : Path) → Agrees of_one → Agrees (collection of_one one all)
+agrees-collection of_one one all agrees =
+    agrees-branch (codes "/") (after (256 ∷ []) (at_slash of_one (Some (route one)))) (leaf all) (refl, refl, refl, refl)
+    (agrees-param of_one (Some (route one)) agrees) (agrees-end (route all))
+
+-- the routes as a tree: each part of a path that several share stands once
+abbrev of_groups : RowsOf (RouteOf Path)
+of_groups = collection (after (codes "users") (leaf Members)) Group Groups
+
+abbrev of_users : RowsOf (RouteOf Path)
+of_users = after (codes "s") (collection (after (codes "activity") (leaf Activity)) User Users) ++ leaf Identity
+
+abbrev from_users : RowsOf (RouteOf Path)
+from_users = after (codes "user") of_users ++ leaf Version
+
+abbrev from_services : RowsOf (RouteOf Path)
+from_services = after (codes "services") (collection [] Service Services) ++ from_users
+
+abbrev from_roles : RowsOf (RouteOf Path)
+from_roles = after (codes "roles") (collection [] Role Roles) ++ from_services
+
+abbrev from_info : RowsOf (RouteOf Path)
+from_info = after (codes "info") (leaf Info) ++ from_roles
+
+abbrev from_groups : RowsOf (RouteOf Path)
+from_groups = after (codes "groups") of_groups ++ from_info
+
+abbrev tree : RowsOf (RouteOf Path)
+tree = after (codes "/hub/api") (after (codes "/") from_groups ++ leaf Bare)
+
+agrees-of_groups : Agrees of_groups
+agrees-of_groups = agrees-collection (after (codes "users") (leaf Members)) Group Groups (agrees-prefix (codes "users") (leaf Members) refl (agrees-end (route Members)))
+
+agrees-of_users : Agrees of_users
+agrees-of_users =
+    agrees-branch (codes "s") (collection (after (codes "activity") (leaf Activity)) User Users) (leaf Identity) (refl, refl, refl, refl)
+    (agrees-collection (after (codes "activity") (leaf Activity)) User Users (agrees-prefix (codes "activity") (leaf Activity) refl (agrees-end (route Activity))))
+    (agrees-end (route Identity))
+
+agrees-from_users : Agrees from_users
+agrees-from_users = agrees-branch (codes "user") of_users (leaf Version) (refl, refl, refl, refl) agrees-of_users (agrees-end (route Version))
+
+agrees-from_services : Agrees from_services
+agrees-from_services = agrees-branch (codes "services") (collection [] Service Services) from_users (refl, refl, refl, refl) (agrees-collection [] Service Services agrees-none) agrees-from_users
+
+agrees-from_roles : Agrees from_roles
+agrees-from_roles = agrees-branch (codes "roles") (collection [] Role Roles) from_services (refl, refl, refl, refl) (agrees-collection [] Role Roles agrees-none) agrees-from_services
+
+agrees-from_info : Agrees from_info
+agrees-from_info = agrees-branch (codes "info") (leaf Info) from_roles (refl, refl, refl, refl) (agrees-end (route Info)) agrees-from_roles
+
+agrees-from_groups : Agrees from_groups
+agrees-from_groups = agrees-branch (codes "groups") of_groups from_info (refl, refl, refl, refl) agrees-of_groups agrees-from_info
+
+agrees-tree : Agrees tree
+agrees-tree =
+    agrees-prefix (codes "/hub/api") (after (codes "/") from_groups ++ leaf Bare) refl
+    (agrees-branch (codes "/") from_groups (leaf Bare) (refl, refl, refl, refl) agrees-from_groups (agrees-end (route Bare)))
+
+routes-tree : hub_routes ≡ tree
+unfolding hub_routes every_path matchit_on_literals
+routes-tree = refl
+
+routes-rows : hub_routes ≡ map row every_path
+unfolding hub_routes every_path matchit_on_literals
+routes-rows = refl
+
+plain-parts : (path : Path) → are_parts (segments (text_of path)) ≡ true
+plain-parts Bare = refl
+plain-parts Version = refl
+plain-parts Info = refl
+plain-parts Identity = refl
+plain-parts Users = refl
+plain-parts User = refl
+plain-parts Activity = refl
+plain-parts Groups = refl
+plain-parts Group = refl
+plain-parts Members = refl
+plain-parts Services = refl
+plain-parts Service = refl
+plain-parts Roles = refl
+plain-parts Role = refl
+
+pattern-parts : (path : Path) → (route path).pattern ≡ pattern_of (segments (text_of path))
+unfolding matchit_on_literals
+pattern-parts Bare = refl
+pattern-parts Version = refl
+pattern-parts Info = refl
+pattern-parts Identity = refl
+pattern-parts Users = refl
+pattern-parts User = refl
+pattern-parts Activity = refl
+pattern-parts Groups = refl
+pattern-parts Group = refl
+pattern-parts Members = refl
+pattern-parts Services = refl
+pattern-parts Service = refl
+pattern-parts Roles = refl
+pattern-parts Role = refl
+
+matches-fits : (path : Path) (text : List ℕ) → matches (route path).pattern text ≡ fits (text_of path) text
+matches-fits path text = fits-pattern (text_of path) (route path).pattern (plain-parts path) (pattern-parts path) text
+
+found-find : (paths : List Path) (text : List ℕ) → option_map (λ r. r.value) (found (map row paths) text) ≡ find (λ path. fits (text_of path) text) paths
+found-find [] text = refl
+found-find (path ∷ paths) text =
+    ap (λ v. option_map (λ (r : RouteOf Path). r.value) (cond v (Some (route path)) (found (map row paths) text))) (matches-fits path text)
+    ∙ by (fits (text_of path) text) (found-find paths text)
+  where
+    by : (v : Bool) → option_map (λ r. r.value) (found (map row paths) text) ≡ find (λ path. fits (text_of path) text) paths
+        → option_map (λ (r : RouteOf Path). r.value) (cond v (Some (route path)) (found (map row paths) text)) ≡ cond v (Some path) (find (λ path. fits (text_of path) text) paths)
+    by true ih = refl
+    by false ih = ih
+
+pub hub-router : IsRouter hub_routes
+unfolding path_of
+hub-router text =
+    let agrees : Agrees hub_routes = subst Agrees (sym routes-tree) agrees-tree in
+    ap (option_map (λ (r : RouteOf Path). r.value)) (agrees text ∙ ap (λ rows. found rows text) routes-rows) ∙ found-find every_path text
