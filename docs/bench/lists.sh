@@ -3,14 +3,15 @@
 # usage: docs/bench/lists.sh [PROGRAM ..]
 # Each PROGRAM is a program `hub` as `rt run` leaves it (crates/hub/out/hub if none is named: run `rt run` there first); several are measured
 # in turn, as one of before a change and one of after it. Each figure is the processor time of a session with so many such requests less that of
-# the session with none of them, by their number; of each the least of 5 runs. As many are asked as take some two seconds. It stands outside the gate.
+# the session with none of them, by their number; of each the least of 9 runs. As many are asked as take some two seconds, and no more than the 1,000
+# requests of a connection. It stands outside the gate.
 set -eu
 top=$(cd "$(dirname "$0")/../.." && pwd)
 [ $# -gt 0 ] || set -- "$top/crates/hub/out/hub"
 exec python3 - "$@" <<'END_OF_PROGRAM'
 import resource, subprocess, sys
 
-ROUNDS = 5
+ROUNDS = 9
 STUDENTS = 30
 
 
@@ -65,7 +66,7 @@ def each(program, first, page):
     """Microseconds of the page after these requests."""
     base = least(program, first)
     some = max(1e-5, (seconds(program, first + [page] * 50) - base) / 50)
-    number = min(20_000, max(50, int(2 / some)))
+    number = min(1_000 - len(first), max(50, int(2 / some)))
     return 1e6 * (least(program, first + [page] * number) - base) / number
 
 
