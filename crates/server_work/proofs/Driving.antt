@@ -1,5 +1,5 @@
 -- How a chain goes on.
-use Rattle.std.proofs.Common.{◌≡◌, ◌≢◌, ℕ, ◌+◌, ◌≤◌, ◌<◌, Bool, true, List, [], ◌∷◌, ◌++◌, map, Option, Some, None, refl, sym, ap, ◌∙◌, subst, append_assoc, arith}
+use Rattle.std.proofs.Common.{◌≡◌, ◌≢◌, ℕ, ◌+◌, ◌≤◌, ◌<◌, Bool, true, List, [], ◌∷◌, ◌++◌, length, map, Option, Some, None, refl, sym, ap, ◌∙◌, subst, append_assoc, arith}
 use Rattle.std.specs.List.{flat_map}
 use Rattle.std.proofs.lemmas.List.{append-nil, map-append}
 use Rattle.desk.specs.Passes.{PassState}
@@ -25,9 +25,9 @@ use Rattle.server_work.proofs.Ranks.{rank, fewer, no_start}
 -- ---- one step more
 
 module _ {E : Type 0} where
-  tale_more : (t : Tale) (ss : List (Step E)) (s : Step E) → tale_from t (ss ++ s ∷ []) ≡ tale_with (tale_from t ss) s.outcome s.owes s.kept
+  tale_more : (t : Tale) (ss : List (Step E)) (s : Step E) → tale_from t (ss ++ s ∷ []) ≡ tale_with (tale_from t ss) s.outcome s.owes s.kept (length s.found.entries + 1)
   tale_more t [] s = refl
-  tale_more t (x ∷ ss) s = tale_more (tale_with t x.outcome x.owes x.kept) ss s
+  tale_more t (x ∷ ss) s = tale_more (tale_with t x.outcome x.owes x.kept (length x.found.entries + 1)) ss s
 
   fails_more : (ss : List (Step E)) (s : Step E) → fails (ss ++ s ∷ []) ≡ fails ss + rose s
   fails_more [] s = omega arith
@@ -81,9 +81,9 @@ module _ {E A : Type 0} (reached : Option A → List E → Lives → Type 0) (no
       }
 
   pub told_on : (p q : PassState E A) (g : ℕ) (ss : List (Step E)) (o : LifeEvent) (l : Lived) (made : Made reached notes p q g o l) (tale tale' : Tale)
-      → tale ≡ tale_from new_tale ss → tale' ≡ tale_with tale o l.todo l.kept → tale' ≡ tale_from new_tale (ss ++ made.step ∷ [])
+      → tale ≡ tale_from new_tale ss → tale' ≡ tale_with tale o l.todo l.kept l.length → tale' ≡ tale_from new_tale (ss ++ made.step ∷ [])
   told_on p q g ss o l made tale tale' is told =
-      (told ∙ ap (λ t. tale_with t o l.todo l.kept) is) ∙ sym (tale_more new_tale ss made.step ∙ cc (made.of, made.owes, made.kept))
+      (told ∙ ap (λ t. tale_with t o l.todo l.kept l.length) is) ∙ sym (tale_more new_tale ss made.step ∙ cc (made.of, made.owes, made.kept, made.longer))
 
   -- less is owed then, and no start
   pub owes_less : (p q : PassState E A) (g : ℕ) (o : LifeEvent) (l : Lived) (owed : Todo) → Made reached notes p q g o l → todo_of o ≡ owed → owed ≢ Nothing
@@ -153,9 +153,9 @@ stopped_end Event.SpawnFailed k e = refl
 stopped_end o k e = absurd (cc (e))
 
 -- the same of what is told after one outcome more
-pub caused_on : (tale tale' : Tale) (o : LifeEvent) (owes : Todo) (k : Kept) (x : Device) (a b c : ℕ) → tale' ≡ tale_with tale o owes k → a ≤ b → b ≤ c
+pub caused_on : (tale tale' : Tale) (o : LifeEvent) (l : Lived) (x : Device) (a b c : ℕ) → tale' ≡ tale_with tale o l.todo l.kept l.length → a ≤ b → b ≤ c
     → (tale.failed ≡ Some x → Rises a b) → (device_of o ≡ Some x → Rises b c) → tale'.failed ≡ Some x → Rises a c
-caused_on tale tale' o owes k x a b c is ab bc f h e = caused tale.failed (device_of o) x a b c ab bc f h (sym (ap (λ t. t.failed) is) ∙ e)
+caused_on tale tale' o l x a b c is ab bc f h e = caused tale.failed (device_of o) x a b c ab bc f h (sym (ap (λ t. t.failed) is) ∙ e)
 
-pub stopped_on : (tale tale' : Tale) (o : LifeEvent) (owes : Todo) (k : Kept) → tale' ≡ tale_with tale o owes k → tale'.stopped ≡ true → is_end o ≡ true
-stopped_on tale tale' o owes k is e = stopped_end o k (sym (ap (λ t. t.stopped) is) ∙ e)
+pub stopped_on : (tale tale' : Tale) (o : LifeEvent) (l : Lived) → tale' ≡ tale_with tale o l.todo l.kept l.length → tale'.stopped ≡ true → is_end o ≡ true
+stopped_on tale tale' o l is e = stopped_end o l.kept (sym (ap (λ t. t.stopped) is) ∙ e)

@@ -1,7 +1,7 @@
 -- The visit with an outcome.
 use Rattle.std.proofs.Common.{◌≡◌, ◌≢◌, ℕ, ◌+◌, ◌≤◌, Bool, true, false, ltb, if◌then◌else◌, List, [], ◌∷◌, ◌++◌, length, drop, Option, Some, Result, Ok, Err, refl, sym, ap, ◌∙◌, subst, arith}
 use Rattle.std.proofs.Math.Seq.{drop-append_seam, drop-length}
-use Rattle.std.proofs.lemmas.List.{append-nil}
+use Rattle.std.proofs.lemmas.List.{append-nil, length_push}
 use Rattle.std.proofs.lemmas.Bool.{le-ltb}
 use mathlib.Core.List.{IsPrefix}
 use Rattle.desk.specs.Passes.{PassState}
@@ -33,6 +33,7 @@ taken {B} {E} {A} entries base faults lives reached notes p q b b' g outcome (Ok
   of = refl;
   owes = refl;
   kept = refl;
+  longer = v.longer ∙ (ap length v.appends ∙ length_push (entries b) v.entry);
   comes = (d.begins, d.known, λ alone. same_sight (d.whole alone) (d.exact alone));
   is = record {
     some = some;

@@ -77,7 +77,7 @@ fails (s ∷ ss) = rose s + fails ss
 -- what is told of all the steps
 abbrev pub tale_from : {E : Type 0} → Tale → List (Step E) → Tale
 tale_from t [] = t
-tale_from t (s ∷ ss) = tale_from (tale_with t s.outcome s.owes s.kept) ss
+tale_from t (s ∷ ss) = tale_from (tale_with t s.outcome s.owes s.kept (length s.found.entries + 1)) ss
 
 -- ---- a pass and the devices
 

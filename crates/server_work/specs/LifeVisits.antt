@@ -1,5 +1,5 @@
 -- What an outcome leaves of a book.
-use Rattle.std.specs.Prelude.{◌≡◌, ◌≤◌, ℕ, List, [], ◌∷◌, ◌++◌, Result, Ok, Err}
+use Rattle.std.specs.Prelude.{◌≡◌, ◌≤◌, ℕ, List, [], ◌∷◌, ◌++◌, length, Result, Ok, Err}
 use Rattle.server_life.specs.declared.life.Life.{Life}
 use Rattle.server_life.specs.declared.life.LifeEvent.{LifeEvent}
 use Rattle.server_life.specs.declared.life.LifeRefusal.{LifeRefusal}
@@ -20,6 +20,7 @@ module _ {E : Type 0} (notes : E → ℕ → LifeEvent → Type 0) where
     pub row : step_at lives g (noted outcome l.kept) ≡ Ok (made, l.todo)
     pub left : IsSet g (left_of made) lives lives'
     pub kept : KeptAs (is_end outcome) faults faults' l.kept
+    pub longer : l.length ≡ length h'
 
   -- where the life doesn't take the outcome all is as before
   abbrev pub LifeVisited : (h h' : List E) → (lives lives' : Lives) → (faults faults' : ℕ) → ℕ → LifeEvent → Result Lived LifeRefusal → Type 0

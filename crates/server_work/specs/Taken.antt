@@ -1,5 +1,5 @@
 -- What the visit with an outcome leaves of a pass.
-use Rattle.std.specs.Prelude.{◌≡◌, ℕ, ◌+◌, List, [], ◌∷◌, ◌++◌, Option, Result, Ok, Err}
+use Rattle.std.specs.Prelude.{◌≡◌, ℕ, ◌+◌, List, [], ◌∷◌, ◌++◌, length, Option, Result, Ok, Err}
 use Rattle.desk.specs.Passes.{PassState, IsSamePass}
 use Rattle.server_life.specs.declared.life.LifeEvent.{LifeEvent}
 use Rattle.server_life.specs.declared.life.LifeRefusal.{LifeRefusal}
@@ -15,6 +15,7 @@ module _ {E A : Type 0} (reached : Option A → List E → Lives → Type 0) (no
     pub of : step.outcome ≡ outcome
     pub owes : step.owes ≡ l.todo
     pub kept : step.kept ≡ l.kept
+    pub longer : l.length ≡ length step.found.entries + 1
     pub comes : Comes p.alone (sight p) step.found
     pub is : IsStep reached notes p.base g (todo_of outcome) step
     pub same : IsSamePass p q

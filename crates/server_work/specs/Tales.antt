@@ -1,5 +1,5 @@
 -- What is told of a chain.
-use Rattle.std.specs.Prelude.{Bool, true, false, Option, Some, None}
+use Rattle.std.specs.Prelude.{ℕ, Bool, true, false, Option, Some, None}
 use Rattle.server_life.specs.declared.life.LifeEvent.{LifeEvent}
 use Rattle.server_life.specs.declared.life.LifeEvent.TheVariants.{SpawnFailed, Routed, Ended}
 use Rattle.server_life.specs.declared.life.Todo.{Todo}
@@ -11,7 +11,7 @@ use Rattle.server_work.specs.declared.tale.Tale.{Tale}
 use Rattle.server_work.specs.Outcomes.{device_of}
 
 abbrev pub new_tale : Tale
-new_tale = record { failed = None; ready = false; stopped = false; kept = K.NotAsked }
+new_tale = record { failed = None; ready = false; stopped = false; kept = K.NotAsked; length = 0 }
 
 abbrev pub first_of : Option Device → Option Device → Option Device
 first_of (Some d) other = Some d
@@ -28,10 +28,11 @@ is_stopped Ended K.Kept = true
 is_stopped SpawnFailed K.Kept = true
 is_stopped event _ = false
 
-abbrev pub tale_with : Tale → LifeEvent → Todo → Kept → Tale
-tale_with t outcome owes kept = record {
+abbrev pub tale_with : Tale → LifeEvent → Todo → Kept → ℕ → Tale
+tale_with t outcome owes kept long = record {
   failed = first_of t.failed (device_of outcome);
   ready = is_ready outcome owes;
   stopped = is_stopped outcome kept;
   kept = kept;
+  length = long;
 }

@@ -12,11 +12,12 @@ use crate::work::Kept;
 use desk::Booked;
 use server_life::{LifeEvent, LifeRefusal, Todo};
 
-/// What an outcome that was taken leaves: the call that is owed next, and whether an end was kept.
+/// What an outcome that was taken leaves: the call that is owed next, whether an end was kept, and the length of the history with its entry.
 #[derive(Clone, Copy)]
 pub struct Lived {
     pub todo: Todo,
     pub kept: Kept,
+    pub length: u64,
 }
 
 /// A book whose history tells the lives of servers by their generations.

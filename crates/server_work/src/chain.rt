@@ -152,7 +152,7 @@ pub fn drive<B: LifeBook, S: Spawner, P: RouteLink, R: Wait>(
         let outcome = ask(spawner, routes, work, owed);
         match take_outcome(rt, desk, pass, work.generation, outcome) {
             Ok(lived) => {
-                tale = tale.with(outcome, lived.todo, lived.kept);
+                tale = tale.with(outcome, lived);
                 if is_nothing(lived.todo) {
                     return Some(tale);
                 }

@@ -3,17 +3,19 @@ ghost use Rattle.std.specs.Prelude.{◌≡◌};
 ghost use Rattle.server_work.specs.Tales.{new_tale, tale_with, first_of, is_ready, is_stopped};
 ghost use Rattle.server_work.specs.Outcomes.{device_of};
 
+use crate::book::Lived;
 use crate::work::{Device, Kept};
 use server_life::{LifeEvent, Todo};
 
-/// A chain so far: whose call failed first, whether the last outcome made the server ready or ended it, and whether that end
-/// was kept.
+/// A chain so far: whose call failed first, whether the last outcome made the server ready or ended it, whether that end was kept, and
+/// the length of the history with the entry of that outcome.
 #[derive(Clone, Copy)]
 pub struct Tale {
     pub failed: Option<Device>,
     pub ready: bool,
     pub stopped: bool,
     pub kept: Kept,
+    pub length: u64,
 }
 
 impl Tale {
@@ -26,18 +28,20 @@ impl Tale {
             ready: false,
             stopped: false,
             kept: Kept::NotAsked,
+            length: 0,
         }
     }
 
     /// After one outcome more.
-    pub fn with(self, outcome: LifeEvent, owes: Todo, kept: Kept) -> Tale
-        ensures { result ≡ tale_with self outcome owes kept }
+    pub fn with(self, outcome: LifeEvent, lived: Lived) -> Tale
+        ensures { result ≡ tale_with self outcome lived.todo lived.kept lived.length }
     {
         Tale {
             failed: first_of(self.failed, device_of(outcome)),
-            ready: is_ready(outcome, owes),
-            stopped: is_stopped(outcome, kept),
-            kept,
+            ready: is_ready(outcome, lived.todo),
+            stopped: is_stopped(outcome, lived.kept),
+            kept: lived.kept,
+            length: lived.length,
         }
     }
 }

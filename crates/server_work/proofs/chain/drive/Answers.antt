@@ -40,9 +40,9 @@ steps-preserved g c =
       others = keeps_then _ _ _ c.args.work.now.generation c.steps.invariant.others c.ask-outcome.ensures.others;
       spawner_counted = omega (arith, c.steps.invariant.spawner_counted, c.ask-outcome.ensures.spawner_counted);
       routes_counted = omega (arith, c.steps.invariant.routes_counted, c.ask-outcome.ensures.routes_counted);
-      spawner_cause = caused_on c.steps.tale c.with-tale.result c.ask-outcome.result c.in-Ok.lived.todo c.in-Ok.lived.kept Device.Spawner _ _ _ c.with-tale.ensures
+      spawner_cause = caused_on c.steps.tale c.with-tale.result c.ask-outcome.result c.in-Ok.lived Device.Spawner _ _ _ c.with-tale.ensures
           c.steps.invariant.spawner_counted c.ask-outcome.ensures.spawner_counted c.steps.invariant.spawner_cause c.ask-outcome.ensures.spawner_cause;
-      routes_cause = caused_on c.steps.tale c.with-tale.result c.ask-outcome.result c.in-Ok.lived.todo c.in-Ok.lived.kept Device.Proxy _ _ _ c.with-tale.ensures
+      routes_cause = caused_on c.steps.tale c.with-tale.result c.ask-outcome.result c.in-Ok.lived Device.Proxy _ _ _ c.with-tale.ensures
           c.steps.invariant.routes_counted c.ask-outcome.ensures.routes_counted c.steps.invariant.routes_cause c.ask-outcome.ensures.routes_cause;
     }
 
@@ -64,11 +64,11 @@ returns-in-Err-clause-ends g c =
     d.1 c.steps.invariant.some c.ask-outcome.ensures.of c.ask-outcome.ensures.spawner c.ask-outcome.ensures.routes c.in-Err.ensures.took
 
 pub returns-then-is_nothing-clause-spawner_cause : goal.returns-then-is_nothing-clause-spawner_cause
-returns-then-is_nothing-clause-spawner_cause g c = caused_on c.steps.tale c.with-tale.result c.ask-outcome.result c.in-Ok.lived.todo c.in-Ok.lived.kept Device.Spawner _ _ _ c.with-tale.ensures
+returns-then-is_nothing-clause-spawner_cause g c = caused_on c.steps.tale c.with-tale.result c.ask-outcome.result c.in-Ok.lived Device.Spawner _ _ _ c.with-tale.ensures
     c.steps.invariant.spawner_counted c.ask-outcome.ensures.spawner_counted c.steps.invariant.spawner_cause c.ask-outcome.ensures.spawner_cause
 
 pub returns-then-is_nothing-clause-routes_cause : goal.returns-then-is_nothing-clause-routes_cause
-returns-then-is_nothing-clause-routes_cause g c = caused_on c.steps.tale c.with-tale.result c.ask-outcome.result c.in-Ok.lived.todo c.in-Ok.lived.kept Device.Proxy _ _ _ c.with-tale.ensures
+returns-then-is_nothing-clause-routes_cause g c = caused_on c.steps.tale c.with-tale.result c.ask-outcome.result c.in-Ok.lived Device.Proxy _ _ _ c.with-tale.ensures
     c.steps.invariant.routes_counted c.ask-outcome.ensures.routes_counted c.steps.invariant.routes_cause c.ask-outcome.ensures.routes_cause
 
 pub returns-then-is_nothing-clause-of : goal.returns-then-is_nothing-clause-of
@@ -86,4 +86,4 @@ returns-in-Err-clause-others g c = keeps_then _ _ _ c.args.work.now.generation c
 pub returns-then-is_nothing-clause-gone : goal.returns-then-is_nothing-clause-gone
 returns-then-is_nothing-clause-gone g c = λ stopped.
     keeps_sets _ _ _ c.args.work.now.generation _ c.steps.invariant.others
-    (c.ask-outcome.ensures.gone (stopped_on c.steps.tale c.with-tale.result c.ask-outcome.result c.in-Ok.lived.todo c.in-Ok.lived.kept c.with-tale.ensures stopped))
+    (c.ask-outcome.ensures.gone (stopped_on c.steps.tale c.with-tale.result c.ask-outcome.result c.in-Ok.lived c.with-tale.ensures stopped))
