@@ -147,3 +147,9 @@ written_kept rows told w r kept kept' t t' same h done items keeps =
 -- the rows of a change that was written
 pub of_change : (c : Change) (w : Written) (rows : List RowChange) → c ≡ Rows rows → IsWritten c w → IsOfRows rows w
 of_change c w rows e h = subst (λ (x : Change). IsWritten x w) e h
+
+-- the same of a batch and rows that are told elsewhere
+pub batch_kept : {E : Type 0} (rows told : List RowChange) (items : List Item) (r : Result Bool E) (kept kept' : KeptRows) (t t' : State) → told ≡ rows → items ≡ batch_of rows
+    → All IsValid (puts_of rows) → All IsValid (removals_of rows) → RowsDone told r t t' → RowsKept items r kept kept' → Keeps kept t → Keeps kept' t'
+batch_kept rows told items r kept kept' t t' same e puts removals done h keeps =
+    carried_kept rows r kept kept' t t' puts removals (subst (λ (l : List RowChange). RowsDone l r t t') same done) (subst (λ (b : List Item). RowsKept b r kept kept') e h) keeps

@@ -1,4 +1,10 @@
 pub mod Bounds
 pub mod Entered
+pub mod KeptLeases
 pub mod Passed
 pub mod KeptChanges
+pub mod LifeLines
+pub mod Pieces
+pub mod Owing
+pub mod EndRows
+pub mod Opening

@@ -2,7 +2,7 @@
 use Rattle.hub_view.specs.Body.{body_tokens}
 use Rattle.hub_machine.specs.Replies as spec
 use Rattle.hub_machine.specs.declared.answer.Answer.{Answer}
-use Rattle.hub_machine.specs.declared.answer.Answer.TheVariants.{Refuses, Gives, Changes}
+use Rattle.hub_machine.specs.declared.answer.Answer.TheVariants.{Refuses, RefusesWith, Gives, Changes, Works}
 use Rattle.hub_machine.specs.declared.answer.Good.{Good}
 use Rattle.hub_machine.specs.declared.reply.Reply.{Reply}
 use Rattle.hub_machine.specs.declared.reply.Outcome as out
@@ -13,11 +13,14 @@ good_view g = record { status = g.status; body = body_tokens g.body; location = 
 
 abbrev pub answer_view : Answer → spec.Answer
 answer_view (Refuses r) = spec.refuses r
+answer_view (RefusesWith c r) = spec.refuses_with c r
 answer_view (Gives g) = spec.gives (good_view g)
 answer_view (Changes c g) = spec.changes c (good_view g)
+answer_view (Works c w) = spec.works c w
 
 abbrev pub reply_view : Reply → spec.Reply
 reply_view r = record { status = r.status; body = body_tokens r.body; location = r.location; no_store = r.no_store; revision = r.revision }
 
 abbrev pub outcome_view : out.Outcome → spec.Outcome
 outcome_view (given.Answer r) = spec.answered (reply_view r)
+outcome_view (given.Work w) = spec.working w

@@ -6,4 +6,6 @@ pub mod Answers
 pub mod Carry
 pub mod Written
 pub mod Trails
+pub mod Draws
 pub mod KeptRows
+pub mod Steps

@@ -5,8 +5,9 @@ use Rattle.hub_view.specs.Json.{Json, message_body}
 use Rattle.hub_rows.specs.declared.changes.RowChange.{RowChange}
 use Rattle.hub_machine.specs.declared.change.Change.{Change}
 use Rattle.hub_machine.specs.declared.change.Change.TheVariants.{Rows}
+use Rattle.hub_machine.specs.declared.work.Work.{Work}
 use Rattle.hub_machine.specs.declared.refusal.Refusal.{Refusal}
-use Rattle.hub_machine.specs.declared.refusal.Refusal.TheVariants.{SeenPast, NoValidToken, Needs, NotFound, Rule, Exists, Full, TrailFull, KeeperFault}
+use Rattle.hub_machine.specs.declared.refusal.Refusal.TheVariants.{SeenPast, NoValidToken, Needs, NotFound, Rule, Exists, AllLeased, Full, TrailFull, NoDraw, KeeperFault, SpawnerFault, ProxyFault, StoppedWhileStarting}
 
 abbrev pub status_of : Refusal → ℕ
 status_of (SeenPast seen length) = 412
@@ -15,12 +16,20 @@ status_of (Needs action) = 403
 status_of NotFound = 404
 status_of (Rule text) = 400
 status_of (Exists key) = 409
+status_of (AllLeased live pool) = 429
 status_of (Full kind limit) = 500
 status_of TrailFull = 500
+status_of NoDraw = 503
 status_of KeeperFault = 503
+status_of SpawnerFault = 503
+status_of ProxyFault = 503
+status_of StoppedWhileStarting = 409
 
 abbrev pub seen_message : (seen length : ℕ) → List ℕ
 seen_message seen length = codes "seen " ++ (decimal seen ++ (codes ", revision " ++ decimal length))
+
+abbrev pub leased_message : (live pool : ℕ) → List ℕ
+leased_message live pool = decimal live ++ (codes " of " ++ (decimal pool ++ codes " servers"))
 
 abbrev pub full_message : (kind limit : ℕ) → List ℕ
 full_message kind limit = codes "full: " ++ (decimal kind ++ (codes " " ++ decimal limit))
@@ -32,9 +41,14 @@ message_of (Needs action) = codes "needs " ++ text_of action
 message_of NotFound = codes "not found"
 message_of (Rule text) = text
 message_of (Exists key) = codes "exists: " ++ key
+message_of (AllLeased live pool) = leased_message live pool
 message_of (Full kind limit) = full_message kind limit
 message_of TrailFull = codes "trail full"
+message_of NoDraw = codes "random"
 message_of KeeperFault = codes "keeper"
+message_of SpawnerFault = codes "spawner"
+message_of ProxyFault = codes "proxy"
+message_of StoppedWhileStarting = codes "stopped while starting"
 
 abbrev pub refusal_body : Refusal → Json
 refusal_body r = message_body (status_of r) (message_of r)
@@ -51,8 +65,11 @@ good status body = record { status = status; body = body; location = None; no_st
 
 pub data Answer : Type 0 where
   refuses : Refusal → Answer
+  -- the one refusal that has a change
+  refuses_with : Change → Refusal → Answer
   gives : Good → Answer
   changes : Change → Good → Answer
+  works : Change → Work → Answer
 
 -- the Ok of a change of these rows; no rows are no change
 abbrev pub rows_then : List RowChange → Good → Answer
@@ -93,15 +110,14 @@ abbrev pub good_reply : ℕ → Good → Reply
 good_reply revision g =
     record { status = g.status; body = g.body; location = g.location; no_store = g.no_store; revision = Some revision }
 
--- the reply that says an answer, at a length of the history
-abbrev pub reply_of : ℕ → Answer → Reply
-reply_of revision (refuses r) = refusal_reply revision r
-reply_of revision (gives g) = good_reply revision g
-reply_of revision (changes c g) = good_reply revision g
-
 pub data Outcome : Type 0 where
   answered : Reply → Outcome
+  working : Work → Outcome
 
 -- the outcome of an answer, at the length of the history after its change
 abbrev pub outcome_of : ℕ → Answer → Outcome
-outcome_of revision answer = answered (reply_of revision answer)
+outcome_of revision (refuses r) = answered (refusal_reply revision r)
+outcome_of revision (refuses_with c r) = answered (refusal_reply revision r)
+outcome_of revision (gives g) = answered (good_reply revision g)
+outcome_of revision (changes c g) = answered (good_reply revision g)
+outcome_of revision (works c w) = working w

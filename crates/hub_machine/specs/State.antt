@@ -1,19 +1,13 @@
 -- The state of the hub: its rows, its live servers, the length and the cost of its history, and what is fixed.
-use Rattle.std.specs.Prelude.{◌≡◌, ℕ, ◌≤◌, ◌^◌, Bool, false, List, sum_by, Option, Some, None}
-use Rattle.std.specs.List.{find, list_any}
-use Rattle.std.specs.Ordering.{nat_cmp}
-use Rattle.std.specs.FinMap.{FinMap, values}
+use Rattle.std.specs.Prelude.{◌≡◌, ℕ, ◌+◌, ◌*◌, ◌≤◌, ◌^◌, Bool, false, List, codes, Option, Some, option_map, ◌↔◌}
+use Rattle.std.specs.FinMap.{get}
 use Rattle.hub_kit.specs.declared.names.ServerKey.{ServerKey}
-use Rattle.scope_filters.specs.Contexts.{same}
-use Rattle.scope_filters.specs.Admits.{same_server}
-use Rattle.server_life.specs.declared.life.Life.{Life}
-use Rattle.server_life.specs.declared.life.Phase.TheVariants.{Stopped}
-use Rattle.server_life.specs.Owed.{owed as owed_in}
+use Rattle.server_life.specs.Pools.{IsPool}
+use Rattle.hub_rows.specs.declared.records.Lease.{Lease}
+use Rattle.hub_tables.specs.Lookups.{next_of}
 use Rattle.hub_tables.specs.State.{State}
-use Rattle.hub_machine.specs.declared.lives.Leased.{Leased}
-
-abbrev pub Lives : Type 0
-Lives = FinMap nat_cmp Leased
+use Rattle.hub_lives.specs.declared.lives.Leased.{Leased}
+pub use Rattle.hub_lives.specs.Lives.{Lives, at_rest, lease_of, life_in, life_of, has_live_server, owed, is_leased, free_target, AreApart}
 
 pub record Hub : Type 0 where
   -- the rows, with the limits and the custom scopes
@@ -28,34 +22,34 @@ pub record Hub : Type 0 where
   pub hub_url : Option (List ℕ)
   pub no_trail : Bool
 
--- ---- the lives of servers
-
-abbrev pub at_rest : Life
-at_rest = record { phase = Stopped; stop_asked = false }
-
-abbrev pub lease_of : Lives → ServerKey → Option Leased
-lease_of lives k = find (λ l. same_server l.server k) (values lives)
-
-abbrev pub life_in : Option Leased → Life
-life_in None = at_rest
-life_in (Some l) = l.life
-
--- a server without a lease is at rest
-abbrev pub life_of : Lives → ServerKey → Life
-life_of lives k = life_in (lease_of lives k)
-
-abbrev pub has_live_server : Lives → List ℕ → Bool
-has_live_server lives u = list_any (λ l. same l.server.user u) (values lives)
-
--- the entries that are still owed
-abbrev pub owed : Lives → ℕ
-owed lives = sum_by (λ l. owed_in l.life.phase) (values lives)
+abbrev pub next_generation : State → ℕ
+next_generation t = next_of t (codes "generation")
 
 -- ---- what is true of every hub
 
--- the history costs at least a byte for each entry, and no more than the limit; without a trail its length alone is limited
+-- A history costs at least a byte for each entry, and with 64 for each that is owed no more than the limit. Without a trail its length
+-- alone is limited.
 pub record IsBounded (s : Hub) : Type 0 where
-  pub length : s.length ≤ 2 ^ 62
+  pub length : s.length + owed s.lives ≤ 2 ^ 62
   pub counted : s.no_trail ≡ false → s.length ≤ s.cost
-  pub within : s.no_trail ≡ false → s.cost ≤ s.tables.limits.trail_bytes
+  pub within : s.no_trail ≡ false → s.cost + 64 * owed s.lives ≤ s.tables.limits.trail_bytes
   pub limit : s.tables.limits.trail_bytes ≤ 2 ^ 62
+
+-- the server that the row of a target names
+abbrev pub holder : State → List ℕ → Option ServerKey
+holder t target = option_map (λ (row : Lease). row.server) (get t.leases target)
+
+abbrev pub IsHeldBy : Lives → (target : List ℕ) → ServerKey → Type 0
+IsHeldBy lives target server = (g : ℕ) × (a : Leased) × (get lives g ≡ Some a) × (a.target ≡ target) × (a.server ≡ server)
+
+-- a lease is kept exactly for each live server
+abbrev pub KeepsLeases : State → Lives → Type 0
+KeepsLeases t lives = (target : List ℕ) (server : ServerKey) → (holder t target ≡ Some server) ↔ IsHeldBy lives target server
+
+-- the live servers, the leases that are kept and the next generation are of one piece
+pub record AreLeased (s : Hub) : Type 0 where
+  pub pool : IsPool s.pool
+  pub apart : AreApart s.pool s.lives (next_generation s.tables)
+  pub kept : KeepsLeases s.tables s.lives
+  -- so a generation that is still to come is below 2 ^ 63
+  pub few : next_generation s.tables ≤ 2 ^ 61 + s.length

@@ -3,9 +3,9 @@ use Rattle.std.specs.Prelude.{◌≡◌, List, Option, Some, None, All}
 use Rattle.hub_rows.specs.declared.changes.RowChange.{RowChange}
 use Rattle.hub_tables.specs.Changes.{puts_of, removals_of}
 use Rattle.record_texts.specs.Items.{IsValid}
+use Rattle.hub_machine.specs.Apply.{rows_of}
 use Rattle.hub_machine.specs.Batches.{batch_of, batch_cost}
 use Rattle.hub_machine.specs.declared.change.Change.{Change}
-use Rattle.hub_machine.specs.declared.change.Change.TheVariants.{Rows}
 use Rattle.hub_machine.specs.declared.planned.Written.{Written}
 
 -- the batch of these rows, which are all valid, and what it costs
@@ -16,7 +16,7 @@ pub record IsOfRows (rows : List RowChange) (w : Written) : Type 0 where
   pub removals : All IsValid (removals_of rows)
 
 abbrev pub IsWritten : Change → Written → Type 0
-IsWritten (Rows rows) w = IsOfRows rows w
+IsWritten c w = IsOfRows (rows_of c) w
 
 abbrev pub IsAsWritten : Change → Option Written → Type 0
 IsAsWritten c None = Unit {0}

@@ -7,6 +7,7 @@ ghost use Rattle.hub_machine.specs.Replies as spec;
 use crate::planned::Planned;
 use crate::refusal::Refusal;
 use crate::reply::Reply;
+use crate::work::Work;
 use hub_kit::text::Text;
 use hub_rows::changes::RowChange;
 use hub_view::Body;
@@ -25,8 +26,12 @@ pub struct Good {
 #[derive(Drop)]
 pub enum Answer {
     Refuses(Refusal),
+    /// The one refusal with a change: a used code is refused, and the token that it was traded for goes.
+    RefusesWith { change: Planned, refusal: Refusal },
     Gives(Good),
     Changes { change: Planned, good: Good },
+    /// A start or a stop: the call that is then owed.
+    Works { change: Planned, work: Work },
 }
 
 /// The Ok with this status and body, and nothing else.

@@ -51,6 +51,15 @@ pub enum Call {
         last_activity: Option<Moment>,
         servers: List<(ServerName, Option<Moment>)>,
     },
+    /// `POST /users/{user}/server` and `POST /users/{user}/servers/{server}`. It draws.
+    PostServer {
+        server: ServerKey,
+    },
+    /// `DELETE /users/{user}/server` and `DELETE /users/{user}/servers/{server}`
+    DeleteServer {
+        server: ServerKey,
+        remove: bool,
+    },
     /// `GET /groups`
     GetGroups {
         page: Page,

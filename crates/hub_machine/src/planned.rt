@@ -1,13 +1,16 @@
 //! Changes that are still to be carried out.
 ghost use Rattle.std.specs.Prelude.{◌≡◌, ◌∷◌, [], ◌++◌, IfOk};
-ghost use Rattle.hub_machine.specs.declared.change.Change.TheVariants.{Rows};
+ghost use Rattle.hub_machine.specs.declared.change.Change.TheVariants.{Rows, Begin, Life};
+ghost use Rattle.server_life.specs.declared.life.LifeEvent.TheVariants.{AskStop};
 ghost use Rattle.hub_machine.specs.Written.{IsWritten};
 
 use crate::batch::{batch_of, items_cost};
 use crate::change::Change;
 use hub_kit::list::List;
+use hub_kit::names::ServerKey;
 use hub_rows::changes::RowChange;
 use keeper::keeper::Batch;
+use server_life::LifeEvent;
 use std::alloc::{AllocError, Global};
 use std::marker::Model;
 
@@ -47,6 +50,33 @@ impl Planned {
         Planned {
             change: Change::Rows {
                 rows: List::from_vec(rows),
+            },
+            written: None,
+        }
+    }
+
+    /// The start of a server, with these rows. Takes no memory.
+    pub fn of_begin(generation: u64, server: ServerKey, rows: Vec<RowChange>) -> Planned
+        ensures { result ≡ Begin generation server rows.items }
+    {
+        Planned {
+            change: Change::Begin {
+                generation,
+                server,
+                rows: List::from_vec(rows),
+            },
+            written: None,
+        }
+    }
+
+    /// The wish that the server of a generation stops. Takes no memory.
+    pub fn of_stop(generation: u64) -> Planned
+        ensures { result ≡ Life generation AskStop }
+    {
+        Planned {
+            change: Change::Life {
+                generation,
+                event: LifeEvent::AskStop,
             },
             written: None,
         }
@@ -94,8 +124,7 @@ impl Planned {
 fn write(alloc: Global, change: &Change) -> Result<Written, AllocError>
     ensures { IfOk result (λ written. IsWritten change.now written) }
 {
-    let Change::Rows { rows } = change;
-    let batch = batch_of(alloc, rows.as_slice())?;
+    let batch = batch_of(alloc, change.rows())?;
     match items_cost(batch.as_slice()) {
         Ok(cost) => Ok(Written { batch, cost }),
         Err(error) => {

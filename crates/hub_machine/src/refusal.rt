@@ -23,12 +23,22 @@ pub enum Refusal {
     Rule(Text),
     /// What the call would make is there: 409.
     Exists(Text),
+    /// Each target of the pool is leased: 429.
+    AllLeased { live: u64, pool: u64 },
     /// A kind of rows has reached its limit: 500.
     Full { kind: u8, limit: u32 },
     /// The history has reached its limit: 500.
     TrailFull,
+    /// No random bytes came for a call that draws: 503.
+    NoDraw,
     /// The keeper refused the rows: 503.
     KeeperFault,
+    /// A call that a start or a stop owes its spawner failed: 503.
+    SpawnerFault,
+    /// A call that a start or a stop owes the proxy failed: 503.
+    ProxyFault,
+    /// A stop was asked before the server was ready: 409.
+    StoppedWhileStarting,
 }
 
 impl Refusal {
@@ -40,9 +50,11 @@ impl Refusal {
             Refusal::NoValidToken | Refusal::Needs(_) => 403,
             Refusal::NotFound => 404,
             Refusal::Rule(_) => 400,
-            Refusal::Exists(_) => 409,
+            Refusal::Exists(_) | Refusal::StoppedWhileStarting => 409,
+            Refusal::AllLeased { .. } => 429,
             Refusal::Full { .. } | Refusal::TrailFull => 500,
-            Refusal::KeeperFault => 503,
+            Refusal::NoDraw | Refusal::KeeperFault | Refusal::SpawnerFault | Refusal::ProxyFault =>
+                503,
         }
     }
 
@@ -56,9 +68,14 @@ impl Refusal {
             Refusal::NotFound => Text::from_str(alloc, "not found"),
             Refusal::Rule(text) => text.copy(alloc),
             Refusal::Exists(key) => joined(alloc, "exists: ", key.as_str()),
+            Refusal::AllLeased { live, pool } => leased_message(alloc, *live, *pool),
             Refusal::Full { kind, limit } => full_message(alloc, *kind, *limit),
             Refusal::TrailFull => Text::from_str(alloc, "trail full"),
+            Refusal::NoDraw => Text::from_str(alloc, "random"),
             Refusal::KeeperFault => Text::from_str(alloc, "keeper"),
+            Refusal::SpawnerFault => Text::from_str(alloc, "spawner"),
+            Refusal::ProxyFault => Text::from_str(alloc, "proxy"),
+            Refusal::StoppedWhileStarting => Text::from_str(alloc, "stopped while starting"),
         }
     }
 
@@ -84,6 +101,13 @@ fn seen_message(alloc: Global, seen: u64, length: u64) -> Result<Text, AllocErro
     ensures { IfOk result (λ text. text ≡ spec.seen_message seen length) }
 {
     let text = format!(in alloc; "seen {seen}, revision {length}")?;
+    Ok(Text::from_string(text))
+}
+
+fn leased_message(alloc: Global, live: u64, pool: u64) -> Result<Text, AllocError>
+    ensures { IfOk result (λ text. text ≡ spec.leased_message live pool) }
+{
+    let text = format!(in alloc; "{live} of {pool} servers")?;
     Ok(Text::from_string(text))
 }
 

@@ -1,4 +1,5 @@
 //! What the hub answers.
+use crate::work::Work;
 use hub_kit::text::Text;
 use hub_view::Body;
 
@@ -13,8 +14,9 @@ pub struct Reply {
     pub revision: Option<u64>,
 }
 
-/// What a visit gives.
+/// What a visit gives: a reply, or the call that is owed now, of which the reply is made once all is done.
 #[derive(Drop)]
 pub enum Outcome {
     Answer(Reply),
+    Work(Work),
 }

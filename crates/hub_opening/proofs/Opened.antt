@@ -1,15 +1,18 @@
 -- What the rows of a configuration leave as it is.
-use Rattle.std.proofs.Common.{◌≡◌, ℕ, Bool, true, false, cond, List, [], ◌∷◌, map, length, ◌≤◌, refl, sym, ◌∙◌, ap, subst, arith}
+use Rattle.std.proofs.Common.{◌≡◌, ℕ, ◌+◌, Bool, true, false, cond, List, [], ◌∷◌, map, length, ◌≤◌, refl, sym, ◌∙◌, ap, subst, codes, arith}
 use Rattle.std.specs.Prelude.{fold, sum_by}
 use Rattle.std.specs.Ordering.{nat_cmp}
-use Rattle.std.specs.FinMap.{empty, entries, len-entries, len-empty, len}
+use Rattle.std.specs.Cmp.Lexicographic.{nat_list_cmp_total}
+use Rattle.std.specs.FinMap.{empty, entries, get-insert, get-empty, len-entries, len-empty, len}
 use Rattle.hub_rows.specs.declared.records.Group.{Group}
 use Rattle.hub_rows.specs.declared.records.Role.{Role}
 use Rattle.hub_tables.specs.State.{State}
-use Rattle.hub_machine.specs.State.{Lives, owed}
-use Rattle.hub_machine.specs.declared.lives.Leased.{Leased}
+use Rattle.hub_tables.specs.Lookups.{number_of}
+use Rattle.hub_lives.specs.Lives.{Lives, owed}
+use Rattle.hub_machine.specs.State.{next_generation}
+use Rattle.hub_lives.specs.declared.lives.Leased.{Leased}
 use Rattle.server_life.specs.Owed.{owed as owed_in}
-use Rattle.hub_opening.specs.Opening.{with_user, with_group, with_service, with_role, added, is_added, with_token, no_tables, opened_tables}
+use Rattle.hub_opening.specs.Opening.{with_user, with_group, with_service, with_role, added, is_added, with_token, no_tables, next_token, opened_tables}
 use Rattle.hub_opening.specs.declared.config.ConfigUser.{ConfigUser}
 use Rattle.hub_opening.specs.declared.config.ConfigService.{ConfigService}
 use Rattle.hub_opening.specs.declared.config.ConfigToken.{ConfigToken}
@@ -51,6 +54,26 @@ opened_limits c now = opened_keeps (λ t. t.limits ≡ c.limits) c now (record {
   role = λ t r p. p;
   token = λ t k p. p;
 }) refl
+
+pub opened_leases : (c : HubConfig) (now : ℕ) → (opened_tables c now).leases ≡ empty
+opened_leases c now = opened_keeps (λ t. t.leases ≡ empty) c now (record {
+  user = λ t u p. p;
+  group = λ t g p. p;
+  service = λ t s p. p;
+  role = λ t r p. p;
+  token = λ t k p. p;
+}) refl
+
+-- no server was started yet
+pub opened_next : (c : HubConfig) (now : ℕ) → next_generation (opened_tables c now) ≡ 1
+opened_next c now = opened_keeps (λ t. next_generation t ≡ 1) c now (record {
+  user = λ t u p. p;
+  group = λ t g p. p;
+  service = λ t s p. p;
+  role = λ t r p. p;
+  token = λ t k p.
+      ap number_of (get-insert nat_list_cmp_total t.nexts (codes "token") (record { name = codes "token"; next = next_token t + 1 }) (codes "generation")) ∙ p;
+}) (ap number_of (get-empty _ (codes "generation")))
 
 -- ---- no live servers
 

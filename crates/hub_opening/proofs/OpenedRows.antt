@@ -14,9 +14,7 @@ use Rattle.hub_rows.specs.ShareOrder.{names_exact, share_cmp}
 use Rattle.hub_rows.specs.declared.changes.RowChange.{RowChange}
 use Rattle.hub_rows.specs.declared.changes.RowChange.TheVariants.{Put}
 use Rattle.hub_rows.specs.declared.rows.Row.{Row}
-use Rattle.hub_rows.specs.declared.rows.Row.TheVariants as Row
 use Rattle.hub_rows.specs.declared.rows.RowKey.{RowKey}
-use Rattle.hub_rows.specs.declared.rows.RowKey.TheVariants as RowKey
 use Rattle.hub_rows.specs.declared.limits.Limits.{Limits}
 use Rattle.hub_rows.specs.RowKeys.{is_put}
 use Rattle.hub_tables.specs.Changes.{row_at, row_done, rows_done, puts_of, removals_of}

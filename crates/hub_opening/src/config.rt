@@ -10,6 +10,7 @@ use hub_rows::limits::Limits;
 use hub_rows::records::{Group, Role};
 use scope_filters::holder::Owner;
 use scope_filters::scope::RawScope;
+use server_life::Pool;
 
 /// A user that is there from the opening on.
 #[derive(Clone, Copy)]
@@ -40,8 +41,8 @@ pub struct ConfigToken {
 /// What a hub is set up with.
 #[derive(Drop)]
 pub struct HubConfig {
-    /// The targets that servers may hold: at most 1,000, all distinct.
-    pub pool: List<Target>,
+    /// The targets that servers may hold.
+    pub pool: Pool,
     /// The target of the hub itself.
     pub hub_url: Option<Target>,
     pub limits: Limits,

@@ -11,7 +11,6 @@ use crate::config::HubConfig;
 use crate::configured::put_rows;
 use crate::kept::rows_in;
 use crate::open_error::OpenError;
-use hub_kit::list::List;
 use hub_kit::moment::Moment;
 use hub_kit::target::Target;
 use hub_machine::batch::batch_of;
@@ -102,16 +101,6 @@ fn first_full(tables: &Tables) -> Option<(u8, u32)>
     None
 }
 
-fn copy_targets(alloc: Global, targets: &[Target]) -> Result<List<Target>, AllocError>
-    ensures { IfOk result (λ copy. copy ≡ targets.now) }
-{
-    let mut copies = Vec::new(alloc);
-    for target in targets {
-        copies.push(target.copy(alloc)?)?;
-    }
-    Ok(List::from_vec(copies))
-}
-
 fn copy_target(alloc: Global, target: &Option<Target>) -> Result<Option<Target>, AllocError>
     ensures { IfOk result (λ copy. copy ≡ target.now) }
 {
@@ -126,10 +115,10 @@ fn machine_of(alloc: Global, config: &HubConfig, now: Moment) -> Result<Machine,
     requires { config.now.limits.trail_bytes ≤ 2 ^ 62 }
     ensures { IfOk result (λ hub. hub ≡ spec.opened config.now now) }
 {
-    let pool = copy_targets(alloc, config.pool.as_slice())?;
+    let pool = config.pool.copy(alloc)?;
     let hub_url = copy_target(alloc, &config.hub_url)?;
     let tables = tables_of(alloc, config, now)?;
-    Ok(Machine::opening(alloc, tables, pool, hub_url, config.no_trail))
+    Machine::opening(alloc, tables, pool, hub_url, config.no_trail)
 }
 
 /// The state of the configuration, where no kind has more rows than its limit.

@@ -25,6 +25,6 @@ pub use members::{add_member, line, message_body};
 pub use page_part::{PagePart, part_of};
 pub use pages::{Page, page_body};
 pub use records::{code_body, new_code_body, new_token_body, role_body, share_body, token_body};
-pub use servers::is_live;
+pub use servers::{is_live, server_url};
 pub use text::body_text;
 pub use users::user_body;

@@ -45,7 +45,7 @@ fn url_line(alloc: Global, key: &ServerKey) -> Result<Body, AllocError>
 }
 
 /// Where the server is entered: `/user/U/` for the default server, else `/user/U/S/`.
-fn server_url(alloc: Global, key: &ServerKey) -> Result<Text, AllocError>
+pub fn server_url(alloc: Global, key: &ServerKey) -> Result<Text, AllocError>
     ensures { IfOk result (λ text. text ≡ spec.server_url key.now) }
 {
     let mut url = Text::from_str(alloc, "/user/")?;

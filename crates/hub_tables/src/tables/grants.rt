@@ -98,6 +98,13 @@ impl Tables {
         keyed::put(self.alloc, &mut self.trees.clients, value, room)
     }
 
+    /// The number of the rows of clients.
+    pub fn count_of_clients(&self) -> usize
+        ensures { result ≡ map.len self.now.clients }
+    {
+        keyed_rows::count(&self.trees.clients)
+    }
+
     /// Takes the row of a client out, and tells whether it was there. Takes no memory.
     pub fn remove_client(&mut self, key: &Text) -> bool
         ensures there { result ≡ map.contains_key self.old.clients key.now }

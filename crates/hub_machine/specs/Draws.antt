@@ -1,0 +1,9 @@
+-- Which calls draw random bytes before their visit.
+use Rattle.std.specs.Prelude.{Bool, true, false}
+use Rattle.hub_machine.specs.declared.call.Call.{Call}
+use Rattle.hub_machine.specs.declared.call.Call.TheVariants.{PostServer}
+
+-- a start draws the secret of the server's token
+abbrev pub draws : Call → Bool
+draws (PostServer server) = true
+draws call = false
