@@ -10,7 +10,7 @@ use Rattle.matchit.specs.declared.error.InsertError.{InsertError}
 use Rattle.matchit.proofs.OnLiterals.{matchit_on_literals}
 use Rattle.hub_api.specs.Paths.{IsRouter, every_path, fits, path_of, segments, text_of}
 use Rattle.hub_api.specs.declared.paths.Path.{Path}
-use Rattle.hub_api.specs.declared.paths.Path.TheVariants.{Bare, Version, Info, Identity, Users, User, Activity, Groups, Group, Members, Services, Service, Roles, Role}
+use Rattle.hub_api.specs.declared.paths.Path.TheVariants.{Bare, Version, Info, Identity, Users, User, Activity, DefaultServer, NamedServer, Groups, Group, Members, Services, Service, Roles, Role}
 use Rattle.hub_api.proofs.Routes.{hub_routes}
 use Rattle.hub_api.proofs.Walks.{Agrees, after, agrees-branch, agrees-end, agrees-none, agrees-param, agrees-prefix, at_slash, found, matches}
 use Rattle.hub_api.proofs.Fits.{are_parts, fits-pattern, pattern_of}
@@ -41,8 +41,15 @@ agrees-collection of_one one all agrees =
 abbrev of_groups : RowsOf (RouteOf Path)
 of_groups = collection (after (codes "users") (leaf Members)) Group Groups
 
+-- of one user: the activity, and the default server beside those with a name
+abbrev of_server : RowsOf (RouteOf Path)
+of_server = after (codes "s/") (after (256 ∷ []) (at_slash [] (Some (route NamedServer)))) ++ leaf DefaultServer
+
+abbrev of_user : RowsOf (RouteOf Path)
+of_user = after (codes "activity") (leaf Activity) ++ after (codes "server") of_server
+
 abbrev of_users : RowsOf (RouteOf Path)
-of_users = after (codes "s") (collection (after (codes "activity") (leaf Activity)) User Users) ++ leaf Identity
+of_users = after (codes "s") (collection of_user User Users) ++ leaf Identity
 
 abbrev from_users : RowsOf (RouteOf Path)
 from_users = after (codes "user") of_users ++ leaf Version
@@ -65,11 +72,20 @@ tree = after (codes "/hub/api") (after (codes "/") from_groups ++ leaf Bare)
 agrees-of_groups : Agrees of_groups
 agrees-of_groups = agrees-collection (after (codes "users") (leaf Members)) Group Groups (agrees-prefix (codes "users") (leaf Members) refl (agrees-end (route Members)))
 
+agrees-of_server : Agrees of_server
+agrees-of_server =
+    agrees-branch (codes "s/") (after (256 ∷ []) (at_slash [] (Some (route NamedServer)))) (leaf DefaultServer) (refl, refl, refl, refl)
+    (agrees-param [] (Some (route NamedServer)) agrees-none) (agrees-end (route DefaultServer))
+
+agrees-of_user : Agrees of_user
+agrees-of_user =
+    agrees-branch (codes "activity") (leaf Activity) (after (codes "server") of_server) (refl, refl, refl, refl)
+    (agrees-end (route Activity)) (agrees-prefix (codes "server") of_server refl agrees-of_server)
+
 agrees-of_users : Agrees of_users
 agrees-of_users =
-    agrees-branch (codes "s") (collection (after (codes "activity") (leaf Activity)) User Users) (leaf Identity) (refl, refl, refl, refl)
-    (agrees-collection (after (codes "activity") (leaf Activity)) User Users (agrees-prefix (codes "activity") (leaf Activity) refl (agrees-end (route Activity))))
-    (agrees-end (route Identity))
+    agrees-branch (codes "s") (collection of_user User Users) (leaf Identity) (refl, refl, refl, refl)
+    (agrees-collection of_user User Users agrees-of_user) (agrees-end (route Identity))
 
 agrees-from_users : Agrees from_users
 agrees-from_users = agrees-branch (codes "user") of_users (leaf Version) (refl, refl, refl, refl) agrees-of_users (agrees-end (route Version))
@@ -107,6 +123,8 @@ plain-parts Identity = refl
 plain-parts Users = refl
 plain-parts User = refl
 plain-parts Activity = refl
+plain-parts DefaultServer = refl
+plain-parts NamedServer = refl
 plain-parts Groups = refl
 plain-parts Group = refl
 plain-parts Members = refl
@@ -124,6 +142,8 @@ pattern-parts Identity = refl
 pattern-parts Users = refl
 pattern-parts User = refl
 pattern-parts Activity = refl
+pattern-parts DefaultServer = refl
+pattern-parts NamedServer = refl
 pattern-parts Groups = refl
 pattern-parts Group = refl
 pattern-parts Members = refl

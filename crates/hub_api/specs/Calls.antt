@@ -10,7 +10,7 @@ use Rattle.hub_api.specs.Paths.{path_of}
 use Rattle.hub_api.specs.declared.method.Method.{Method}
 use Rattle.hub_api.specs.declared.method.Method.TheVariants.{Get, Post, Put, Patch, Delete, Other}
 use Rattle.hub_api.specs.declared.paths.Path.{Path}
-use Rattle.hub_api.specs.declared.paths.Path.TheVariants.{Bare, Version, Info, Identity, Users, User, Activity, Groups, Group, Members, Services, Service, Roles, Role}
+use Rattle.hub_api.specs.declared.paths.Path.TheVariants.{Bare, Version, Info, Identity, Users, User, Activity, DefaultServer, NamedServer, Groups, Group, Members, Services, Service, Roles, Role}
 use Rattle.hub_api.specs.declared.refusal.ApiRefusal.{ApiRefusal}
 use Rattle.hub_api.specs.declared.refusal.ApiRefusal.TheVariants.{NoPath, NoMethod}
 
@@ -51,6 +51,16 @@ user method q = Err NoMethod
 abbrev pub activity : Method → Request → Result Call ApiRefusal
 activity Post q = calls.post_activity q
 activity method q = Err NoMethod
+
+abbrev pub default_server : Method → Request → Result Call ApiRefusal
+default_server Post q = calls.post_default_server q
+default_server Delete q = calls.delete_default_server q
+default_server method q = Err NoMethod
+
+abbrev pub named_server : Method → Request → Result Call ApiRefusal
+named_server Post q = calls.post_named_server q
+named_server Delete q = calls.delete_named_server q
+named_server method q = Err NoMethod
 
 abbrev pub groups : Method → Request → Result Call ApiRefusal
 groups Get q = calls.get_groups q
@@ -96,6 +106,8 @@ at_path Identity method q = identity method q
 at_path Users method q = users method q
 at_path User method q = user method q
 at_path Activity method q = activity method q
+at_path DefaultServer method q = default_server method q
+at_path NamedServer method q = named_server method q
 at_path Groups method q = groups method q
 at_path Group method q = group method q
 at_path Members method q = members method q

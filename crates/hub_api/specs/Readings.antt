@@ -1,12 +1,14 @@
 -- The calls, each as a function of the request that asks it: the names of its path, then its query, then its body, then its scopes.
-use Rattle.std.specs.Prelude.{ℕ, List, codes, Result, Ok}
+use Rattle.std.specs.Prelude.{ℕ, Bool, true, false, List, [], codes, Result, Ok}
 use Rattle.http_wire.specs.declared.request.Request.{Request}
 use Rattle.hub_machine.specs.declared.call.Call.{Call}
-use Rattle.hub_machine.specs.declared.call.Call.TheVariants.{GetIdentity, GetUsers, PostUsers, GetUser, PostUser, PatchUser, DeleteUser, PostActivity, GetGroups, GetGroup, PostGroup, DeleteGroup, JoinGroup, LeaveGroup, GetServices, GetService, PostService, DeleteService, GetRoles, GetRole, PutRole, DeleteRole}
+use Rattle.hub_machine.specs.declared.call.Call.TheVariants.{GetIdentity, GetUsers, PostUsers, GetUser, PostUser, PatchUser, DeleteUser, PostActivity, PostServer, DeleteServer, GetGroups, GetGroup, PostGroup, DeleteGroup, JoinGroup, LeaveGroup, GetServices, GetService, PostService, DeleteService, GetRoles, GetRole, PutRole, DeleteRole}
 use Rattle.request_parts.specs.Steps.{◌>>=◌}
-use Rattle.hub_api.specs.Names.{name_at}
+use Rattle.hub_kit.specs.declared.names.ServerKey.{ServerKey}
+use Rattle.request_parts.specs.Names.{server_of as named_server}
+use Rattle.hub_api.specs.Names.{name_at, read_at}
 use Rattle.hub_api.specs.Queries.{page_of, server_of}
-use Rattle.hub_api.specs.declared.paths.Path.TheVariants.{User, Activity, Group, Members, Service, Role}
+use Rattle.hub_api.specs.declared.paths.Path.TheVariants.{User, Activity, DefaultServer, NamedServer, Group, Members, Service, Role}
 use Rattle.hub_api.specs.Bodies.{body_of, needed_truth, truth, names, some_names, distinct_names, moment, activity, scope_texts, scopes}
 use Rattle.hub_api.specs.declared.refusal.ApiRefusal.{ApiRefusal}
 
@@ -69,6 +71,52 @@ post_activity q = do
   last_activity ← moment (codes "last_activity") body
   servers ← activity (codes "servers") body
   Ok (PostActivity user last_activity servers)
+
+-- ---- servers
+
+-- the default server of the user that the path names
+unfoldable pub default_server_at : Request → Result ServerKey ApiRefusal
+default_server_at q = do
+  user ← name_at DefaultServer (codes "{user}") q
+  Ok (record { user = user; server = [] })
+
+-- the server that the path names
+unfoldable pub named_server_at : Request → Result ServerKey ApiRefusal
+named_server_at q = do
+  user ← name_at NamedServer (codes "{user}") q
+  server ← read_at named_server NamedServer (codes "{server}") q
+  Ok (record { user = user; server = server })
+
+abbrev pub remove_of : Request → Result Bool ApiRefusal
+remove_of q = do
+  body ← body_of q
+  truth (codes "remove") body
+
+-- POST /users/{user}/server
+abbrev pub post_default_server : Request → Result Call ApiRefusal
+post_default_server q = do
+  server ← default_server_at q
+  Ok (PostServer server)
+
+-- POST /users/{user}/servers/{server}
+abbrev pub post_named_server : Request → Result Call ApiRefusal
+post_named_server q = do
+  server ← named_server_at q
+  Ok (PostServer server)
+
+-- DELETE /users/{user}/server
+abbrev pub delete_default_server : Request → Result Call ApiRefusal
+delete_default_server q = do
+  server ← default_server_at q
+  remove ← remove_of q
+  Ok (DeleteServer server remove)
+
+-- DELETE /users/{user}/servers/{server}
+abbrev pub delete_named_server : Request → Result Call ApiRefusal
+delete_named_server q = do
+  server ← named_server_at q
+  remove ← remove_of q
+  Ok (DeleteServer server remove)
 
 -- ---- groups
 

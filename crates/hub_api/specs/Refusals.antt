@@ -33,6 +33,10 @@ api_refusal BadBody = refused 400 (codes "bad body")
 api_refusal (BadScope index error) = refused 400 (codes "bad scope")
 api_refusal Memory = without_memory
 
+-- the reply where no draw came for a call that draws
+abbrev pub no_draw : Reply
+no_draw = refused 503 (codes "random")
+
 -- the reply to bytes that are no request. An end, a fault of the source and want of memory have none of this kind
 abbrev pub wire_refusal : WireError → Option Reply
 wire_refusal wire.BadHead = Some (refused 400 (codes "bad head"))

@@ -12,6 +12,7 @@ mod reading;
 mod refusal;
 mod replies;
 mod roles;
+mod servers;
 mod services;
 mod users;
 
@@ -21,5 +22,5 @@ pub use laws::{
 };
 pub use paths::{ApiRouter, Path, new_router};
 pub use reading::{draws, read_call};
-pub use refusal::{ApiRefusal, refusal_reply, wire_refusal_reply};
+pub use refusal::{ApiRefusal, no_draw_reply, refusal_reply, wire_refusal_reply};
 pub use replies::{NO_MEMORY, no_memory, reply_text};

@@ -17,6 +17,8 @@ pub enum Path {
     Users,
     User,
     Activity,
+    DefaultServer,
+    NamedServer,
     Groups,
     Group,
     Members,
@@ -39,6 +41,8 @@ impl Path {
             Path::Users => "/hub/api/users",
             Path::User => "/hub/api/users/{user}",
             Path::Activity => "/hub/api/users/{user}/activity",
+            Path::DefaultServer => "/hub/api/users/{user}/server",
+            Path::NamedServer => "/hub/api/users/{user}/servers/{server}",
             Path::Groups => "/hub/api/groups",
             Path::Group => "/hub/api/groups/{group}",
             Path::Members => "/hub/api/groups/{group}/users",
@@ -51,7 +55,7 @@ impl Path {
 }
 
 /// All paths, in the order of a router's rows.
-static PATHS: [Path; 14] = [
+static PATHS: [Path; 16] = [
     Path::Members,
     Path::Group,
     Path::Groups,
@@ -61,6 +65,8 @@ static PATHS: [Path; 14] = [
     Path::Service,
     Path::Services,
     Path::Activity,
+    Path::NamedServer,
+    Path::DefaultServer,
     Path::User,
     Path::Users,
     Path::Identity,

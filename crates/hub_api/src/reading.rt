@@ -4,6 +4,7 @@ ghost use Rattle.hub_api.specs.Paths.{IsRouter};
 ghost use Rattle.hub_api.specs.Refusals.{Gives};
 ghost use Rattle.hub_api.specs.Calls as spec;
 ghost use Rattle.hub_api.specs.Readings as calls;
+ghost use Rattle.hub_machine.specs.Draws.{draws};
 
 use crate::groups::{group, groups, members};
 use crate::method::{Method, method_of};
@@ -11,6 +12,7 @@ use crate::parts::server_of;
 use crate::paths::{ApiRouter, Path, path_of};
 use crate::refusal::ApiRefusal;
 use crate::roles::{role, roles};
+use crate::servers::{default_server, named_server};
 use crate::services::{service, services};
 use crate::users::{activity, user, users};
 use http_wire::request::Request;
@@ -66,6 +68,8 @@ fn at_path(alloc: Global, path: Path, method: Method, request: &Request) -> Resu
         Path::Users => users(alloc, method, request),
         Path::User => user(alloc, method, request),
         Path::Activity => activity(alloc, method, request),
+        Path::DefaultServer => default_server(alloc, method, request),
+        Path::NamedServer => named_server(alloc, method, request),
         Path::Groups => groups(alloc, method, request),
         Path::Group => group(alloc, method, request),
         Path::Members => members(alloc, method, request),
@@ -108,9 +112,12 @@ pub fn read_call(alloc: Global, router: &ApiRouter, request: Request) -> Result<
     }
 }
 
-/// Whether a call draws random bytes before its visit. None of the calls that are built does.
-pub fn draws(_: &Call) -> bool
-    ensures { result ≡ false }
+/// Whether a call draws random bytes before its visit.
+pub fn draws(call: &Call) -> bool
+    ensures { result ≡ draws call.now }
 {
-    false
+    match call {
+        Call::PostServer { .. } => true,
+        _ => false,
+    }
 }

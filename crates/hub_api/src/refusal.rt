@@ -2,7 +2,7 @@
 ghost use Rattle.std.specs.Prelude.{◌≡◌, Some, IfOk, option_map};
 ghost use Rattle.hub_machine.specs.Answers.{reply_view};
 ghost use Rattle.hub_api.specs.ReplyText as spec;
-ghost use Rattle.hub_api.specs.Refusals.{api_refusal, wire_refusal};
+ghost use Rattle.hub_api.specs.Refusals.{no_draw, api_refusal, wire_refusal};
 ghost use Rattle.hub_api.specs.Refusals as spec_refusals;
 
 use http_wire::error::WireError;
@@ -67,6 +67,13 @@ pub fn refusal_reply(alloc: Global, refusal: ApiRefusal) -> Result<Reply, AllocE
         ApiRefusal::BadScope { .. } => refused(alloc, 400, "bad scope"),
         ApiRefusal::Memory => Ok(without_memory()),
     }
+}
+
+/// The reply where no random bytes came for a call that draws.
+pub fn no_draw_reply(alloc: Global) -> Result<Reply, AllocError>
+    ensures { IfOk result (λ reply. reply_view reply ≡ no_draw) }
+{
+    refused(alloc, 503, "random")
 }
 
 /// The reply where there is no memory for one. With `close` its text is `NO_MEMORY`.

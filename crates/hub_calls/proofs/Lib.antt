@@ -5,6 +5,8 @@ pub mod AddingUsers
 pub mod Statuses
 pub mod UserCalls
 pub mod ServerCalls
+pub mod StartCalls
+pub mod StopCalls
 pub mod GroupCalls
 pub mod ServiceCalls
 pub mod RoleCalls

@@ -6,13 +6,15 @@ use Rattle.admin_rules.specs.declared.refusals.RuleRefusal.{RuleRefusal}
 use Rattle.admin_rules.specs.declared.refusals.RuleRefusal.TheVariants as Rule
 use Rattle.admin_rules.specs.Rules as rules
 use Rattle.hub_machine.specs.State.{Hub}
-use Rattle.hub_machine.specs.Replies.{Answer, refuses, gives, changes, Good, rows_then, status_of}
+use Rattle.hub_machine.specs.Replies.{Answer, refuses, refuses_with, gives, changes, works, Good, rows_then, status_of}
 use Rattle.hub_calls.specs.Calling.{after_rows, by_rules, refusal_of}
 
 abbrev pub is_503 : Answer → Bool
 is_503 (refuses r) = status_of r == 503
+is_503 (refuses_with c r) = status_of r == 503
 is_503 (gives g) = g.status == 503
 is_503 (changes c g) = g.status == 503
+is_503 (works c w) = false
 
 no_rule : (r : RuleRefusal) → (status_of (refusal_of r) == 503) ≡ false
 no_rule (Rule.Exists key) = refl

@@ -4,6 +4,8 @@ pub mod Calling
 pub mod Puts
 pub mod UserCalls
 pub mod ServerCalls
+pub mod Starts
+pub mod Stops
 pub mod GroupCalls
 pub mod ServiceCalls
 pub mod RoleCalls

@@ -11,4 +11,6 @@ pub mod role_calls;
 mod ruled;
 pub mod server_calls;
 pub mod service_calls;
+pub mod starts;
+pub mod stops;
 pub mod user_calls;

@@ -17,7 +17,7 @@ use hub_view::Body;
 use std::alloc::{AllocError, Global};
 
 /// A rule's refusal in words.
-fn worded(alloc: Global, front: &str, back: &str) -> Result<Refusal, AllocError>
+pub(crate) fn worded(alloc: Global, front: &str, back: &str) -> Result<Refusal, AllocError>
     ensures { IfOk result (λ r. r ≡ Refusal.Rule (front.now ++ back.now)) }
 {
     let mut text = Text::from_str(alloc, front)?;

@@ -74,7 +74,7 @@ fn add_info(alloc: Global, fields: &mut Vec<(Text, Body)>, hub: &Machine) -> Res
 {
     let leases = hub.lives().len();
     add_member(alloc, fields, true, "leases", Body::Number(leases))?;
-    let pool = hub.pool().len() as u64;
+    let pool = hub.pool().as_slice().len() as u64;
     add_member(alloc, fields, true, "pool", Body::Number(pool))?;
     add_version(alloc, fields)
 }
