@@ -1,5 +1,5 @@
 -- No row that an answer changes is one that a test finds, where the test finds none of the kinds of rows that answers change.
-use Rattle.std.proofs.Common.{◌≡◌, ℕ, Bool, true, false, ◌||◌, not, cond, List, [], ◌∷◌, ◌++◌, map, filter, length, Option, refl, sym, subst}
+use Rattle.std.proofs.Common.{◌≡◌, ℕ, Bool, true, false, ◌||◌, ◌&&◌, not, cond, codes, List, [], ◌∷◌, ◌++◌, map, filter, length, Option, refl, sym, subst}
 use Rattle.std.specs.Prelude.{Some, None, Ok, Err}
 use Rattle.std.specs.List.{flat_map, list_any}
 use Rattle.std.specs.FinMap.{get, contains_key, len, values}
@@ -21,7 +21,14 @@ use Rattle.hub_rows.specs.declared.records.Share.{Share}
 use Rattle.hub_rows.specs.declared.records.ShareCode.{ShareCode}
 use Rattle.hub_rows.specs.declared.records.OAuthClient.{OAuthClient}
 use Rattle.hub_rows.specs.declared.records.OAuthCode.{OAuthCode}
+use Rattle.hub_kit.specs.Hashes.{draw_text}
+use Rattle.hub_tables.specs.Lookups.{is_default}
 use Rattle.hub_tables.specs.State.{State}
+use Rattle.server_life.specs.LifeTable.{life_after}
+use Rattle.server_life.specs.declared.life.LifeEvent.TheVariants.{Begin, AskStop}
+use Rattle.server_life.specs.declared.life.LifeRefusal.TheVariants.{Running, PendingSpawn, PendingStop, OldGeneration, NotNow}
+use Rattle.server_life.specs.declared.life.Todo.{Todo}
+use Rattle.server_life.specs.declared.life.Todo.TheVariants.{Nothing, Start, AddRoute, DeleteRoute, StopProgram, Poll}
 use Rattle.admin_rules.specs.declared.refusals.RuleRefusal.{RuleRefusal}
 use Rattle.admin_rules.specs.declared.refusals.RuleRefusal.TheVariants.{Exists, LiveServers, FixedRole}
 use Rattle.admin_rules.specs.Rules as rules
@@ -31,25 +38,29 @@ use Rattle.admin_rules.specs.Groups as groups
 use Rattle.admin_rules.specs.Servers as servers
 use Rattle.admin_rules.specs.Services as services
 use Rattle.admin_rules.specs.Roles as roles
-use Rattle.admin_rules.specs.Purges.{changes_of, has_member, without_member, is_held_by_user, without_user, is_token_of_user, is_server_of_user, is_share_of_user, is_code_of_user, is_called, clients_of_user, is_grant_of_user, user_rows, is_held_by_group, without_group, is_share_to_group, group_rows, is_held_by_service, without_service, is_token_of_service, is_client, client_of_service, service_rows}
+use Rattle.admin_rules.specs.Purges.{changes_of, has_member, without_member, is_held_by_user, without_user, is_token_of_user, is_server_of_user, is_share_of_user, is_code_of_user, is_called, clients_of_user, is_grant_of_user, user_rows, is_held_by_group, without_group, is_share_to_group, group_rows, is_held_by_service, without_service, is_token_of_service, is_client, client_of_service, service_rows, is_share_of_server, is_code_of_server, server_rows}
 use Rattle.hub_view.specs.Fields.{Rights}
-use Rattle.hub_machine.specs.State.{Hub, has_live_server}
-use Rattle.hub_machine.specs.Replies.{Answer, refuses, gives, changes, Good, good, rows_then, or_refusal, first_refusal, if_so}
+use Rattle.hub_machine.specs.State.{Hub, has_live_server, free_target, lease_of, life_of, next_generation}
+use Rattle.hub_lives.specs.declared.lives.Leased.{Leased}
+use Rattle.hub_machine.specs.Replies.{Answer, refuses, refuses_with, gives, changes, works, Good, good, rows_then, or_refusal, first_refusal, if_so}
 use Rattle.hub_machine.specs.Trails.{in_trail}
-use Rattle.hub_machine.specs.Apply.{is_past_trail}
+use Rattle.hub_machine.specs.Apply.{LifeStep, is_past_trail}
 use Rattle.hub_calls.specs.Calling.{after_rows, by_rules, done}
 use Rattle.hub_calls.specs.Facts.{user_at}
 use Rattle.hub_calls.specs.RoleCalls.{role_of}
+use Rattle.hub_calls.specs.Starts.{may_start, on_begin, on_target, post_server, start_rules}
+use Rattle.hub_calls.specs.Stops.{at_rest, goes_on, on_lease, on_stop}
 use Rattle.hub_calls.specs.UserCalls.{get_version}
 use Rattle.hub_core.specs.Needs.{needs, needs_token, is_there}
 use Rattle.hub_core.specs.Answer.{Judgement, row, if_there, by_token, by_call, action_rules, caller, is_past, named}
 use Rattle.hub_core.specs.History.{Answers}
+use Rattle.hub_machine.specs.declared.change.Change.{Change}
 use Rattle.hub_machine.specs.declared.change.Change.TheVariants.{Rows}
 use Rattle.hub_machine.specs.declared.refusal.Refusal.{Refusal}
-use Rattle.hub_machine.specs.declared.refusal.Refusal.TheVariants.{SeenPast, NotFound, TrailFull}
+use Rattle.hub_machine.specs.declared.refusal.Refusal.TheVariants.{SeenPast, NotFound, TrailFull, Rule as NotSo}
 use Rattle.hub_machine.specs.declared.call.Asked.{Asked}
 use Rattle.hub_machine.specs.declared.call.Call.{Call}
-use Rattle.hub_machine.specs.declared.call.Call.TheVariants.{PostUsers, PostUser, PatchUser, DeleteUser, PostActivity, PostGroup, DeleteGroup, JoinGroup, LeaveGroup, PostService, DeleteService, PutRole, DeleteRole}
+use Rattle.hub_machine.specs.declared.call.Call.TheVariants.{PostUsers, PostUser, PatchUser, DeleteUser, PostActivity, PostServer, DeleteServer, PostGroup, DeleteGroup, JoinGroup, LeaveGroup, PostService, DeleteService, PutRole, DeleteRole}
 
 -- the test finds none of the kinds of rows that answers change
 pub record IsCalm (test : RowChange → Bool) : Type 0 where
@@ -70,8 +81,14 @@ pub record IsCalm (test : RowChange → Bool) : Type 0 where
   pub remove_grant : (x : List ℕ) → test (Remove (RowKey.OAuthCode x)) ≡ false
 
 -- it finds no row of the answer's change
+abbrev pub CalmIn : (RowChange → Bool) → Change → Type 0
+CalmIn test (Rows rows) = list_any test rows ≡ false
+CalmIn test _ = Unit {0}
+
 abbrev pub Calm : (RowChange → Bool) → Answer → Type 0
-Calm test (changes (Rows rows) g) = list_any test rows ≡ false
+Calm test (refuses_with c r) = CalmIn test c
+Calm test (changes c g) = CalmIn test c
+Calm test (works c w) = CalmIn test c
 Calm test _ = Unit {0}
 
 module _ (test : RowChange → Bool) (calm : IsCalm test) where
@@ -245,65 +262,124 @@ module _ (test : RowChange → Bool) (calm : IsCalm test) where
   all_active t now user last told =
       calm-append (servers.user_activity now last (get t.users user)) (servers.servers_activity t now user told) (user_active now last (get t.users user)) (servers_active t now user told)
 
-  -- ---- each call
+  calm_server : (t : State) (server : ServerKey) → AreCalm (server_rows t server)
+  calm_server t server =
+      let of_shares : Share → RowChange = λ share. Remove (RowKey.Share share.key) in
+      let of_codes : ShareCode → RowChange = λ code. Remove (RowKey.ShareCode code.id) in
+      let row : List RowChange = Remove (RowKey.ServerRow server) ∷ [] in
+      three row (changes_of (is_share_of_server server) of_shares (values t.shares)) (changes_of (is_code_of_server server) of_codes (values t.codes))
+      (one (Remove (RowKey.ServerRow server)) (calm.remove_server server))
+      (changed (is_share_of_server server) of_shares (λ _. calm.remove_share _) (values t.shares))
+      (changed (is_code_of_server server) of_codes (λ _. calm.remove_code _) (values t.codes))
 
-  calm_by_row : (s : Hub) (may : Rights) (now : ℕ) (k : Token) (call : Call) → Calm test (row s may now k call)
-  calm_by_row s may now k (PostUsers names admin) = calm_by_rules s (users.add_users s.tables names admin now) _ (new_users s.tables names admin now)
-  calm_by_row s may now k (PostUser user) = calm_by_rules s (users.add_users s.tables (user ∷ []) false now) _ (new_users s.tables (user ∷ []) false now)
-  calm_by_row s may now k (PatchUser user admin) = calm_by_rules s (users.set_admin s.tables user admin) (λ after. good 200 (user_at may after user)) (λ rows e. calm_by_ok _ rows (one_admin admin (get s.tables.users user)) e)
-  calm_by_row s may now k (DeleteUser user) = calm_by_rules s (users.delete_user s.tables user (has_live_server s.lives user)) _
-      (λ rows e. calm_by_ruled (rules.if_so (has_live_server s.lives user) LiveServers ∷ []) _ rows (calm_by_if (contains_key s.tables.users user) (user_rows s.tables user) (calm_user s.tables user)) e)
-  calm_by_row s may now k (PostActivity user last told) = calm_by_rules s (servers.note_activity s.tables user now last told) done
-      (λ rows e. calm_by_ruled (servers.if_unknown_server s.tables user told ∷ []) _ rows (all_active s.tables now user last told) e)
-  calm_by_row s may now k (PostGroup group names) = calm_by_rules s (groups.add_group s.tables group names) _
-      (λ rows e. calm_by_ruled (rules.if_so (contains_key s.tables.groups group) (Exists group) ∷ groups.if_unknown_user s.tables names ∷ rules.if_full 2 s.tables.limits.groups (len s.tables.groups) 1 ∷ []) (Put (Row.Group (record { name = group; users = in_order name_cmp names })) ∷ []) rows (one _ (calm.put_group _)) e)
-  calm_by_row s may now k (DeleteGroup group) = calm_by_rules s (groups.delete_group s.tables group) done
-      (λ rows e. calm_by_ok _ rows (calm_by_if (contains_key s.tables.groups group) (group_rows s.tables group) (calm_group s.tables group)) e)
-  calm_by_row s may now k (JoinGroup group names) = calm_by_rules s (groups.join_group s.tables group names) _
-      (λ rows e. calm_by_ruled (groups.if_unknown_user s.tables names ∷ []) _ rows (one_group (with_keys name_cmp names) (get s.tables.groups group)) e)
-  calm_by_row s may now k (LeaveGroup group names) = calm_by_rules s (groups.leave_group s.tables group names) _
-      (λ rows e. calm_by_ruled (groups.if_unknown_user s.tables names ∷ []) _ rows (one_group (without_keys name_cmp names) (get s.tables.groups group)) e)
-  calm_by_row s may now k (PostService service) = calm_by_rules s (services.add_service s.tables service) _
-      (λ rows e. calm_by_ruled (rules.if_so (contains_key s.tables.services service) (Exists service) ∷ rules.if_full 3 s.tables.limits.services (len s.tables.services) 1 ∷ []) (Put (Row.Service (record { name = service })) ∷ []) rows (one _ (calm.put_service _)) e)
-  calm_by_row s may now k (DeleteService service) = calm_by_rules s (services.delete_service s.tables service) done
-      (λ rows e. calm_by_ok _ rows (calm_by_if (contains_key s.tables.services service) (service_rows s.tables service) (calm_service s.tables service)) e)
-  calm_by_row s may now k (PutRole role scopes us gs vs) =
-      let x : Role = role_of role scopes us gs vs in
-      calm_by_rules s (roles.put_role s.tables x) _
-      (λ rows e. calm_by_ruled (rules.if_so (roles.is_fixed_role x.name) FixedRole ∷ roles.if_unknown_scope s.tables.scopes x.scopes ∷ roles.if_unknown_holder s.tables x
-      ∷ rules.if_full 4 s.tables.limits.roles (len s.tables.roles) (cond (contains_key s.tables.roles x.name) 0 1) ∷ []) _ rows (one_role x (get s.tables.roles x.name)) e)
-  calm_by_row s may now k (DeleteRole role) = calm_by_rules s (roles.delete_role s.tables role) _
-      (λ rows e. calm_by_ruled (rules.if_so (roles.is_fixed_role role) FixedRole ∷ []) _ rows (calm_by_if (contains_key s.tables.roles role) (Remove (RowKey.Role role) ∷ []) (one _ (calm.remove_role _))) e)
-  calm_by_row s may now k _ = tt
-
-  -- ---- the frame
+  -- ---- starts and stops, whose rows follow from their kind of change
 
   calm_by_or : (o : Option Refusal) (r : Answer) → Calm test r → Calm test (or_refusal r o)
   calm_by_or None r h = h
   calm_by_or (Some x) r h = tt
 
-  calm_by_token : (s : Hub) (j : Judgement) (now : ℕ) (call : Call) (k : Option Token) → Calm test (by_token s j now call k)
-  calm_by_token s j now call None = tt
-  calm_by_token s j now call (Some k) =
-      calm_by_or (first_refusal (action_rules j (needs call))) (if_there s j.may now k call)
-      (calm_by_or (first_refusal (if_so (not (is_there s.tables call)) NotFound ∷ [])) (row s j.may now k call) (calm_by_row s j.may now k call))
+  targeted : (s : Hub) (now : ℕ) (secret : List ℕ) (server : ServerKey) (target : Option (List ℕ)) → Calm test (on_target s now secret server target)
+  targeted s now secret server None = tt
+  targeted s now secret server (Some target) = tt
 
-  pub calm_by_call : (s : Hub) (j : Judgement) (now : ℕ) (call : Call) (k : Option Token) (b : Bool) → Calm test (cond b (by_token s j now call k) get_version)
-  calm_by_call s j now call k true = calm_by_token s j now call k
-  calm_by_call s j now call k false = tt
+  begun : (step : LifeStep) (r : Answer) → Calm test r → Calm test (on_begin step r)
+  begun (Ok next) r h = h
+  begun (Err Running) r h = tt
+  begun (Err PendingSpawn) r h = tt
+  begun (Err PendingStop) r h = tt
+  begun (Err (OldGeneration g)) r h = tt
+  begun (Err NotNow) r h = tt
 
-  calm_if : (rows : List RowChange) (g : Good) (b : Bool) → AreCalm rows → Calm test (cond b (refuses TrailFull) (changes (Rows rows) g))
-  calm_if rows g true h = tt
-  calm_if rows g false h = h
+  starting : (s : Hub) (now : ℕ) (server : ServerKey) (draw : Option (List ℕ)) → Calm test (post_server s now draw server)
+  starting s now server None = tt
+  starting s now server (Some draw) =
+      let secret : List ℕ = draw_text draw in
+      begun (life_after (life_of s.lives server) (next_generation s.tables) Begin) (may_start s now secret server)
+      (calm_by_or (first_refusal (start_rules s.tables secret server)) (on_target s now secret server (free_target s.pool s.lives))
+      (targeted s now secret server (free_target s.pool s.lives)))
+
+  going_on : (server : ServerKey) (g : ℕ) (l : Leased) (todo : Todo) → Calm test (goes_on server g l todo)
+  going_on server g l Nothing = tt
+  going_on server g l Start = tt
+  going_on server g l AddRoute = tt
+  going_on server g l DeleteRoute = tt
+  going_on server g l StopProgram = tt
+  going_on server g l Poll = tt
+
+  stopped : (server : ServerKey) (g : ℕ) (l : Leased) (step : LifeStep) → Calm test (on_stop server g l step)
+  stopped server g l (Err e) = tt
+  stopped server g l (Ok next) = going_on server g l next.1
+
+  resting : (s : Hub) (server : ServerKey) (remove : Bool) → Calm test (at_rest s server remove)
+  resting s server true = calm_by_rules s (servers.delete_server s.tables server) done
+      (λ rows e. calm_by_ok _ rows (calm_by_if (contains_key s.tables.servers server) (server_rows s.tables server) (calm_server s.tables server)) e)
+  resting s server false = tt
+
+  stopping : (s : Hub) (server : ServerKey) (remove : Bool) (held : Option (ℕ × Leased)) → Calm test (on_lease s server remove held)
+  stopping s server remove None = resting s server remove
+  stopping s server remove (Some held) = stopped server held.0 held.1 (life_after held.1.life held.0 AskStop)
+
+  -- ---- each call
+
+  calm_by_row : (s : Hub) (may : Rights) (now : ℕ) (draw : Option (List ℕ)) (k : Token) (call : Call) → Calm test (row s may now draw k call)
+  calm_by_row s may now draw k (PostUsers names admin) = calm_by_rules s (users.add_users s.tables names admin now) _ (new_users s.tables names admin now)
+  calm_by_row s may now draw k (PostUser user) = calm_by_rules s (users.add_users s.tables (user ∷ []) false now) _ (new_users s.tables (user ∷ []) false now)
+  calm_by_row s may now draw k (PatchUser user admin) = calm_by_rules s (users.set_admin s.tables user admin) (λ after. good 200 (user_at may after user)) (λ rows e. calm_by_ok _ rows (one_admin admin (get s.tables.users user)) e)
+  calm_by_row s may now draw k (DeleteUser user) = calm_by_rules s (users.delete_user s.tables user (has_live_server s.lives user)) _
+      (λ rows e. calm_by_ruled (rules.if_so (has_live_server s.lives user) LiveServers ∷ []) _ rows (calm_by_if (contains_key s.tables.users user) (user_rows s.tables user) (calm_user s.tables user)) e)
+  calm_by_row s may now draw k (PostActivity user last told) = calm_by_rules s (servers.note_activity s.tables user now last told) done
+      (λ rows e. calm_by_ruled (servers.if_unknown_server s.tables user told ∷ []) _ rows (all_active s.tables now user last told) e)
+  calm_by_row s may now draw k (PostServer server) = starting s now server draw
+  calm_by_row s may now draw k (DeleteServer server remove) =
+      calm_by_or (first_refusal (if_so (remove && is_default server.server) (NotSo (codes "default server")) ∷ [])) (on_lease s server remove (lease_of s.lives server))
+      (stopping s server remove (lease_of s.lives server))
+  calm_by_row s may now draw k (PostGroup group names) = calm_by_rules s (groups.add_group s.tables group names) _
+      (λ rows e. calm_by_ruled (rules.if_so (contains_key s.tables.groups group) (Exists group) ∷ groups.if_unknown_user s.tables names ∷ rules.if_full 2 s.tables.limits.groups (len s.tables.groups) 1 ∷ []) (Put (Row.Group (record { name = group; users = in_order name_cmp names })) ∷ []) rows (one _ (calm.put_group _)) e)
+  calm_by_row s may now draw k (DeleteGroup group) = calm_by_rules s (groups.delete_group s.tables group) done
+      (λ rows e. calm_by_ok _ rows (calm_by_if (contains_key s.tables.groups group) (group_rows s.tables group) (calm_group s.tables group)) e)
+  calm_by_row s may now draw k (JoinGroup group names) = calm_by_rules s (groups.join_group s.tables group names) _
+      (λ rows e. calm_by_ruled (groups.if_unknown_user s.tables names ∷ []) _ rows (one_group (with_keys name_cmp names) (get s.tables.groups group)) e)
+  calm_by_row s may now draw k (LeaveGroup group names) = calm_by_rules s (groups.leave_group s.tables group names) _
+      (λ rows e. calm_by_ruled (groups.if_unknown_user s.tables names ∷ []) _ rows (one_group (without_keys name_cmp names) (get s.tables.groups group)) e)
+  calm_by_row s may now draw k (PostService service) = calm_by_rules s (services.add_service s.tables service) _
+      (λ rows e. calm_by_ruled (rules.if_so (contains_key s.tables.services service) (Exists service) ∷ rules.if_full 3 s.tables.limits.services (len s.tables.services) 1 ∷ []) (Put (Row.Service (record { name = service })) ∷ []) rows (one _ (calm.put_service _)) e)
+  calm_by_row s may now draw k (DeleteService service) = calm_by_rules s (services.delete_service s.tables service) done
+      (λ rows e. calm_by_ok _ rows (calm_by_if (contains_key s.tables.services service) (service_rows s.tables service) (calm_service s.tables service)) e)
+  calm_by_row s may now draw k (PutRole role scopes us gs vs) =
+      let x : Role = role_of role scopes us gs vs in
+      calm_by_rules s (roles.put_role s.tables x) _
+      (λ rows e. calm_by_ruled (rules.if_so (roles.is_fixed_role x.name) FixedRole ∷ roles.if_unknown_scope s.tables.scopes x.scopes ∷ roles.if_unknown_holder s.tables x
+      ∷ rules.if_full 4 s.tables.limits.roles (len s.tables.roles) (cond (contains_key s.tables.roles x.name) 0 1) ∷ []) _ rows (one_role x (get s.tables.roles x.name)) e)
+  calm_by_row s may now draw k (DeleteRole role) = calm_by_rules s (roles.delete_role s.tables role) _
+      (λ rows e. calm_by_ruled (rules.if_so (roles.is_fixed_role role) FixedRole ∷ []) _ rows (calm_by_if (contains_key s.tables.roles role) (Remove (RowKey.Role role) ∷ []) (one _ (calm.remove_role _))) e)
+  calm_by_row s may now draw k _ = tt
+
+  -- ---- the frame
+
+  calm_by_token : (s : Hub) (j : Judgement) (now : ℕ) (draw : Option (List ℕ)) (call : Call) (k : Option Token) → Calm test (by_token s j now draw call k)
+  calm_by_token s j now draw call None = tt
+  calm_by_token s j now draw call (Some k) =
+      calm_by_or (first_refusal (action_rules j (needs call))) (if_there s j.may now draw k call)
+      (calm_by_or (first_refusal (if_so (not (is_there s.tables call)) NotFound ∷ [])) (row s j.may now draw k call) (calm_by_row s j.may now draw k call))
+
+  pub calm_by_call : (s : Hub) (j : Judgement) (now : ℕ) (draw : Option (List ℕ)) (call : Call) (k : Option Token) (b : Bool) → Calm test (cond b (by_token s j now draw call k) get_version)
+  calm_by_call s j now draw call k true = calm_by_token s j now draw call k
+  calm_by_call s j now draw call k false = tt
+
+  calm_if : (r : Answer) (b : Bool) → Calm test r → Calm test (cond b (refuses TrailFull) r)
+  calm_if r true h = tt
+  calm_if r false h = h
 
   calm_in_trail : (s : Hub) (r : Answer) → Calm test r → Calm test (in_trail s r)
   calm_in_trail s (refuses x) h = tt
   calm_in_trail s (gives g) h = tt
-  calm_in_trail s (changes (Rows rows) g) h = calm_if rows g (is_past_trail s (Rows rows)) h
+  calm_in_trail s (refuses_with c x) h = calm_if (refuses_with c x) (is_past_trail s c) h
+  calm_in_trail s (changes c g) h = calm_if (changes c g) (is_past_trail s c) h
+  calm_in_trail s (works c w) h = calm_if (works c w) (is_past_trail s c) h
 
   pub calm_answer : (s : Hub) (now : ℕ) (draw : Option (List ℕ)) (asked : Asked) (r : Answer) → Answers s now draw asked r → Calm test r
   calm_answer s now draw asked r a =
-      let by : Answer = by_call s a.judgement now (caller s now asked) asked.call in
+      let by : Answer = by_call s a.judgement now draw (caller s now asked) asked.call in
       subst (Calm test) (sym a.is)
       (calm_by_or (first_refusal (if_so (is_past s.length asked.seen) (SeenPast (named asked.seen) s.length) ∷ [])) (in_trail s by)
-      (calm_in_trail s by (calm_by_call s a.judgement now asked.call (caller s now asked) (needs_token asked.call))))
+      (calm_in_trail s by (calm_by_call s a.judgement now draw asked.call (caller s now asked) (needs_token asked.call))))

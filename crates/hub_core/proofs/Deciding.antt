@@ -36,7 +36,7 @@ pub nobody_known : (s : Hub) (now : ℕ) (draw : Option (List ℕ)) (asked : Ask
 nobody_known s now draw asked h n e = record { judgement = nobody; judged = rw (h, n, e) tt; is = rw (h, n, e) refl }
 
 pub by_token : (s : Hub) (now : ℕ) (draw : Option (List ℕ)) (asked : Asked) (k : Token) (r : Answer) → is_past s.length asked.seen ≡ false → needs_token asked.call ≡ true
-    → caller s now asked ≡ Some k → ByRights s now k asked.call r → Answers s now draw asked r
+    → caller s now asked ≡ Some k → ByRights s now draw k asked.call r → Answers s now draw asked r
 by_token s now draw asked k r h n e b = record { judgement = b.judgement; judged = rw (h, n, e) b.judged; is = rw (h, n, e) b.is }
 
 -- ---- the judgement of a grant

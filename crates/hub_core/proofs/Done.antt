@@ -1,23 +1,53 @@
--- The change of an answer may be done: the history has room for it, and each put of it fits, since no row of it is found by a hash.
-use Rattle.std.proofs.Common.{◌≡◌, ℕ, Bool, true, false, cond, List, [], ◌∷◌, Option, refl, sym, subst}
-use Rattle.std.specs.Prelude.{Some, None}
+-- The change of an answer may be done: the history has room for it, and it fits. And it numbers its tokens.
+use Rattle.std.proofs.Common.{◌≡◌, ◌<◌, ◌^◌, ℕ, Bool, true, false, ◌&&◌, not, cond, List, [], ◌∷◌, Option, refl, sym, ◌∙◌, ap, subst, inl, inr, codes}
+use Rattle.std.specs.Prelude.{Some, None, Result, Ok, Err, IfOk}
+use Rattle.std.specs.List.{list_any}
 use Rattle.hub_rows.specs.declared.changes.RowChange.{RowChange}
+use Rattle.hub_rows.specs.declared.records.Token.{Token}
 use Rattle.hub_tables.specs.Changes.{puts_hashed}
-use Rattle.hub_machine.specs.State.{Hub}
-use Rattle.hub_machine.specs.Apply.{is_past_trail}
+use Rattle.hub_tables.specs.Lookups.{is_default}
 use Rattle.admin_rules.proofs.Plain.{plain_fit}
-use Rattle.admin_rules.specs.Rules.{ArePlain}
-use Rattle.hub_machine.specs.Replies.{Answer, refuses, gives, changes, Good, or_refusal, first_refusal, if_so}
+use Rattle.admin_rules.specs.Users as users
+use Rattle.admin_rules.specs.Groups as groups
+use Rattle.admin_rules.specs.Services as services
+use Rattle.admin_rules.specs.Roles as roles
+use Rattle.admin_rules.specs.Servers as servers
+use Rattle.hub_view.specs.Fields.{Rights}
+use Rattle.hub_machine.specs.State.{Hub, AreLeased, has_live_server, lease_of, next_generation}
+use Rattle.hub_machine.specs.Apply.{is_past_trail}
+use Rattle.hub_machine.specs.Carry.{FitsIn, touches_lives}
+use Rattle.hub_machine.specs.Replies.{Answer, refuses, refuses_with, gives, changes, works, or_refusal, first_refusal, if_so}
+use Rattle.hub_machine.specs.Replies as spec
+use Rattle.hub_machine.specs.Replies.{outcome_of, refusal_reply}
+use Rattle.hub_machine.specs.Answers.{outcome_view}
 use Rattle.hub_machine.specs.Trails.{in_trail}
-use Rattle.hub_core.specs.Needs.{needs_token}
-use Rattle.hub_core.specs.Answer.{by_call, caller, is_past, named}
-use Rattle.hub_core.specs.History.{Answers}
-use Rattle.hub_core.specs.Carrying.{MayBeDone}
-use Rattle.hub_core.proofs.Calm.{IsCalm, Calm, calm_by_call}
-use Rattle.hub_machine.specs.declared.change.Change.TheVariants.{Rows}
+use Rattle.hub_core.specs.Works.{IsSound, IsSoundOutcome}
+use Rattle.hub_machine.specs.declared.reply.Outcome.{Outcome}
+use Rattle.hub_machine.specs.declared.reply.Outcome.TheVariants as given
+use Rattle.hub_machine.specs.declared.work.Work.{Work}
+use Rattle.hub_calls.specs.Calling.{done}
+use Rattle.hub_calls.specs.Facts.{user_at}
+use Rattle.hub_calls.specs.RoleCalls.{role_of}
+use Rattle.hub_calls.specs.UserCalls.{get_version}
+use Rattle.hub_calls.specs.Stops.{on_lease}
+use Rattle.hub_core.specs.Needs.{needs, needs_token, is_there}
+use Rattle.hub_core.specs.Answer.{Judgement, row, if_there, by_token, by_call, action_rules, caller, is_past, named}
+use Rattle.hub_core.specs.Current.{AreNumbered}
+use Rattle.hub_core.specs.History.{Answers, change_of}
+use Rattle.hub_core.specs.Carrying.{Carrier, Carried, MayBeDone, long_after}
+use Rattle.hub_core.proofs.Calm.{IsCalm, Calm, CalmIn, calm_answer}
+use Rattle.hub_core.proofs.Lively.{IsLively, Lively, lively_change, lively_or, lively_by_rules, start_lively, stop_lively}
+use Rattle.hub_core.proofs.Places.{says_of}
+use Rattle.hub_core.proofs.Numbered.{NumbersIn, none_numbered, numbers, numbers_tokens}
+use Rattle.hub_machine.specs.declared.change.Change.{Change}
+use Rattle.hub_machine.specs.declared.change.Change.TheVariants as Of
 use Rattle.hub_machine.specs.declared.refusal.Refusal.{Refusal}
-use Rattle.hub_machine.specs.declared.refusal.Refusal.TheVariants.{SeenPast, TrailFull}
+use Rattle.hub_machine.specs.declared.refusal.Refusal.TheVariants.{Rule, SeenPast, NotFound, TrailFull, KeeperFault}
 use Rattle.hub_machine.specs.declared.call.Asked.{Asked}
+use Rattle.hub_machine.specs.declared.call.Call.{Call}
+use Rattle.hub_machine.specs.declared.call.Call.TheVariants.{PostUsers, PostUser, PatchUser, DeleteUser, PostActivity, PostServer, DeleteServer, PostGroup, DeleteGroup, JoinGroup, LeaveGroup, PostService, DeleteService, PutRole, DeleteRole}
+
+-- ---- no row of an answer's change is found by a hash, and none is of the live servers, unless it starts a server
 
 none_hashed : IsCalm puts_hashed
 none_hashed = record {
@@ -38,24 +68,162 @@ none_hashed = record {
   remove_grant = λ x. refl;
 }
 
-may_if : (s : Hub) (rows : List RowChange) (g : Good) (b : Bool) → is_past_trail s (Rows rows) ≡ b → ArePlain rows
-    → MayBeDone s (cond b (refuses TrailFull) (changes (Rows rows) g))
-may_if s rows g true e h = tt
-may_if s rows g false e h = (e, plain_fit rows s.tables h)
+none_lives : IsCalm touches_lives
+none_lives = record {
+  put_user = λ x. refl;
+  remove_user = λ x. refl;
+  put_group = λ x. refl;
+  remove_group = λ x. refl;
+  put_service = λ x. refl;
+  remove_service = λ x. refl;
+  put_role = λ x. refl;
+  remove_role = λ x. refl;
+  remove_token = λ x. refl;
+  put_server = λ x. refl;
+  remove_server = λ x. refl;
+  remove_share = λ x. refl;
+  remove_code = λ x. refl;
+  remove_client = λ x. refl;
+  remove_grant = λ x. refl;
+}
 
-may_in_trail : (s : Hub) (r : Answer) → Calm puts_hashed r → MayBeDone s (in_trail s r)
-may_in_trail s (refuses x) h = tt
-may_in_trail s (gives g) h = tt
-may_in_trail s (changes (Rows rows) g) h = may_if s rows g (is_past_trail s (Rows rows)) refl h
+-- ---- starts and stops, through the frame
 
-may_or : (s : Hub) (o : Option Refusal) (r : Answer) → MayBeDone s r → MayBeDone s (or_refusal r o)
-may_or s None r h = h
-may_or s (Some x) r h = tt
+row_lively : (s : Hub) (may : Rights) (now : ℕ) (draw : Option (List ℕ)) (k : Token) (call : Call) → AreLeased s → AreNumbered s.tables → next_generation s.tables < 2 ^ 63 → Lively s (row s may now draw k call)
+row_lively s may now draw k (PostUsers names admin) l n m = lively_by_rules s (users.add_users s.tables names admin now) _
+row_lively s may now draw k (PostUser user) l n m = lively_by_rules s (users.add_users s.tables (user ∷ []) false now) _
+row_lively s may now draw k (PatchUser user admin) l n m = lively_by_rules s (users.set_admin s.tables user admin) (λ (x : Hub). spec.good 200 (user_at may x user))
+row_lively s may now draw k (DeleteUser user) l n m = lively_by_rules s (users.delete_user s.tables user (has_live_server s.lives user)) _
+row_lively s may now draw k (PostActivity user last told) l n m = lively_by_rules s (servers.note_activity s.tables user now last told) _
+row_lively s may now draw k (PostServer server) l n m = start_lively s now draw server l n m
+row_lively s may now draw k (DeleteServer server remove) l n m = lively_or s (first_refusal (if_so (remove && is_default server.server) (Rule (codes "default server")) ∷ []))
+    (on_lease s server remove (lease_of s.lives server)) (stop_lively s server remove (lease_of s.lives server) l m refl)
+row_lively s may now draw k (PostGroup group names) l n m = lively_by_rules s (groups.add_group s.tables group names) _
+row_lively s may now draw k (DeleteGroup group) l n m = lively_by_rules s (groups.delete_group s.tables group) done
+row_lively s may now draw k (JoinGroup group names) l n m = lively_by_rules s (groups.join_group s.tables group names) _
+row_lively s may now draw k (LeaveGroup group names) l n m = lively_by_rules s (groups.leave_group s.tables group names) _
+row_lively s may now draw k (PostService service) l n m = lively_by_rules s (services.add_service s.tables service) _
+row_lively s may now draw k (DeleteService service) l n m = lively_by_rules s (services.delete_service s.tables service) done
+row_lively s may now draw k (PutRole role scopes us gs vs) l n m = lively_by_rules s (roles.put_role s.tables (role_of role scopes us gs vs)) _
+row_lively s may now draw k (DeleteRole role) l n m = lively_by_rules s (roles.delete_role s.tables role) _
+row_lively s may now draw k _ l n m = tt
 
-pub may_be_done : (s : Hub) (now : ℕ) (draw : Option (List ℕ)) (asked : Asked) (r : Answer) → Answers s now draw asked r → MayBeDone s r
-may_be_done s now draw asked r a =
-    let P : Answer → Type 0 = λ x. MayBeDone s x in
-    let by : Answer = by_call s a.judgement now (caller s now asked) asked.call in
-    subst P (sym a.is)
-    (may_or s (first_refusal (if_so (is_past s.length asked.seen) (SeenPast (named asked.seen) s.length) ∷ [])) (in_trail s by)
-    (may_in_trail s by (calm_by_call puts_hashed none_hashed s a.judgement now asked.call (caller s now asked) (needs_token asked.call))))
+token_lively : (s : Hub) (j : Judgement) (now : ℕ) (draw : Option (List ℕ)) (call : Call) (k : Option Token) → AreLeased s → AreNumbered s.tables → next_generation s.tables < 2 ^ 63 → Lively s (by_token s j now draw call k)
+token_lively s j now draw call None l n m = tt
+token_lively s j now draw call (Some k) l n m =
+    lively_or s (first_refusal (action_rules j (needs call))) (if_there s j.may now draw k call)
+    (lively_or s (first_refusal (if_so (not (is_there s.tables call)) NotFound ∷ [])) (row s j.may now draw k call) (row_lively s j.may now draw k call l n m))
+
+call_lively : (s : Hub) (j : Judgement) (now : ℕ) (draw : Option (List ℕ)) (call : Call) (k : Option Token) (b : Bool) → AreLeased s → AreNumbered s.tables → next_generation s.tables < 2 ^ 63
+    → Lively s (cond b (by_token s j now draw call k) get_version)
+call_lively s j now draw call k true l n m = token_lively s j now draw call k l n m
+call_lively s j now draw call k false l n m = tt
+
+-- ---- room
+
+-- the history has room for the change
+abbrev HasRoom : Hub → Answer → Type 0
+HasRoom s r = (c : Change) → change_of r ≡ Some c → is_past_trail s c ≡ false
+
+none_some : (c : Change) → None ≡ Some c → ⊥
+none_some c h = cc
+
+same_some : (c d : Change) → Some c ≡ Some d → c ≡ d
+same_some c d h = cc
+
+-- an answer with this change, where the history has room
+passed : (s : Hub) (r : Answer) (c : Change) (b : Bool) → change_of r ≡ Some c → is_past_trail s c ≡ b → Lively s r
+    → HasRoom s (cond b (refuses TrailFull) r) × Lively s (cond b (refuses TrailFull) r)
+passed s r c true has past h = (λ d e. absurd (none_some d e), tt)
+passed s r c false has past h = (λ d e. ap (is_past_trail s) (same_some d c (sym e ∙ has)) ∙ past, h)
+
+trail_lively : (s : Hub) (r : Answer) → Lively s r → HasRoom s (in_trail s r) × Lively s (in_trail s r)
+trail_lively s (refuses x) h = (λ d e. absurd (none_some d e), tt)
+trail_lively s (refuses_with c x) h = passed s (refuses_with c x) c (is_past_trail s c) refl refl h
+trail_lively s (gives g) h = (λ d e. absurd (none_some d e), tt)
+trail_lively s (changes c g) h = passed s (changes c g) c (is_past_trail s c) refl refl h
+trail_lively s (works c w) h = passed s (works c w) c (is_past_trail s c) refl refl h
+
+room_or : (s : Hub) (o : Option Refusal) (r : Answer) → HasRoom s r × Lively s r → HasRoom s (or_refusal r o) × Lively s (or_refusal r o)
+room_or s None r h = h
+room_or s (Some x) r h = (λ d e. absurd (none_some d e), tt)
+
+answer_lively : (s : Hub) (now : ℕ) (draw : Option (List ℕ)) (asked : Asked) (r : Answer) → AreLeased s → AreNumbered s.tables → next_generation s.tables < 2 ^ 63 → Answers s now draw asked r → HasRoom s r × Lively s r
+answer_lively s now draw asked r l n m a =
+    let by : Answer = by_call s a.judgement now draw (caller s now asked) asked.call in
+    subst (λ (x : Answer). HasRoom s x × Lively s x) (sym a.is)
+    (room_or s (first_refusal (if_so (is_past s.length asked.seen) (SeenPast (named asked.seen) s.length) ∷ [])) (in_trail s by)
+    (trail_lively s by (call_lively s a.judgement now draw asked.call (caller s now asked) (needs_token asked.call) l n m)))
+
+-- ---- the whole
+
+-- what is shown of an answer by its rows, and by its start or stop
+fits : (s : Hub) (ch : Option Change) → ((rows : List RowChange) → ch ≡ Some (Of.Rows rows) → (list_any puts_hashed rows ≡ false) × (list_any touches_lives rows ≡ false)) → IsLively s ch
+    → (c : Change) → ch ≡ Some c → FitsIn s c
+fits s None calm lively c e = absurd (none_some c e)
+fits s (Some (Of.Rows rows)) calm lively c e =
+    let both = calm rows refl in
+    subst (FitsIn s) (same_some _ c e) (record { puts = plain_fit rows s.tables both.0; apart = both.1 })
+fits s (Some (Of.Begin g server rows)) calm lively c e = subst (FitsIn s) (same_some _ c e) lively.0
+fits s (Some (Of.Life g event)) calm lively c e = subst (FitsIn s) (same_some _ c e) lively
+
+may_by : (s : Hub) (ch : Option Change) → ((c : Change) → ch ≡ Some c → is_past_trail s c ≡ false) → ((c : Change) → ch ≡ Some c → FitsIn s c) → MayBeDone s ch
+may_by s None room fit = tt
+may_by s (Some c) room fit = (room c refl, fit c refl)
+
+-- the rows of a change of rows alone pass no such test
+calm_rows : (test : RowChange → Bool) (r : Answer) → Calm test r → (rows : List RowChange) → change_of r ≡ Some (Of.Rows rows) → list_any test rows ≡ false
+calm_rows test (refuses x) h rows e = absurd (none_some _ e)
+calm_rows test (refuses_with c x) h rows e = subst (λ (c : Change). CalmIn test c) (same_some c (Of.Rows rows) e) h
+calm_rows test (gives g) h rows e = absurd (none_some _ e)
+calm_rows test (changes c g) h rows e = subst (λ (c : Change). CalmIn test c) (same_some c (Of.Rows rows) e) h
+calm_rows test (works c w) h rows e = subst (λ (c : Change). CalmIn test c) (same_some c (Of.Rows rows) e) h
+
+pub may_be_done : (s : Hub) (now : ℕ) (draw : Option (List ℕ)) (asked : Asked) (r : Answer) → AreLeased s → AreNumbered s.tables → next_generation s.tables < 2 ^ 63 → Answers s now draw asked r → MayBeDone s (change_of r)
+may_be_done s now draw asked r l n m a =
+    let shown = answer_lively s now draw asked r l n m a in
+    let hashed = calm_answer puts_hashed none_hashed s now draw asked r a in
+    let lives = calm_answer touches_lives none_lives s now draw asked r a in
+    may_by s (change_of r) shown.0
+    (fits s (change_of r) (λ rows e. (calm_rows puts_hashed r hashed rows e, calm_rows touches_lives r lives rows e)) (lively_change s r shown.1))
+
+numbered_by : (s : Hub) (ch : Option Change) → ((rows : List RowChange) → ch ≡ Some (Of.Rows rows) → list_any numbers rows ≡ false) → IsLively s ch → NumbersIn s.tables ch
+numbered_by s None calm lively = tt
+numbered_by s (Some (Of.Rows rows)) calm lively = numbers_tokens rows s.tables (calm rows refl)
+numbered_by s (Some (Of.Begin g server rows)) calm lively = lively.1
+numbered_by s (Some (Of.Life g event)) calm lively = numbers_tokens [] s.tables refl
+
+-- each token that an answer's change puts is new
+pub answer_numbers : (s : Hub) (now : ℕ) (draw : Option (List ℕ)) (asked : Asked) (r : Answer) → AreLeased s → AreNumbered s.tables → next_generation s.tables < 2 ^ 63 → Answers s now draw asked r → NumbersIn s.tables (change_of r)
+answer_numbers s now draw asked r l n m a =
+    numbered_by s (change_of r) (λ rows e. calm_rows numbers r (calm_answer numbers none_numbered s now draw asked r a) rows e) (lively_change s r (answer_lively s now draw asked r l n m a).1)
+
+-- ---- work that is given can be done
+
+sound_answer : (s : Hub) (r : Answer) (n : ℕ) (o : Outcome) → Lively s r → outcome_view o ≡ outcome_of n r → IsSoundOutcome o
+sound_answer s (works c w) n (given.Work v) h e = subst IsSound (sym (same_work v w e)) h.1
+  where
+    same_work : (x y : Work) → (let a : spec.Outcome = spec.working x in let b : spec.Outcome = spec.working y in a ≡ b) → x ≡ y
+    same_work x y e = cc
+sound_answer s (refuses x) n (given.Work v) h e = cc e
+sound_answer s (refuses_with c x) n (given.Work v) h e = cc e
+sound_answer s (gives g) n (given.Work v) h e = cc e
+sound_answer s (changes c g) n (given.Work v) h e = cc e
+sound_answer s r n (given.Answer x) h e = tt
+
+works_sound : (s : Hub) (now : ℕ) (draw : Option (List ℕ)) (asked : Asked) (r : Answer) (n : ℕ) (o : Outcome) → AreLeased s → AreNumbered s.tables → next_generation s.tables < 2 ^ 63
+    → Answers s now draw asked r → outcome_view o ≡ outcome_of n r → IsSoundOutcome o
+works_sound s now draw asked r n o l k m a e = sound_answer s r n o (answer_lively s now draw asked r l k m a).1 e
+
+-- a keeper's refusal owes nothing
+fault_sound : (n : ℕ) (o : Outcome) → outcome_view o ≡ spec.answered (refusal_reply n KeeperFault) → IsSoundOutcome o
+fault_sound n (given.Answer x) e = tt
+fault_sound n (given.Work v) e = cc e
+
+pub sound_carried : {E : Type 0} (now : ℕ) (draw : Option (List ℕ)) (asked : Asked) (a : Answer) (r : Result Outcome E) (b b' : Carrier) → AreLeased b.hub → AreNumbered b.hub.tables
+    → next_generation b.hub.tables < 2 ^ 63 → Answers b.hub now draw asked a → Carried (change_of a) (says_of a b.hub) r b b' → IfOk r IsSoundOutcome
+sound_carried now draw asked a (Ok o) b b' l n m answers carried = elim carried as (λ _. IsSoundOutcome o) [
+  | inl d ↦ works_sound b.hub now draw asked a (long_after (change_of a) b.hub.length) o l n m answers d.said
+  | inr u ↦ fault_sound b.hub.length o u.said
+]
+sound_carried now draw asked a (Err e) b b' l n m answers carried = tt

@@ -1,11 +1,15 @@
 pub mod Deciding
 pub mod Calm
+pub mod Lively
 pub mod Done
 pub mod Numbered
 pub mod Stamped
 pub mod Tied
 pub mod Places
+pub mod Living
 pub mod OneAnswer
 pub mod Keys
 pub mod Looking
 pub mod Statuses
+pub mod Booking
+pub mod Walked

@@ -73,6 +73,11 @@ not_looked c stamp k (Err x) e = inl refl
 pub looked_of : {A E : Type 0} (c n : Cache) (stamp : ℕ) (k k' : Option Token) (r : Result A E) → k ≡ k' → Looked c stamp k r n → Looked c stamp k' r n
 looked_of c n stamp k k' r e h = subst (λ (x : Option Token). Looked c stamp x r n) e h
 
+-- whatever comes after the look
+pub looked_then : {A E : Type 0} (c n : Cache) (stamp : ℕ) (k : Option Token) (r : Result A E) → LookedFor c stamp k n → Looked c stamp k r n
+looked_then c n stamp k (Ok a) h = h
+looked_then c n stamp k (Err x) h = inr h
+
 -- ---- nothing kept
 
 none_held : (x : Entry) → None ≡ Some x → ⊥

@@ -18,19 +18,14 @@ use Rattle.hub_rows.specs.declared.records.Token.{Token}
 use Rattle.hub_tables.specs.Changes.{row_done, rows_done, puts_of, removals_of}
 use Rattle.hub_tables.specs.Lookups.{number_of}
 use Rattle.hub_tables.specs.State.{State}
-use Rattle.hub_machine.specs.State.{Hub}
-use Rattle.hub_machine.specs.Apply.{change_done}
-use Rattle.hub_machine.specs.Replies.{Answer, refuses, gives, changes}
+use Rattle.hub_machine.specs.Apply.{change_done, rows_of}
 use Rattle.hub_opening.specs.Opening.{next_token, opened_tables, added, token_row}
 use Rattle.hub_opening.specs.declared.config.ConfigToken.{ConfigToken}
 use Rattle.hub_opening.specs.declared.config.HubConfig.{HubConfig}
 use Rattle.hub_opening.proofs.Opened.{opened_keeps}
 use Rattle.hub_core.specs.Current.{AreNumbered}
-use Rattle.hub_core.specs.History.{Answers, change_of}
-use Rattle.hub_core.proofs.Calm.{IsCalm, Calm, calm_answer}
-use Rattle.hub_machine.specs.declared.call.Asked.{Asked}
+use Rattle.hub_core.proofs.Calm.{IsCalm}
 use Rattle.hub_machine.specs.declared.change.Change.{Change}
-use Rattle.hub_machine.specs.declared.change.Change.TheVariants.{Rows}
 
 -- a token that is put has a number that was never given before, and that won't be given again
 abbrev pub IsNumbered : (t t' : State) → RowChange → Type 0
@@ -44,17 +39,17 @@ pub record NumbersTokens (rows : List RowChange) (t : State) : Type 0 where
 
 abbrev pub NumbersIn : State → Option Change → Type 0
 NumbersIn t None = Unit {0}
-NumbersIn t (Some (Rows rows)) = NumbersTokens rows t
+NumbersIn t (Some c) = NumbersTokens (rows_of c) t
 
 -- ---- rows that neither put a token nor change a next number
 
-numbers : RowChange → Bool
+pub numbers : RowChange → Bool
 numbers (Put (Row.Token row)) = true
 numbers (Put (Row.Next row)) = true
 numbers (Remove (RowKey.Next key)) = true
 numbers _ = false
 
-none_numbered : IsCalm numbers
+pub none_numbered : IsCalm numbers
 unfolding numbers
 none_numbered = record {
   put_user = λ x. refl;
@@ -74,6 +69,11 @@ none_numbered = record {
   remove_grant = λ x. refl;
 }
 
+-- nor does the end of a lease
+pub lease_removed : (x : List ℕ) → numbers (Remove (RowKey.Lease x)) ≡ false
+unfolding numbers
+lease_removed x = refl
+
 true_false : true ≡ false → ⊥
 true_false h = cc
 
@@ -81,7 +81,7 @@ pub either : (a b : Bool) → (a || b) ≡ false → (a ≡ false) × (b ≡ fal
 either true b h = absurd (true_false h)
 either false b h = (refl, h)
 
-neither : (a b : Bool) → a ≡ false → b ≡ false → (a || b) ≡ false
+pub neither : (a b : Bool) → a ≡ false → b ≡ false → (a || b) ≡ false
 neither true b h k = h
 neither false b h k = k
 
@@ -118,7 +118,7 @@ are_numbered t t' (r ∷ rows) h =
     let parts = either (numbers r) (list_any numbers rows) h in
     All-cons (IsNumbered t t') r rows (is_numbered t t' r parts.0) (are_numbered t t' rows parts.1)
 
-numbers_tokens : (rows : List RowChange) (t : State) → list_any numbers rows ≡ false → NumbersTokens rows t
+pub numbers_tokens : (rows : List RowChange) (t : State) → list_any numbers rows ≡ false → NumbersTokens rows t
 numbers_tokens rows t h =
     let puts = rows_done (puts_of rows) t in
     let same : (change_done rows t).nexts ≡ t.nexts =
@@ -127,15 +127,6 @@ numbers_tokens rows t h =
       each = are_numbered t (change_done rows t) rows h;
       rises = let n : next_token t ≤ next_token t = omega arith in subst (λ m. next_token t ≤ number_of (get m (codes "token"))) (sym same) n;
     }
-
-numbered_by : (t : State) (r : Answer) → Calm numbers r → NumbersIn t (change_of r)
-numbered_by t (refuses x) h = tt
-numbered_by t (gives g) h = tt
-numbered_by t (changes (Rows rows) g) h = numbers_tokens rows t h
-
--- no answer puts a token or changes a next number, whatever it is
-pub answer_numbers : (s : Hub) (now : ℕ) (draw : Option (List ℕ)) (asked : Asked) (r : Answer) → Answers s now draw asked r → NumbersIn s.tables (change_of r)
-answer_numbers s now draw asked r a = numbered_by s.tables r (calm_answer numbers none_numbered s now draw asked r a)
 
 -- ---- what a change that numbers its tokens makes of them
 

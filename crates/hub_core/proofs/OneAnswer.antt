@@ -38,23 +38,23 @@ same_rules t k (On a x) j j' h h' =
     λ i. if_so (not (held i)) (Needs a) ∷ if_so (not (may i a x)) NotFound ∷ []
 
 -- the answer, by the frame's tests and the token that is found
-abbrev answer_by : Hub → ℕ → Asked → Judgement → (past needed : Bool) → Option Token → Answer
-answer_by s now asked j past needed k =
-    rules (if_so past (SeenPast (named asked.seen) s.length) ∷ []) (in_trail s (cond needed (by_token s j now asked.call k) get_version))
+abbrev answer_by : Hub → ℕ → (draw : Option (List ℕ)) → Asked → Judgement → (past needed : Bool) → Option Token → Answer
+answer_by s now draw asked j past needed k =
+    rules (if_so past (SeenPast (named asked.seen) s.length) ∷ []) (in_trail s (cond needed (by_token s j now draw asked.call k) get_version))
 
-same_by : (s : Hub) (now : ℕ) (asked : Asked) (j j' : Judgement) (past needed : Bool) (k : Option Token)
+same_by : (s : Hub) (now : ℕ) (draw : Option (List ℕ)) (asked : Asked) (j j' : Judgement) (past needed : Bool) (k : Option Token)
     → JudgesCaller s.tables (needs asked.call) j (cond past None (cond needed k None)) → JudgesCaller s.tables (needs asked.call) j' (cond past None (cond needed k None))
-    → answer_by s now asked j past needed k ≡ answer_by s now asked j' past needed k
-same_by s now asked j j' true needed k h h' = refl
-same_by s now asked j j' false false k h h' = refl
-same_by s now asked j j' false true None h h' = refl
-same_by s now asked j j' false true (Some k) h h' =
+    → answer_by s now draw asked j past needed k ≡ answer_by s now draw asked j' past needed k
+same_by s now draw asked j j' true needed k h h' = refl
+same_by s now draw asked j j' false false k h h' = refl
+same_by s now draw asked j j' false true None h h' = refl
+same_by s now draw asked j j' false true (Some k) h h' =
     let checks = same_rules s.tables k (needs asked.call) j j' h h' in
     let may = same_rights s.tables k (needs asked.call) j j' h h' in
-    λ i. rules (if_so false (SeenPast (named asked.seen) s.length) ∷ []) (in_trail s (rules (checks i) (if_there s (may i) now k asked.call)))
+    λ i. rules (if_so false (SeenPast (named asked.seen) s.length) ∷ []) (in_trail s (rules (checks i) (if_there s (may i) now draw k asked.call)))
 
-pub one_answer : (s : Hub) (now : ℕ) (draw draw' : Option (List ℕ)) (asked : Asked) (r r' : Answer) → Answers s now draw asked r → Answers s now draw' asked r' → r ≡ r'
-one_answer s now draw draw' asked r r' here there =
+pub one_answer : (s : Hub) (now : ℕ) (draw : Option (List ℕ)) (asked : Asked) (r r' : Answer) → Answers s now draw asked r → Answers s now draw asked r' → r ≡ r'
+one_answer s now draw asked r r' here there =
     here.is
-    ∙ same_by s now asked here.judgement there.judgement (is_past s.length asked.seen) (needs_token asked.call) (caller s now asked) here.judged there.judged
+    ∙ same_by s now draw asked here.judgement there.judgement (is_past s.length asked.seen) (needs_token asked.call) (caller s now asked) here.judged there.judged
     ∙ sym there.is

@@ -1,5 +1,5 @@
 -- A change keeps the cache of rights: its entries are right, or of an earlier stamp.
-use Rattle.std.proofs.Common.{◌≡◌, ◌≤◌, ◌<◌, ◌+◌, ℕ, Bool, true, false, not, cond, List, [], ◌∷◌, Option, refl, sym, ◌∙◌, ap, subst, inl, inr, arith}
+use Rattle.std.proofs.Common.{◌≡◌, ◌≤◌, ◌<◌, ◌+◌, ℕ, Bool, true, false, not, cond, List, [], ◌∷◌, ◌++◌, map, Option, refl, sym, ◌∙◌, ap, subst, inl, inr, arith}
 use Rattle.std.specs.Prelude.{Some, None, Result, Ok, Err}
 use Rattle.std.specs.List.{list_any}
 use Rattle.std.specs.Cmp.Lexicographic.{nat_list_cmp_total}
@@ -17,6 +17,7 @@ use Rattle.hub_rows.specs.declared.rows.Row.TheVariants as Row
 use Rattle.hub_rows.specs.declared.rows.RowKey.TheVariants as RowKey
 use Rattle.hub_rows.specs.RowKeys.{is_put}
 use Rattle.hub_rows.specs.declared.records.Token.{Token}
+use Rattle.hub_rows.specs.declared.records.ServerRow.{ServerRow}
 use Rattle.hub_rows.specs.declared.records.User.{User}
 use Rattle.hub_tables.specs.Changes.{row_done, rows_done, puts_of, removals_of}
 use Rattle.hub_tables.specs.Lookups.{is_admin, is_admin_row}
@@ -27,18 +28,24 @@ use Rattle.roles.specs.Rights.{IsAllowed, IsGrantOf}
 use Rattle.roles.specs.Sources.{HaveSameSources, is_admin_owner}
 use Rattle.roles.proofs.Sources.{same_grant}
 use Rattle.hub_machine.specs.State.{Hub}
-use Rattle.hub_machine.specs.Apply.{change_done}
-use Rattle.hub_machine.specs.Replies.{Answer}
+use Rattle.hub_lives.specs.Lives.{LifeStep}
+use Rattle.hub_lives.specs.declared.lives.Leased.{Leased}
+use Rattle.hub_machine.specs.Apply.{apply, change_done, client_of, end_rows, rested, start_tokens, moved as moved_on, stepped, of_lease}
+use Rattle.server_life.specs.LifeTable.{life_after}
+use Rattle.server_life.specs.declared.life.Life.{Life}
+use Rattle.server_life.specs.declared.life.LifeEvent.{LifeEvent}
+use Rattle.server_life.specs.declared.life.Phase.{Phase}
+use Rattle.server_life.specs.declared.life.Phase.TheVariants.{Stopped, Adopting, Spawning, Routing, Ready, Unrouting, Stopping, Parked}
+use Rattle.hub_machine.specs.Replies as spec
 use Rattle.hub_opening.specs.Opening.{next_token}
 use Rattle.hub_core.specs.Carrying.{Carrier, Carried}
 use Rattle.hub_core.specs.Current.{IsRightIn, IsStamped}
-use Rattle.hub_core.specs.History.{change_of}
 use Rattle.hub_core.specs.Stamps.{is_kept_as, touches_rights, changes_rights, stamp_after}
 use Rattle.hub_core.specs.Visits.{noted}
-use Rattle.hub_core.proofs.Numbered.{NumbersTokens, NumbersIn, either, none_filtered, token_kept, numbered_after}
+use Rattle.hub_core.proofs.Numbered.{NumbersTokens, NumbersIn, numbers, numbers_tokens, none_numbered, lease_removed, either, neither, none_filtered, token_kept, numbered_after}
 use Rattle.hub_machine.specs.declared.change.Change.{Change}
-use Rattle.hub_machine.specs.declared.change.Change.TheVariants.{Rows}
-use Rattle.hub_machine.specs.declared.reply.Reply.{Reply}
+use Rattle.hub_machine.specs.declared.change.Change.TheVariants.{Rows, Begin, Life as Lived}
+use Rattle.hub_machine.specs.declared.reply.Outcome.{Outcome}
 
 true_false : true ≡ false → ⊥
 true_false h = cc
@@ -124,7 +131,7 @@ older true stamp = omega arith
 older false stamp = omega arith
 
 entry_after : (rows : List RowChange) (t : State) (stamp id : ℕ) (kept : KeptGrant) → NumbersTokens rows t → IsRightIn t stamp id kept
-    → IsRightIn (change_done rows t) (stamp_after t (Some (Rows rows)) stamp) id kept
+    → IsRightIn (change_done rows t) (cond (changes_rights t rows) (stamp + 1) stamp) id kept
 entry_after rows t stamp id kept new r = record {
   older = let a : kept.stamp ≤ stamp = r.older in let b = older (changes_rights t rows) stamp in omega (arith, a, b);
   numbered = let a : id < next_token t = r.numbered in let b : next_token t ≤ next_token (change_done rows t) = new.rises in omega (arith, a, b);
@@ -144,15 +151,89 @@ more : (b : Bool) (stamp length : ℕ) → stamp ≤ length → cond b (stamp + 
 more true stamp length h = omega (arith, h)
 more false stamp length h = omega (arith, h)
 
+-- rows that number their tokens
+rows_stamped : (c : Cache) (rows : List RowChange) (t : State) (stamp length : ℕ) → NumbersTokens rows t → IsStamped c t stamp length
+    → IsStamped c (change_done rows t) (cond (changes_rights t rows) (stamp + 1) stamp) (length + 1)
+rows_stamped c rows t stamp length new h = record {
+  current = (λ id kept at. entry_after rows t stamp id kept new (h.current.0 id kept at), λ id kept at. entry_after rows t stamp id kept new (h.current.1 id kept at));
+  numbered = numbered_after rows t new h.numbered;
+  room = more (changes_rights t rows) stamp length h.room;
+}
+
+-- one entry more with the same rows
+same_stamped : (c : Cache) (t : State) (stamp length : ℕ) → IsStamped c t stamp length → IsStamped c t stamp (length + 1)
+same_stamped c t stamp length h = record { current = h.current; numbered = h.numbered; room = more false stamp length h.room }
+
+-- ---- a step of a life: the tables stay, or the rows of an end are done
+
+end_any : (test : RowChange → Bool) → ((x : ServerRow) → test (Put (Row.ServerRow x)) ≡ false) → ((x : ℕ) → test (Remove (RowKey.Token x)) ≡ false)
+    → ((x : List ℕ) → test (Remove (RowKey.Lease x)) ≡ false) → ((x : List ℕ) → test (Remove (RowKey.OAuthClient x)) ≡ false)
+    → (t : State) (l : Leased) → list_any test (end_rows t l) ≡ false
+end_any test put token lease client t l = both (rested (get t.servers l.server)) rest (row (get t.servers l.server)) (both tokens last (all (start_tokens t l.server)) gone)
+  where
+    last : List RowChange
+    last = Remove (RowKey.Lease l.target) ∷ Remove (RowKey.OAuthClient (client_of l.server)) ∷ []
+
+    tokens : List RowChange
+    tokens = map (λ id. Remove (RowKey.Token id)) (start_tokens t l.server)
+
+    rest : List RowChange
+    rest = tokens ++ last
+
+    both : (xs ys : List RowChange) → list_any test xs ≡ false → list_any test ys ≡ false → list_any test (xs ++ ys) ≡ false
+    both [] ys h k = k
+    both (x ∷ xs) ys h k =
+        let parts = either (test x) (list_any test xs) h in
+        neither (test x) (list_any test (xs ++ ys)) parts.0 (both xs ys parts.1 k)
+
+    row : (kept : Option ServerRow) → list_any test (rested kept) ≡ false
+    row None = refl
+    row (Some x) = neither (test (Put (Row.ServerRow (record x { started = None })))) false (put (record x { started = None })) refl
+
+    all : (ids : List ℕ) → list_any test (map (λ id. Remove (RowKey.Token id)) ids) ≡ false
+    all [] = refl
+    all (id ∷ ids) = neither (test (Remove (RowKey.Token id))) (list_any test (map (λ i. Remove (RowKey.Token i)) ids)) (token id) (all ids)
+
+    gone : list_any test last ≡ false
+    gone = neither (test (Remove (RowKey.Lease l.target))) (list_any test (Remove (RowKey.OAuthClient (client_of l.server)) ∷ [])) (lease l.target)
+        (neither (test (Remove (RowKey.OAuthClient (client_of l.server)))) false (client (client_of l.server)) refl)
+
+end_numbers : (t : State) (l : Leased) → NumbersTokens (end_rows t l) t
+end_numbers t l = numbers_tokens (end_rows t l) t (end_any numbers none_numbered.put_server none_numbered.remove_token lease_removed none_numbered.remove_client t l)
+
+end_stamped : (c : Cache) (t : State) (l : Leased) (stamp length : ℕ) → IsStamped c t stamp length → IsStamped c (change_done (end_rows t l) t) stamp (length + 1)
+end_stamped c t l stamp length h =
+    subst (λ (b : Bool). IsStamped c (change_done (end_rows t l) t) (cond b (stamp + 1) stamp) (length + 1))
+    (end_any (touches_rights t) (λ x. refl) (λ x. refl) (λ x. refl) (λ x. refl) t l)
+    (rows_stamped c (end_rows t l) t stamp length (end_numbers t l) h)
+
+moved_stamped : (c : Cache) (s : Hub) (stamp g : ℕ) (l : Leased) (life : Life) (phase : Phase) → IsStamped c s.tables stamp s.length
+    → IsStamped c (moved_on g l life phase s).tables stamp (s.length + 1)
+moved_stamped c s stamp g l life Stopped h = end_stamped c s.tables l stamp s.length h
+moved_stamped c s stamp g l life (Adopting x) h = same_stamped c s.tables stamp s.length h
+moved_stamped c s stamp g l life (Spawning x) h = same_stamped c s.tables stamp s.length h
+moved_stamped c s stamp g l life (Routing x) h = same_stamped c s.tables stamp s.length h
+moved_stamped c s stamp g l life (Ready x) h = same_stamped c s.tables stamp s.length h
+moved_stamped c s stamp g l life (Unrouting x) h = same_stamped c s.tables stamp s.length h
+moved_stamped c s stamp g l life (Stopping x) h = same_stamped c s.tables stamp s.length h
+moved_stamped c s stamp g l life (Parked x at) h = same_stamped c s.tables stamp s.length h
+
+step_stamped : (c : Cache) (s : Hub) (stamp g : ℕ) (l : Leased) (step : LifeStep) → IsStamped c s.tables stamp s.length
+    → IsStamped c (stepped g l step s).tables stamp (s.length + 1)
+step_stamped c s stamp g l (Err e) h = same_stamped c s.tables stamp s.length h
+step_stamped c s stamp g l (Ok next) h = moved_stamped c s stamp g l next.0 next.0.phase h
+
+lease_stamped : (c : Cache) (s : Hub) (stamp g : ℕ) (event : LifeEvent) (l : Option Leased) → IsStamped c s.tables stamp s.length
+    → IsStamped c (of_lease g event l s).tables stamp (s.length + 1)
+lease_stamped c s stamp g event None h = same_stamped c s.tables stamp s.length h
+lease_stamped c s stamp g event (Some l) h = step_stamped c s stamp g l (life_after l.life g event) h
+
 stamped_noted : (c : Cache) (s : Hub) (stamp : ℕ) (ch : Option Change) → NumbersIn s.tables ch → IsStamped c s.tables stamp s.length
     → IsStamped c (noted ch s).tables (stamp_after s.tables ch stamp) (noted ch s).length
 stamped_noted c s stamp None new h = h
-stamped_noted c s stamp (Some (Rows rows)) new h = record {
-  current =
-      (λ id kept at. entry_after rows s.tables stamp id kept new (h.current.0 id kept at), λ id kept at. entry_after rows s.tables stamp id kept new (h.current.1 id kept at));
-  numbered = numbered_after rows s.tables new h.numbered;
-  room = more (changes_rights s.tables rows) stamp s.length h.room;
-}
+stamped_noted c s stamp (Some (Rows rows)) new h = rows_stamped c rows s.tables stamp s.length new h
+stamped_noted c s stamp (Some (Begin g server rows)) new h = rows_stamped c rows s.tables stamp s.length new h
+stamped_noted c s stamp (Some (Lived g event)) new h = lease_stamped c s stamp g event (get s.lives g) h
 
 moved : (c : Cache) (s s' : Hub) (stamp stamp' : ℕ) → s' ≡ s → stamp' ≡ stamp → IsStamped c s.tables stamp s.length → IsStamped c s'.tables stamp' s'.length
 moved c s s' stamp stamp' hub same h =
@@ -161,11 +242,17 @@ moved c s s' stamp stamp' hub same h =
     subst P (sym hub) (subst Q (sym same) h)
 
 -- whatever came of carrying an answer out
-pub stamped_carried : {E : Type 0} (c : Cache) (a : Answer) (r : Result Reply E) (b b' : Carrier) → NumbersIn b.hub.tables (change_of a) → Carried a r b b'
+pub stamped_carried : {E : Type 0} (c : Cache) (ch : Option Change) (says : spec.Outcome) (r : Result Outcome E) (b b' : Carrier) → NumbersIn b.hub.tables ch → Carried ch says r b b'
     → IsStamped c b.hub.tables b.stamp b.hub.length → IsStamped c b'.hub.tables b'.stamp b'.hub.length
-stamped_carried c a (Ok reply) b b' new carried h = elim carried as (λ _. IsStamped c b'.hub.tables b'.stamp b'.hub.length) [
-  | inl d ↦ moved c (noted (change_of a) b.hub) b'.hub (stamp_after b.hub.tables (change_of a) b.stamp) b'.stamp d.hub d.stamped
-      (stamped_noted c b.hub b.stamp (change_of a) new h)
+stamped_carried c ch says (Ok o) b b' new carried h = elim carried as (λ _. IsStamped c b'.hub.tables b'.stamp b'.hub.length) [
+  | inl d ↦ moved c (noted ch b.hub) b'.hub (stamp_after b.hub.tables ch b.stamp) b'.stamp d.hub d.stamped (stamped_noted c b.hub b.stamp ch new h)
   | inr u ↦ moved c b.hub b'.hub b.stamp b'.stamp u.stays.hub u.stays.stamped h
 ]
-stamped_carried c a (Err e) b b' new carried h = moved c b.hub b'.hub b.stamp b'.stamp carried.hub carried.stamped h
+stamped_carried c ch says (Err e) b b' new carried h = moved c b.hub b'.hub b.stamp b'.stamp carried.hub carried.stamped h
+
+-- whatever came of a step of a life
+pub stamped_stepped : (c : Cache) (s s' : Hub) (stamp g : ℕ) (event : LifeEvent) → s' ≡ apply (Lived g event) s → IsStamped c s.tables stamp s.length → IsStamped c s'.tables stamp s'.length
+stamped_stepped c s s' stamp g event hub h = moved c (apply (Lived g event) s) s' stamp stamp hub refl (lease_stamped c s stamp g event (get s.lives g) h)
+
+pub stamped_same : (c : Cache) (s s' : Hub) (stamp : ℕ) → s' ≡ s → IsStamped c s.tables stamp s.length → IsStamped c s'.tables stamp s'.length
+stamped_same c s s' stamp hub h = moved c s s' stamp stamp hub refl h

@@ -1,18 +1,21 @@
 -- What the rules answer is no 503: that status is for a keeper's refusal alone.
-use Rattle.std.proofs.Common.{◌≡◌, ◌==◌, ℕ, Bool, true, false, not, cond, [], ◌∷◌, List, Option, refl, sym, ◌∙◌, subst, eq-eqb}
-use Rattle.std.specs.Prelude.{Some, None}
+use Rattle.std.proofs.Common.{◌≡◌, ◌==◌, ℕ, Bool, true, false, not, cond, [], ◌∷◌, List, Option, refl, sym, ap, ◌∙◌, subst, eq-eqb}
+use Rattle.std.specs.Prelude.{Some, None, IsSome}
 use Rattle.hub_rows.specs.declared.records.Token.{Token}
 use Rattle.hub_view.specs.Fields.{Rights}
 use Rattle.hub_machine.specs.State.{Hub}
 use Rattle.hub_machine.specs.Apply.{is_past_trail}
 use Rattle.hub_machine.specs.Replies as replies
-use Rattle.hub_machine.specs.Replies.{Answer, refuses, gives, changes, Good, if_so, reply_of, status_of}
+use Rattle.hub_machine.specs.Replies.{Answer, refuses, refuses_with, gives, changes, works, Outcome, answered, working, Reply, if_so, outcome_of, status_of}
 use Rattle.hub_machine.specs.Trails.{in_trail}
 use Rattle.hub_calls.specs.RoleCalls.{role_of}
 use Rattle.hub_calls.specs.UserCalls.{get_version}
 use Rattle.hub_calls.proofs.Statuses.{is_503}
 use Rattle.hub_calls.proofs.UserCalls as users
 use Rattle.hub_calls.proofs.ServerCalls as servers
+use Rattle.hub_calls.proofs.StartCalls as starts
+use Rattle.hub_calls.proofs.StopCalls as stops
+use Rattle.hub_machine.specs.Draws.{draws}
 use Rattle.hub_calls.proofs.GroupCalls as groups
 use Rattle.hub_calls.proofs.ServiceCalls as services
 use Rattle.hub_calls.proofs.RoleCalls as roles
@@ -21,30 +24,31 @@ use Rattle.hub_core.specs.Answer.{Judgement, row, if_there, action_rules, by_tok
 use Rattle.hub_core.specs.History.{Answers}
 use Rattle.hub_core.specs.declared.need.Need.{Need}
 use Rattle.hub_core.specs.declared.need.Need.TheVariants.{GoodToken, Held, On}
-use Rattle.hub_machine.specs.declared.change.Change.{Change}
 use Rattle.hub_machine.specs.declared.refusal.Refusal.{Refusal}
 use Rattle.hub_machine.specs.declared.refusal.Refusal.TheVariants.{SeenPast, Needs, NotFound, TrailFull}
 use Rattle.hub_machine.specs.declared.call.Asked.{Asked}
 use Rattle.hub_machine.specs.declared.call.Call.{Call}
-use Rattle.hub_machine.specs.declared.call.Call.TheVariants.{PostUsers, PostUser, PatchUser, DeleteUser, PostActivity, PostGroup, DeleteGroup, JoinGroup, LeaveGroup, PostService, DeleteService, PutRole, DeleteRole}
+use Rattle.hub_machine.specs.declared.call.Call.TheVariants.{PostUsers, PostUser, PatchUser, DeleteUser, PostActivity, PostServer, DeleteServer, PostGroup, DeleteGroup, JoinGroup, LeaveGroup, PostService, DeleteService, PutRole, DeleteRole}
 
 -- ---- the calls
 
-no_row : (s : Hub) (may : Rights) (now : ℕ) (k : Token) (call : Call) → is_503 (row s may now k call) ≡ false
-no_row s may now k (PostUsers names admin) = users.post_users s may now names admin
-no_row s may now k (PostUser user) = users.post_user s may now user
-no_row s may now k (PatchUser user admin) = users.patch_user s may user admin
-no_row s may now k (DeleteUser user) = users.delete_user s user
-no_row s may now k (PostActivity user last_activity told) = servers.post_activity s now user last_activity told
-no_row s may now k (PostGroup group names) = groups.post_group s may group names
-no_row s may now k (DeleteGroup group) = groups.delete_group s group
-no_row s may now k (JoinGroup group names) = groups.join_group s may group names
-no_row s may now k (LeaveGroup group names) = groups.leave_group s may group names
-no_row s may now k (PostService service) = services.post_service s may service
-no_row s may now k (DeleteService service) = services.delete_service s service
-no_row s may now k (PutRole role scopes us gs vs) = roles.put_role s (role_of role scopes us gs vs)
-no_row s may now k (DeleteRole role) = roles.delete_role s role
-no_row s may now k _ = refl
+no_row : (s : Hub) (may : Rights) (now : ℕ) (draw : Option (List ℕ)) (k : Token) (call : Call) → (draws call ≡ true → IsSome draw) → is_503 (row s may now draw k call) ≡ false
+no_row s may now draw k (PostUsers names admin) h = users.post_users s may now names admin
+no_row s may now draw k (PostUser user) h = users.post_user s may now user
+no_row s may now draw k (PatchUser user admin) h = users.patch_user s may user admin
+no_row s may now draw k (DeleteUser user) h = users.delete_user s user
+no_row s may now draw k (PostActivity user last_activity told) h = servers.post_activity s now user last_activity told
+no_row s may now draw k (PostServer server) h = starts.post_server s now draw server (h refl)
+no_row s may now draw k (DeleteServer server remove) h = stops.delete_server s server remove
+no_row s may now draw k (PostGroup group names) h = groups.post_group s may group names
+no_row s may now draw k (DeleteGroup group) h = groups.delete_group s group
+no_row s may now draw k (JoinGroup group names) h = groups.join_group s may group names
+no_row s may now draw k (LeaveGroup group names) h = groups.leave_group s may group names
+no_row s may now draw k (PostService service) h = services.post_service s may service
+no_row s may now draw k (DeleteService service) h = services.delete_service s service
+no_row s may now draw k (PutRole role scopes us gs vs) h = roles.put_role s (role_of role scopes us gs vs)
+no_row s may now draw k (DeleteRole role) h = roles.delete_role s role
+no_row s may now draw k _ h = refl
 
 -- ---- the frame
 
@@ -63,39 +67,54 @@ no_action j GoodToken r h = h
 no_action j (Held a) r h = no_first (not j.is_held) (Needs a) r refl h
 no_action j (On a x) r h = no_second (not j.is_held) (not (j.may a x)) (Needs a) NotFound r refl refl h
 
-no_token : (s : Hub) (j : Judgement) (now : ℕ) (call : Call) (k : Option Token) → is_503 (by_token s j now call k) ≡ false
-no_token s j now call None = refl
-no_token s j now call (Some k) =
-    no_action j (needs call) (if_there s j.may now k call)
-    (no_first (not (is_there s.tables call)) NotFound (row s j.may now k call) refl (no_row s j.may now k call))
+-- what is drawn for a call that draws
+abbrev HasDraw : Call → Option (List ℕ) → Type 0
+HasDraw call draw = draws call ≡ true → IsSome draw
 
-no_call : (s : Hub) (j : Judgement) (now : ℕ) (call : Call) (k : Option Token) (b : Bool) → is_503 (cond b (by_token s j now call k) get_version) ≡ false
-no_call s j now call k true = no_token s j now call k
-no_call s j now call k false = refl
+no_token : (s : Hub) (j : Judgement) (now : ℕ) (draw : Option (List ℕ)) (call : Call) (k : Option Token) → HasDraw call draw → is_503 (by_token s j now draw call k) ≡ false
+no_token s j now draw call None h = refl
+no_token s j now draw call (Some k) h =
+    no_action j (needs call) (if_there s j.may now draw k call)
+    (no_first (not (is_there s.tables call)) NotFound (row s j.may now draw k call) refl (no_row s j.may now draw k call h))
 
-no_room : (c : Change) (g : Good) (b : Bool) → (g.status == 503) ≡ false → is_503 (cond b (refuses TrailFull) (changes c g)) ≡ false
-no_room c g true h = refl
-no_room c g false h = h
+no_call : (s : Hub) (j : Judgement) (now : ℕ) (draw : Option (List ℕ)) (call : Call) (k : Option Token) (b : Bool) → HasDraw call draw → is_503 (cond b (by_token s j now draw call k) get_version) ≡ false
+no_call s j now draw call k true h = no_token s j now draw call k h
+no_call s j now draw call k false h = refl
+
+no_room : (r : Answer) (b : Bool) → is_503 r ≡ false → is_503 (cond b (refuses TrailFull) r) ≡ false
+no_room r true h = refl
+no_room r false h = h
 
 no_trail : (s : Hub) (r : Answer) → is_503 r ≡ false → is_503 (in_trail s r) ≡ false
 no_trail s (refuses x) h = h
 no_trail s (gives g) h = h
-no_trail s (changes c g) h = no_room c g (is_past_trail s c) h
+no_trail s (refuses_with c x) h = no_room (refuses_with c x) (is_past_trail s c) h
+no_trail s (changes c g) h = no_room (changes c g) (is_past_trail s c) h
+no_trail s (works c w) h = no_room (works c w) (is_past_trail s c) h
 
-no_503 : (s : Hub) (now : ℕ) (draw : Option (List ℕ)) (asked : Asked) (r : Answer) → Answers s now draw asked r → is_503 r ≡ false
-no_503 s now draw asked r a =
-    let by : Answer = by_call s a.judgement now (caller s now asked) asked.call in
+no_503 : (s : Hub) (now : ℕ) (draw : Option (List ℕ)) (asked : Asked) (r : Answer) → HasDraw asked.call draw → Answers s now draw asked r → is_503 r ≡ false
+no_503 s now draw asked r h a =
+    let by : Answer = by_call s a.judgement now draw (caller s now asked) asked.call in
     subst (λ (x : Answer). is_503 x ≡ false) (sym a.is)
     (no_first (is_past s.length asked.seen) (SeenPast (named asked.seen) s.length) (in_trail s by) refl
-    (no_trail s by (no_call s a.judgement now asked.call (caller s now asked) (needs_token asked.call))))
+    (no_trail s by (no_call s a.judgement now draw asked.call (caller s now asked) (needs_token asked.call) h)))
 
 not_both : true ≡ false → ⊥
 not_both e = cc
 
-said : (n : ℕ) (r : Answer) → is_503 r ≡ false → (reply_of n r).status ≡ 503 → ⊥
+-- the status of an answer's reply; a start or a stop has none yet
+abbrev status_in : Outcome → ℕ
+status_in (answered reply) = reply.status
+status_in (working w) = 0
+
+said : (n : ℕ) (r : Answer) → is_503 r ≡ false → status_in (outcome_of n r) ≡ 503 → ⊥
 said n (refuses r) h e = not_both (sym (eq-eqb (status_of r) 503 e) ∙ h)
+said n (refuses_with c r) h e = not_both (sym (eq-eqb (status_of r) 503 e) ∙ h)
 said n (gives g) h e = not_both (sym (eq-eqb g.status 503 e) ∙ h)
 said n (changes c g) h e = not_both (sym (eq-eqb g.status 503 e) ∙ h)
+said n (works c w) h e = cc e
 
-pub never_503 : (n : ℕ) (s : Hub) (now : ℕ) (draw : Option (List ℕ)) (asked : Asked) (r : Answer) → Answers s now draw asked r → (reply_of n r).status ≡ 503 → ⊥
-never_503 n s now draw asked r a e = said n r (no_503 s now draw asked r a) e
+-- where what is drawn is there, no answer's reply is a 503
+pub never_503 : (n : ℕ) (s : Hub) (now : ℕ) (draw : Option (List ℕ)) (asked : Asked) (r : Answer) (reply : Reply) → HasDraw asked.call draw → Answers s now draw asked r
+    → outcome_of n r ≡ answered reply → reply.status ≡ 503 → ⊥
+never_503 n s now draw asked r reply h a is e = said n r (no_503 s now draw asked r h a) (ap status_in is ∙ e)

@@ -12,6 +12,8 @@ use Rattle.hub_machine.specs.Replies.{Answer, refuses, gives, rules, if_so}
 use Rattle.hub_core.specs.Needs.{needs, needs_token, is_there}
 use Rattle.hub_calls.specs.UserCalls.{get_version, get_info, get_identity, get_users, post_users, get_user, post_user, patch_user, delete_user}
 use Rattle.hub_calls.specs.ServerCalls.{post_activity}
+use Rattle.hub_calls.specs.Starts.{post_server}
+use Rattle.hub_calls.specs.Stops.{delete_server}
 use Rattle.hub_calls.specs.GroupCalls.{get_groups, get_group, post_group, delete_group, join_group, leave_group}
 use Rattle.hub_calls.specs.ServiceCalls.{get_services, get_service, post_service, delete_service}
 use Rattle.hub_calls.specs.RoleCalls.{get_roles, get_role, role_of, put_role, delete_role}
@@ -21,7 +23,7 @@ use Rattle.hub_machine.specs.declared.refusal.Refusal.{Refusal}
 use Rattle.hub_machine.specs.declared.refusal.Refusal.TheVariants.{SeenPast, NoValidToken, Needs, NotFound}
 use Rattle.hub_machine.specs.declared.call.Asked.{Asked}
 use Rattle.hub_machine.specs.declared.call.Call.{Call}
-use Rattle.hub_machine.specs.declared.call.Call.TheVariants.{GetVersion, GetInfo, GetIdentity, GetUsers, PostUsers, GetUser, PostUser, PatchUser, DeleteUser, PostActivity, GetGroups, GetGroup, PostGroup, DeleteGroup, JoinGroup, LeaveGroup, GetServices, GetService, PostService, DeleteService, GetRoles, GetRole, PutRole, DeleteRole}
+use Rattle.hub_machine.specs.declared.call.Call.TheVariants.{GetVersion, GetInfo, GetIdentity, GetUsers, PostUsers, GetUser, PostUser, PatchUser, DeleteUser, PostActivity, PostServer, DeleteServer, GetGroups, GetGroup, PostGroup, DeleteGroup, JoinGroup, LeaveGroup, GetServices, GetService, PostService, DeleteService, GetRoles, GetRole, PutRole, DeleteRole}
 
 -- what is decided over all scopes and objects, and not by looking into the tables (see Judged)
 pub record Judgement : Type 0 where
@@ -31,31 +33,33 @@ pub record Judgement : Type 0 where
   pub is_held : Bool
 
 -- the rules of the call in their order, and its Ok: one definition for each call
-abbrev pub row : Hub → Rights → ℕ → Token → Call → Answer
-row s may now k GetVersion = get_version
-row s may now k GetInfo = get_info s
-row s may now k (GetIdentity server) = get_identity s may k server
-row s may now k (GetUsers page) = get_users s may page
-row s may now k (PostUsers names admin) = post_users s may now names admin
-row s may now k (GetUser user) = get_user s may user
-row s may now k (PostUser user) = post_user s may now user
-row s may now k (PatchUser user admin) = patch_user s may user admin
-row s may now k (DeleteUser user) = delete_user s user
-row s may now k (PostActivity user last_activity servers) = post_activity s now user last_activity servers
-row s may now k (GetGroups page) = get_groups s may page
-row s may now k (GetGroup group) = get_group s may group
-row s may now k (PostGroup group users) = post_group s may group users
-row s may now k (DeleteGroup group) = delete_group s group
-row s may now k (JoinGroup group users) = join_group s may group users
-row s may now k (LeaveGroup group users) = leave_group s may group users
-row s may now k (GetServices page) = get_services s may page
-row s may now k (GetService service) = get_service s may service
-row s may now k (PostService service) = post_service s may service
-row s may now k (DeleteService service) = delete_service s service
-row s may now k (GetRoles page) = get_roles s page
-row s may now k (GetRole role) = get_role s role
-row s may now k (PutRole role scopes users groups services) = put_role s (role_of role scopes users groups services)
-row s may now k (DeleteRole role) = delete_role s role
+abbrev pub row : Hub → Rights → (now : ℕ) → (draw : Option (List ℕ)) → Token → Call → Answer
+row s may now draw k GetVersion = get_version
+row s may now draw k GetInfo = get_info s
+row s may now draw k (GetIdentity server) = get_identity s may k server
+row s may now draw k (GetUsers page) = get_users s may page
+row s may now draw k (PostUsers names admin) = post_users s may now names admin
+row s may now draw k (GetUser user) = get_user s may user
+row s may now draw k (PostUser user) = post_user s may now user
+row s may now draw k (PatchUser user admin) = patch_user s may user admin
+row s may now draw k (DeleteUser user) = delete_user s user
+row s may now draw k (PostActivity user last_activity servers) = post_activity s now user last_activity servers
+row s may now draw k (PostServer server) = post_server s now draw server
+row s may now draw k (DeleteServer server remove) = delete_server s server remove
+row s may now draw k (GetGroups page) = get_groups s may page
+row s may now draw k (GetGroup group) = get_group s may group
+row s may now draw k (PostGroup group users) = post_group s may group users
+row s may now draw k (DeleteGroup group) = delete_group s group
+row s may now draw k (JoinGroup group users) = join_group s may group users
+row s may now draw k (LeaveGroup group users) = leave_group s may group users
+row s may now draw k (GetServices page) = get_services s may page
+row s may now draw k (GetService service) = get_service s may service
+row s may now draw k (PostService service) = post_service s may service
+row s may now draw k (DeleteService service) = delete_service s service
+row s may now draw k (GetRoles page) = get_roles s page
+row s may now draw k (GetRole role) = get_role s role
+row s may now draw k (PutRole role scopes users groups services) = put_role s (role_of role scopes users groups services)
+row s may now draw k (DeleteRole role) = delete_role s role
 
 -- ---- the frame
 
@@ -65,16 +69,16 @@ action_rules j GoodToken = []
 action_rules j (Held a) = if_so (not j.is_held) (Needs a) ∷ []
 action_rules j (On a x) = if_so (not j.is_held) (Needs a) ∷ if_so (not (j.may a x)) NotFound ∷ []
 
-abbrev pub if_there : Hub → Rights → ℕ → Token → Call → Answer
-if_there s may now k call = rules (if_so (not (is_there s.tables call)) NotFound ∷ []) (row s may now k call)
+abbrev pub if_there : Hub → Rights → ℕ → Option (List ℕ) → Token → Call → Answer
+if_there s may now draw k call = rules (if_so (not (is_there s.tables call)) NotFound ∷ []) (row s may now draw k call)
 
-abbrev pub by_token : Hub → Judgement → ℕ → Call → Option Token → Answer
-by_token s j now call None = refuses NoValidToken
-by_token s j now call (Some k) = rules (action_rules j (needs call)) (if_there s j.may now k call)
+abbrev pub by_token : Hub → Judgement → ℕ → Option (List ℕ) → Call → Option Token → Answer
+by_token s j now draw call None = refuses NoValidToken
+by_token s j now draw call (Some k) = rules (action_rules j (needs call)) (if_there s j.may now draw k call)
 
 -- without a token there is the version alone
-abbrev pub by_call : Hub → Judgement → ℕ → Option Token → Call → Answer
-by_call s j now caller call = if needs_token call then by_token s j now call caller else get_version
+abbrev pub by_call : Hub → Judgement → ℕ → Option (List ℕ) → Option Token → Call → Answer
+by_call s j now draw caller call = if needs_token call then by_token s j now draw call caller else get_version
 
 -- ---- whose token it is
 
@@ -101,8 +105,8 @@ abbrev pub named : Option ℕ → ℕ
 named None = 0
 named (Some n) = n
 
--- no call that is built draws
+-- `draw` is what was drawn for a call that draws
 abbrev pub answer : Hub → ℕ → Option (List ℕ) → Judgement → Asked → Answer
 answer s now draw j asked =
     rules (if_so (is_past s.length asked.seen) (SeenPast (named asked.seen) s.length) ∷ [])
-    (in_trail s (by_call s j now (caller s now asked) asked.call))
+    (in_trail s (by_call s j now draw (caller s now asked) asked.call))

@@ -1,12 +1,14 @@
 -- Legal histories, and the answers that stand in them.
-use Rattle.std.specs.Prelude.{◌≡◌, ℕ, List, [], ◌∷◌, take, slice_get, Option, Some, None}
+use Rattle.std.specs.Prelude.{◌≡◌, ◌⊎◌, ℕ, true, List, [], ◌∷◌, take, slice_get, Option, Some, None, IsOk}
+use Rattle.server_life.specs.Lives.{is_outcome}
 use Rattle.hub_machine.specs.State.{Hub}
-use Rattle.hub_machine.specs.Apply.{apply}
-use Rattle.hub_machine.specs.Replies.{Answer, refuses, gives, changes}
+use Rattle.hub_machine.specs.Apply.{apply, step_at}
+use Rattle.hub_machine.specs.Replies.{Answer, refuses, refuses_with, gives, changes, works}
 use Rattle.hub_core.specs.Answer.{answer, Judgement}
 use Rattle.hub_core.specs.Judged.{Judged}
 use Rattle.hub_machine.specs.declared.call.Asked.{Asked}
 use Rattle.hub_machine.specs.declared.change.Change.{Change}
+use Rattle.hub_machine.specs.declared.change.Change.TheVariants.{Life as Lived}
 
 -- what the hub answers in a state
 pub record Answers (s : Hub) (now : ℕ) (draw : Option (List ℕ)) (asked : Asked) (r : Answer) : Type 0 where
@@ -17,19 +19,29 @@ pub record Answers (s : Hub) (now : ℕ) (draw : Option (List ℕ)) (asked : Ask
 -- the change that an answer makes
 abbrev pub change_of : Answer → Option Change
 change_of (refuses r) = None
+change_of (refuses_with c r) = Some c
 change_of (gives g) = None
 change_of (changes c g) = Some c
+change_of (works c w) = Some c
 
 -- ---- entries
 
--- an entry is the change of an answer in the state that it finds
-pub record IsEntry (s : Hub) (c : Change) : Type 0 where
+-- the change of an answer in the state that it finds; only an answer starts a server, or wishes that one stops
+pub record IsOfAnswer (s : Hub) (c : Change) : Type 0 where
   pub now : ℕ
   pub draw : Option (List ℕ)
   pub asked : Asked
   pub answer : Answer
   pub answers : Answers s now draw asked answer
   pub change : change_of answer ≡ Some c
+
+-- what came of a call that a generation owed, where the generation is live and its life takes it
+abbrev pub IsOfLife : Hub → Change → Type 0
+IsOfLife s (Lived g event) = (is_outcome event ≡ true) × IsOk (step_at s.lives g event)
+IsOfLife s _ = ⊥
+
+abbrev pub IsEntry : Hub → Change → Type 0
+IsEntry s c = IsOfAnswer s c ⊎ IsOfLife s c
 
 abbrev pub state_after : Hub → List Change → Hub
 state_after s [] = s

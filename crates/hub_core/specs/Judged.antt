@@ -1,5 +1,5 @@
 -- What an answer takes for granted: the rights of the caller, over all scopes and objects.
-use Rattle.std.specs.Prelude.{◌≡◌, ℕ, Bool, ◌↔◌, IsTrue, Option, Some, None, if◌then◌else◌}
+use Rattle.std.specs.Prelude.{◌≡◌, ℕ, Bool, ◌↔◌, IsTrue, List, Option, Some, None, if◌then◌else◌}
 use Rattle.scope_names.specs.declared.action.Action.{Action}
 use Rattle.scope_filters.specs.declared.object.Object.{Object}
 use Rattle.scope_filters.specs.Contexts.{Context}
@@ -51,7 +51,7 @@ HasHeld grant is_held (Held a) = (m : Context) → IsTrue is_held ↔ AdmitsSome
 HasHeld grant is_held (On a x) = (m : Context) → IsTrue is_held ↔ AdmitsSomething m grant a
 
 -- the answer to a call that brings a good token
-pub record ByRights (s : Hub) (now : ℕ) (k : Token) (call : Call) (r : Answer) : Type 0 where
+pub record ByRights (s : Hub) (now : ℕ) (draw : Option (List ℕ)) (k : Token) (call : Call) (r : Answer) : Type 0 where
   pub judgement : Judgement
   pub judged : JudgesToken s.tables k (needs call) judgement
-  pub is : r ≡ in_trail s (by_token s judgement now call (Some k))
+  pub is : r ≡ in_trail s (by_token s judgement now draw call (Some k))

@@ -5,6 +5,10 @@ pub mod History
 pub mod Stamps
 pub mod Current
 pub mod Visits
+pub mod Lived
+pub mod Works
+pub mod LifeBook
+pub mod Live
 pub mod Carrying
 pub mod Tied
 pub mod Opened

@@ -3,12 +3,13 @@ use Rattle.std.specs.Prelude.{Bool, true, false, ◌||◌}
 use Rattle.std.specs.FinMap.{contains_key}
 use Rattle.scope_names.specs.declared.action.Action.TheVariants as A
 use Rattle.scope_filters.specs.declared.object.Object.TheVariants as Ob
+use Rattle.hub_tables.specs.Lookups.{has_server}
 use Rattle.hub_tables.specs.State.{State}
 use Rattle.admin_rules.specs.Roles.{is_fixed_role}
 use Rattle.hub_core.specs.declared.need.Need.{Need}
 use Rattle.hub_core.specs.declared.need.Need.TheVariants.{GoodToken, Held, On}
 use Rattle.hub_machine.specs.declared.call.Call.{Call}
-use Rattle.hub_machine.specs.declared.call.Call.TheVariants.{GetVersion, GetInfo, GetIdentity, GetUsers, PostUsers, GetUser, PostUser, PatchUser, DeleteUser, PostActivity, GetGroups, GetGroup, PostGroup, DeleteGroup, JoinGroup, LeaveGroup, GetServices, GetService, PostService, DeleteService, GetRoles, GetRole, PutRole, DeleteRole}
+use Rattle.hub_machine.specs.declared.call.Call.TheVariants.{GetVersion, GetInfo, GetIdentity, GetUsers, PostUsers, GetUser, PostUser, PatchUser, DeleteUser, PostActivity, PostServer, DeleteServer, GetGroups, GetGroup, PostGroup, DeleteGroup, JoinGroup, LeaveGroup, GetServices, GetService, PostService, DeleteService, GetRoles, GetRole, PutRole, DeleteRole}
 
 abbrev pub needs : Call → Need
 needs GetVersion = GoodToken
@@ -21,6 +22,8 @@ needs (PostUser user) = On A.AdminUsers (Ob.User user)
 needs (PatchUser user admin) = On A.AdminUsers Ob.Hub
 needs (DeleteUser user) = On A.DeleteUsers (Ob.User user)
 needs (PostActivity user last_activity servers) = On A.UsersActivity (Ob.User user)
+needs (PostServer server) = On A.Servers (Ob.Server server)
+needs (DeleteServer server remove) = On A.DeleteServers (Ob.Server server)
 needs (GetGroups page) = Held A.ListGroups
 needs (GetGroup group) = On A.ReadGroupsName (Ob.Group group)
 needs (PostGroup group users) = On A.AdminGroups (Ob.Group group)
@@ -47,6 +50,8 @@ is_there t (GetUser user) = contains_key t.users user
 is_there t (PatchUser user admin) = contains_key t.users user
 is_there t (DeleteUser user) = contains_key t.users user
 is_there t (PostActivity user last_activity servers) = contains_key t.users user
+is_there t (PostServer server) = contains_key t.users server.user
+is_there t (DeleteServer server remove) = has_server t server
 is_there t (GetGroup group) = contains_key t.groups group
 is_there t (DeleteGroup group) = contains_key t.groups group
 is_there t (JoinGroup group users) = contains_key t.groups group

@@ -9,8 +9,8 @@ use Rattle.hub_rows.specs.declared.rows.Row.TheVariants as Row
 use Rattle.hub_rows.specs.declared.rows.RowKey.TheVariants as RowKey
 use Rattle.hub_rows.specs.declared.records.User.{User}
 use Rattle.hub_tables.specs.State.{State}
+use Rattle.hub_machine.specs.Apply.{rows_of}
 use Rattle.hub_machine.specs.declared.change.Change.{Change}
-use Rattle.hub_machine.specs.declared.change.Change.TheVariants.{Rows}
 
 -- the user is kept, and is an admin or none as this says
 abbrev pub is_kept_as : (admin : Bool) → Option User → Bool
@@ -35,8 +35,9 @@ touches_rights t _ = false
 abbrev pub changes_rights : State → List RowChange → Bool
 changes_rights t rows = list_any (touches_rights t) rows
 
+-- a step of a server's life is none, nor are the rows of an end
 abbrev pub is_of_rights : State → Change → Bool
-is_of_rights t (Rows rows) = changes_rights t rows
+is_of_rights t c = changes_rights t (rows_of c)
 
 -- one more with each change of rights
 abbrev pub stamp_after : State → Option Change → ℕ → ℕ

@@ -1,9 +1,10 @@
 -- What a visit gives and leaves.
-use Rattle.std.specs.Prelude.{◌≡◌, ℕ, Bool, true, false, ◌⊎◌, List, [], ◌∷◌, ◌++◌, map, length, replicate, Option, Some, None, option_map, Result, Ok, Err}
+use Rattle.std.specs.Prelude.{◌≡◌, ℕ, ◌+◌, Bool, true, false, ◌⊎◌, List, [], ◌∷◌, ◌++◌, map, length, replicate, Option, Some, None, option_map, Result, Ok, Err}
 use Rattle.hub_devices.specs.Faults.{Rises}
 use Rattle.roles.specs.Looks.{Cache}
 use Rattle.hub_machine.specs.State.{Hub}
 use Rattle.hub_machine.specs.Apply.{apply}
+use Rattle.hub_machine.specs.Carry.{has_commit}
 use Rattle.hub_machine.specs.Replies.{Answer, answered, outcome_of, refusal_reply}
 use Rattle.hub_machine.specs.Answers.{outcome_view}
 use Rattle.hub_core.specs.History.{Answers, change_of, IsLegal, state_after}
@@ -47,6 +48,11 @@ abbrev pub told_after : Option Change → Option (List Change) → Option (List 
 told_after None told = told
 told_after (Some c) told = option_map (λ h. h ++ c ∷ []) told
 
+-- the keeper is asked only where a commit goes with the change
+abbrev pub asks_keeper : Option Change → Bool
+asks_keeper None = false
+asks_keeper (Some c) = has_commit c
+
 -- the answer is given, and its change is noted
 pub record Gave (b b' : Standing) (now : ℕ) (draw : Option (List ℕ)) (asked : Asked) (o : Outcome) : Type 0 where
   pub answer : Answer
@@ -54,6 +60,7 @@ pub record Gave (b b' : Standing) (now : ℕ) (draw : Option (List ℕ)) (asked 
   pub hub : b'.hub ≡ noted (change_of answer) b.hub
   pub told : b'.told ≡ told_after (change_of answer) b.told
   pub stamped : b'.stamp ≡ stamp_after b.hub.tables (change_of answer) b.stamp
+  pub unasked : asks_keeper (change_of answer) ≡ false → b'.faults ≡ b.faults
   pub outcome : outcome_view o ≡ outcome_of b'.hub.length answer
 
 -- all is as it was, but for the cache and the keeper's count
@@ -62,12 +69,13 @@ pub record IsAsBefore (b b' : Standing) : Type 0 where
   pub told : b'.told ≡ b.told
   pub stamped : b'.stamp ≡ b.stamp
 
--- the keeper refused the rows of an answer that has some
+-- the keeper refused the rows of an answer whose change has a commit
 pub record Faulted (b b' : Standing) (now : ℕ) (draw : Option (List ℕ)) (asked : Asked) (o : Outcome) : Type 0 where
   pub answer : Answer
   pub change : Change
   pub answers : Answers b.hub now draw asked answer
   pub has : change_of answer ≡ Some change
+  pub commits : has_commit change ≡ true
   pub stays : IsAsBefore b b'
   pub outcome : outcome_view o ≡ answered (refusal_reply b.hub.length KeeperFault)
   pub rises : Rises b.faults b'.faults
@@ -123,6 +131,7 @@ pub record FaultedAt (start : Start) (before after : List Entry) (faults faults'
   pub change : Change
   pub answers : Answers state now draw asked answer
   pub has : change_of answer ≡ Some change
+  pub commits : has_commit change ≡ true
   pub noted : after ≡ before
   pub outcome : outcome_view o ≡ answered (refusal_reply (length after) KeeperFault)
   pub rises : Rises faults faults'

@@ -1,6 +1,7 @@
 //! The book at a desk, and the job of an asked call.
-ghost use Rattle.std.specs.Prelude.{◌≡◌, false};
+ghost use Rattle.std.specs.Prelude.{◌≡◌, false, IfOk};
 ghost use Rattle.hub_core.specs.Visits.{entries_of, VisitedAt};
+ghost use Rattle.hub_core.specs.Works.{IsSoundOutcome};
 
 use crate::book::Book;
 use crate::start::Start;
@@ -41,7 +42,7 @@ pub struct Ask {
 }
 
 impl Ask {
-    /// A call that is to be answered at this moment. A draw isn't needed by any call that is built.
+    /// A call that is to be answered at this moment, with the draw of one that draws.
     pub fn new(alloc: Global, now: Moment, draw: Option<[u8; 16]>, asked: Asked) -> Ask
         ensures { result ≡ record { alloc = alloc; now = now; draw = draw; asked = asked; acted = false } }
     {
@@ -60,7 +61,7 @@ impl<K: Keeper, T: Trail<Entry = Change>> Job<Book<K, T>> for Ask {
 
     ghost acted = { λ j. j.acted };
 
-    ghost does = { λ j b r j' b'. VisitedAt b.start (entries_of b) (entries_of b') b.faults b'.faults j.now j.draw j.asked r };
+    ghost does = { λ j b r j' b'. VisitedAt b.start (entries_of b) (entries_of b') b.faults b'.faults j.now j.draw j.asked r × IfOk r IsSoundOutcome };
 
     fn act(&mut self, book: &mut Book<K, T>) -> Result<Outcome, AllocError> {
         self.acted = true;

@@ -1,29 +1,34 @@
 //! The book: the machine with its keeper and its history.
 //! Whenever nobody acts on it, its state is what its history leaves, and its keeper, where it tells its rows, has exactly those of that
 //! state: so the rows kept are those of the history.
-ghost use Rattle.std.specs.Prelude.{◌≡◌, ◌≤◌, ◌^◌, ◌↔◌, IsTrue, IfOk, IfErr, length};
-ghost use Rattle.hub_machine.specs.Answers.{answer_view, good_view};
-ghost use Rattle.hub_machine.specs.Replies.{changes};
+ghost use Rattle.std.specs.Prelude.{◌≡◌, ◌≤◌, ◌^◌, ◌↔◌, IsTrue, Some, IfOk, IfErr, length};
+ghost use Rattle.hub_machine.specs.Answers.{answer_view, outcome_view};
+ghost use Rattle.hub_machine.specs.Replies.{outcome_of};
 ghost use Rattle.hub_machine.specs.KeptRows.{Keeps};
 ghost use Rattle.hub_machine.specs.State.{owed};
 ghost use Rattle.hub_core.specs.Current.{Looked};
 ghost use Rattle.hub_core.specs.Judged.{decider};
+ghost use Rattle.hub_core.specs.Works.{IsSoundOutcome};
 ghost use Rattle.hub_core.specs.Opened.{HasOpened};
 ghost use Rattle.hub_opening.specs.Opening.{IsRefused};
 ghost use Rattle.hub_core.specs.Visits.{Visited, VisitedAt, IsFollowed, Reached, entries_of};
-ghost use Rattle.hub_core.specs.Carrying.{Carried, MayBeDone};
+ghost use Rattle.hub_core.specs.Carrying.{Carried, MayBeDone, long_after};
+ghost use Rattle.hub_core.specs.History.{change_of};
 ghost use Rattle.keeper.specs.Rows.{AreSame};
+
+mod life;
+mod live;
 
 use crate::decide::decide;
 use crate::stamps::{is_of_rights, raised};
 use hub_kit::moment::Moment;
-use hub_machine::answer::{Answer, Good, good_reply, refusal_reply};
+use hub_machine::answer::{Answer, good_reply, refusal_reply};
 use hub_machine::call::Asked;
 use hub_machine::change::Change;
 use hub_machine::machine::Machine;
 use hub_machine::planned::Planned;
 use hub_machine::refusal::Refusal;
-use hub_machine::reply::{Outcome, Reply};
+use hub_machine::reply::Outcome;
 use hub_opening::config::HubConfig;
 use hub_opening::open_error::OpenError;
 use hub_opening::opening::open_machine;
@@ -46,6 +51,8 @@ pub struct Book<K: Keeper, T: Trail<Entry = Change>> {
     stamp: u64,
     /// The machine as it was at opening, for contracts alone.
     start: Snapshot<Machine>,
+    /// For the commit of an end.
+    alloc: Global,
 }
 
 /// How many grants a book keeps.
@@ -70,7 +77,7 @@ impl<K: Keeper, T: Trail<Entry = Change>> Model for Book<K, T> {
     ghost invariant = { λ b. IsTied b.start.value b.machine (T.told b.trail) (T.long b.trail) × IsStamped b.rights b.machine.tables b.stamp b.machine.length × (owed b.machine.lives ≤ T.spare b.trail) × (K.Tells b.keeper → Keeps (K.rows b.keeper) b.machine.tables) };
 }
 
-/// Carries an answer out: its change, if it has one, and the reply at the length that it leaves.
+/// Carries an answer out: its change, if it has one, and what is said at the length that it leaves.
 fn carry<K: Keeper, T: Trail<Entry = Change>>(
     alloc: Global,
     machine: &mut Machine,
@@ -78,25 +85,37 @@ fn carry<K: Keeper, T: Trail<Entry = Change>>(
     trail: &mut T,
     stamp: &mut u64,
     answer: Answer,
-) -> Result<Reply, AllocError>
-    requires may { MayBeDone machine.old (answer_view answer) }
+) -> Result<Outcome, AllocError>
+    requires may { MayBeDone machine.old (change_of (answer_view answer)) }
     requires room { stamp.old ≤ machine.old.length }
-    ensures carried { Carried (answer_view answer) result (record { hub = machine.old; told = T.told trail.old; long = T.long trail.old; stamp = stamp.old; faults = K.faults keeper.old }) (record { hub = machine.new; told = T.told trail.new; long = T.long trail.new; stamp = stamp.new; faults = K.faults keeper.new }) }
+    ensures carried { Carried (change_of (answer_view answer)) (outcome_of (long_after (change_of (answer_view answer)) machine.old.length) (answer_view answer)) result (record { hub = machine.old; told = T.told trail.old; long = T.long trail.old; stamp = stamp.old; faults = K.faults keeper.old }) (record { hub = machine.new; told = T.told trail.new; long = T.long trail.new; stamp = stamp.new; faults = K.faults keeper.new }) }
     ensures counted { K.faults keeper.old ≤ K.faults keeper.new }
     ensures spare { owed machine.old.lives ≤ T.spare trail.old → owed machine.new.lives ≤ T.spare trail.new }
     // the keeper goes on having the rows of the state
     ensures keeps { (K.Tells keeper.old → Keeps (K.rows keeper.old) machine.old.tables) → K.Tells keeper.new → Keeps (K.rows keeper.new) machine.new.tables }
 {
-    match answer {
-        Answer::Refuses(refusal) => refusal_reply(alloc, machine.length(), &refusal),
-        Answer::Gives(good) => Ok(good_reply(machine.length(), good)),
-        Answer::Changes { change, good } => {
-            carry_change(alloc, machine, keeper, trail, stamp, change, good)
+    let length = machine.length();
+    let (change, says) = match answer {
+        Answer::Refuses(refusal) => {
+            return Ok(Outcome::Answer(refusal_reply(alloc, length, &refusal)?));
         }
-    }
+        Answer::Gives(good) => return Ok(Outcome::Answer(good_reply(length, good))),
+        Answer::RefusesWith { change, refusal } => {
+            let Ok(reply) = refusal_reply(alloc, length + 1, &refusal) else {
+                drop(change);
+                return Err(AllocError);
+            };
+            (change, Outcome::Answer(reply))
+        }
+        Answer::Changes { change, good } => {
+            (change, Outcome::Answer(good_reply(length + 1, good)))
+        }
+        Answer::Works { change, work } => (change, Outcome::Work(work)),
+    };
+    carry_change(alloc, machine, keeper, trail, stamp, change, says)
 }
 
-/// Carries a change out, and gives its reply.
+/// Carries a change out, after which this is said.
 fn carry_change<K: Keeper, T: Trail<Entry = Change>>(
     alloc: Global,
     machine: &mut Machine,
@@ -104,11 +123,11 @@ fn carry_change<K: Keeper, T: Trail<Entry = Change>>(
     trail: &mut T,
     stamp: &mut u64,
     change: Planned,
-    good: Good,
-) -> Result<Reply, AllocError>
-    requires may { MayBeDone machine.old (changes change (good_view good)) }
+    says: Outcome,
+) -> Result<Outcome, AllocError>
+    requires may { MayBeDone machine.old (Some change) }
     requires room { stamp.old ≤ machine.old.length }
-    ensures carried { Carried (changes change (good_view good)) result (record { hub = machine.old; told = T.told trail.old; long = T.long trail.old; stamp = stamp.old; faults = K.faults keeper.old }) (record { hub = machine.new; told = T.told trail.new; long = T.long trail.new; stamp = stamp.new; faults = K.faults keeper.new }) }
+    ensures carried { Carried (Some change) (outcome_view says) result (record { hub = machine.old; told = T.told trail.old; long = T.long trail.old; stamp = stamp.old; faults = K.faults keeper.old }) (record { hub = machine.new; told = T.told trail.new; long = T.long trail.new; stamp = stamp.new; faults = K.faults keeper.new }) }
     ensures counted { K.faults keeper.old ≤ K.faults keeper.new }
     ensures spare { owed machine.old.lives ≤ T.spare trail.old → owed machine.new.lives ≤ T.spare trail.new }
     ensures keeps { (K.Tells keeper.old → Keeps (K.rows keeper.old) machine.old.tables) → K.Tells keeper.new → Keeps (K.rows keeper.new) machine.new.tables }
@@ -117,22 +136,22 @@ fn carry_change<K: Keeper, T: Trail<Entry = Change>>(
     // The reply to a refusal of the keeper is made before the change is tried, so that no memory can be wanting between them.
     let Ok(fault) = refusal_reply(alloc, machine.length(), &Refusal::KeeperFault) else {
         drop(change);
-        drop(good);
+        drop(says);
         return Err(AllocError);
     };
-    // What isn't given is dropped in one call each, since it has many parts.
+    // What isn't said is dropped in one call each, since it has many parts.
     match machine.enter(alloc, keeper, trail, change) {
         Ok(true) => {
             drop(fault);
             *stamp = raised(*stamp, of_rights);
-            Ok(good_reply(machine.length(), good))
+            Ok(says)
         }
         Ok(false) => {
-            drop(good);
-            Ok(fault)
+            drop(says);
+            Ok(Outcome::Answer(fault))
         }
         Err(error) => {
-            drop(good);
+            drop(says);
             drop(fault);
             Err(error)
         }
@@ -171,6 +190,7 @@ impl<K: Keeper, T: Trail<Entry = Change>> Book<K, T> {
                     rights,
                     stamp: 0,
                     start,
+                    alloc,
                 })
             }
             Err(error) => {
@@ -180,7 +200,7 @@ impl<K: Keeper, T: Trail<Entry = Change>> Book<K, T> {
         }
     }
 
-    /// Answers an asked call, and notes the change of the answer. A draw isn't needed by any call that is built.
+    /// Answers an asked call, and notes the change of the answer. The draw is for the calls that draw.
     pub fn visit(
         &mut self,
         alloc: Global,
@@ -194,6 +214,8 @@ impl<K: Keeper, T: Trail<Entry = Change>> Book<K, T> {
         ensures followed { IsFollowed self.new }
         // the token whose rights decide is looked for once in the cache, which no answer depends on
         ensures looked { Looked self.old.rights self.old.stamp (decider self.old.hub now asked.now) result self.new.rights }
+        // work that is given can be done
+        ensures sound { IfOk result IsSoundOutcome }
         // the same in words of places: the answer is that of the state that the entries before it left
         ensures placed { VisitedAt self.old.start (entries_of self.old) (entries_of self.new) self.old.faults self.new.faults now draw asked.now result }
     {
@@ -203,17 +225,26 @@ impl<K: Keeper, T: Trail<Entry = Change>> Book<K, T> {
             &mut self.rights,
             self.stamp,
             now,
+            draw,
             asked,
         )?;
-        let reply = carry(
+        self.machine.are_leased();
+        let _generation = self.machine.next_generation();
+        carry(
             alloc,
             &mut self.machine,
             &mut self.keeper,
             &mut self.trail,
             &mut self.stamp,
             answer,
-        )?;
-        Ok(Outcome::Answer(reply))
+        )
+    }
+
+    /// That the history leads to the state. It does nothing.
+    pub fn stands(&self)
+        ensures { Reached self.now.start (entries_of self.now) self.now.hub }
+    {
+        let _ = &self.trail;
     }
 
     /// The length of the history.

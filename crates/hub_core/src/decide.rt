@@ -1,6 +1,6 @@
 //! The answer to an asked call: the first refusal of its revision, its token, its rights and what has to be there, else what its own
 //! rules answer.
-ghost use Rattle.std.specs.Prelude.{◌≡◌, ◌↔◌, ℕ, List, Option, Some, None, true, false, IfOk};
+ghost use Rattle.std.specs.Prelude.{◌≡◌, ◌↔◌, Some, None, true, false, IfOk};
 ghost use Rattle.std.specs.FinMap as map;
 ghost use Rattle.hub_core.specs.Answer as spec;
 ghost use Rattle.hub_machine.specs.Answers.{answer_view};
@@ -54,16 +54,17 @@ fn by_token(
     alloc: Global,
     hub: &Machine,
     now: Moment,
+    draw: Option<[u8; 16]>,
     token: &Token,
     rights: &Grant,
     is_held: bool,
     call: &Call,
 ) -> Result<Answer, AllocError>
-    ensures { IfOk result (λ answer. answer_view answer ≡ spec.by_token hub.now (record { may = may_of hub.now rights.now; is_held = is_held }) now call.now (Some token.now)) }
+    ensures { IfOk result (λ answer. answer_view answer ≡ spec.by_token hub.now (record { may = may_of hub.now rights.now; is_held = is_held }) now draw call.now (Some token.now)) }
 {
     match action_refusal(hub, rights, is_held, needs(call)) {
         Some(refusal) => Ok(Answer::Refuses(refusal)),
-        None => if_there(alloc, hub, now, token, rights, call),
+        None => if_there(alloc, hub, now, draw, token, rights, call),
     }
 }
 
@@ -71,32 +72,34 @@ fn if_there(
     alloc: Global,
     hub: &Machine,
     now: Moment,
+    draw: Option<[u8; 16]>,
     token: &Token,
     rights: &Grant,
     call: &Call,
 ) -> Result<Answer, AllocError>
-    ensures { IfOk result (λ answer. answer_view answer ≡ spec.if_there hub.now (may_of hub.now rights.now) now token.now call.now) }
+    ensures { IfOk result (λ answer. answer_view answer ≡ spec.if_there hub.now (may_of hub.now rights.now) now draw token.now call.now) }
 {
     if is_there(hub, call) {
-        row(alloc, hub, now, token, rights, call)
+        row(alloc, hub, now, draw, token, rights, call)
     } else {
         Ok(Answer::Refuses(Refusal::NotFound))
     }
 }
 
-/// The answer to an asked call at a moment, for which the token whose rights decide is looked for in the cache. No call that is built
-/// needs a draw.
+/// The answer to an asked call at a moment, for which the token whose rights decide is looked for in the cache. A call that draws has its
+/// draw.
 pub fn decide(
     alloc: Global,
     hub: &Machine,
     rights: &mut RightsCache,
     stamp: u64,
     now: Moment,
+    draw: Option<[u8; 16]>,
     asked: &Asked,
 ) -> Result<Answer, AllocError>
     requires current { IsCurrent rights.old hub.now.tables stamp }
     requires numbered { AreNumbered hub.now.tables }
-    ensures answers { IfOk result (λ a. (draw : Option (List ℕ)) → Answers hub.now now draw asked.now (answer_view a)) }
+    ensures answers { IfOk result (λ a. Answers hub.now now draw asked.now (answer_view a)) }
     ensures looked { Looked rights.old stamp (decider hub.now now asked.now) result rights.new }
     ensures current { IsCurrent rights.new hub.now.tables stamp }
 {
@@ -109,7 +112,7 @@ pub fn decide(
             length: revision,
         }));
     }
-    after_seen(alloc, hub, rights, stamp, now, asked)
+    after_seen(alloc, hub, rights, stamp, now, draw, asked)
 }
 
 /// The answer to a call whose caller hasn't seen more than there is.
@@ -119,18 +122,19 @@ fn after_seen(
     rights: &mut RightsCache,
     stamp: u64,
     now: Moment,
+    draw: Option<[u8; 16]>,
     asked: &Asked,
 ) -> Result<Answer, AllocError>
     requires current { IsCurrent rights.old hub.now.tables stamp }
     requires numbered { AreNumbered hub.now.tables }
     requires past { spec.is_past hub.now.length asked.now.seen ≡ false }
-    ensures answers { IfOk result (λ a. (draw : Option (List ℕ)) → Answers hub.now now draw asked.now (answer_view a)) }
+    ensures answers { IfOk result (λ a. Answers hub.now now draw asked.now (answer_view a)) }
     ensures looked { Looked rights.old stamp (decider hub.now now asked.now) result rights.new }
     ensures current { IsCurrent rights.new hub.now.tables stamp }
 {
     let needed = needs_token(&asked.call);
     if needed {
-        return with_token(alloc, hub, rights, stamp, now, asked);
+        return with_token(alloc, hub, rights, stamp, now, draw, asked);
     }
     get_version(alloc)
 }
@@ -142,20 +146,21 @@ fn with_token(
     rights: &mut RightsCache,
     stamp: u64,
     now: Moment,
+    draw: Option<[u8; 16]>,
     asked: &Asked,
 ) -> Result<Answer, AllocError>
     requires current { IsCurrent rights.old hub.now.tables stamp }
     requires numbered { AreNumbered hub.now.tables }
     requires past { spec.is_past hub.now.length asked.now.seen ≡ false }
     requires needed { need.needs_token asked.now.call ≡ true }
-    ensures answers { IfOk result (λ a. (draw : Option (List ℕ)) → Answers hub.now now draw asked.now (answer_view a)) }
+    ensures answers { IfOk result (λ a. Answers hub.now now draw asked.now (answer_view a)) }
     ensures looked { Looked rights.old stamp (decider hub.now now asked.now) result rights.new }
     ensures current { IsCurrent rights.new hub.now.tables stamp }
 {
     let caller = good_token(alloc, hub, now, &asked.token)?;
     match caller {
         None => Ok(Answer::Refuses(Refusal::NoValidToken)),
-        Some(token) => by_rights(alloc, hub, rights, stamp, now, token, &asked.call),
+        Some(token) => by_rights(alloc, hub, rights, stamp, now, draw, token, &asked.call),
     }
 }
 
@@ -166,18 +171,19 @@ fn by_rights(
     rights: &mut RightsCache,
     stamp: u64,
     now: Moment,
+    draw: Option<[u8; 16]>,
     token: &Token,
     call: &Call,
 ) -> Result<Answer, AllocError>
     requires current { IsCurrent rights.old hub.now.tables stamp }
     requires numbered { AreNumbered hub.now.tables }
     requires kept { map.get hub.now.tables.tokens token.now.id ≡ Some token.now }
-    ensures answers { IfOk result (λ a. ByRights hub.now now token.now call.now (answer_view a)) }
+    ensures answers { IfOk result (λ a. ByRights hub.now now draw token.now call.now (answer_view a)) }
     ensures looked { Looked rights.old stamp (Some token.now) result rights.new }
     ensures current { IsCurrent rights.new hub.now.tables stamp }
 {
     let grant = rights.look(alloc, hub.tables(), token, stamp)?;
-    judged(alloc, hub, now, token, grant, call)
+    judged(alloc, hub, now, draw, token, grant, call)
 }
 
 /// The answer to a call that brings a good token, of which this is the grant.
@@ -185,15 +191,16 @@ fn judged(
     alloc: Global,
     hub: &Machine,
     now: Moment,
+    draw: Option<[u8; 16]>,
     token: &Token,
     grant: &Grant,
     call: &Call,
 ) -> Result<Answer, AllocError>
     requires admits { IsGrantOf hub.now.tables (IsAllowed hub.now.tables token.now) grant.now }
     requires holds { (a : Action) → AdmitsSomething (context hub.now.tables) grant.now a ↔ Holds hub.now.tables token.now a }
-    ensures { IfOk result (λ a. ByRights hub.now now token.now call.now (answer_view a)) }
+    ensures { IfOk result (λ a. ByRights hub.now now draw token.now call.now (answer_view a)) }
 {
     let is_held = is_held(grant, needs(call));
-    let answer = by_token(alloc, hub, now, token, grant, is_held, call)?;
+    let answer = by_token(alloc, hub, now, draw, token, grant, is_held, call)?;
     hub.in_trail(alloc, answer)
 }

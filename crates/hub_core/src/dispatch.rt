@@ -11,6 +11,8 @@ use hub_calls::group_calls::{
 use hub_calls::role_calls::{delete_role, get_role, get_roles, put_role, role_of};
 use hub_calls::server_calls::post_activity;
 use hub_calls::service_calls::{delete_service, get_service, get_services, post_service};
+use hub_calls::starts::post_server;
+use hub_calls::stops::delete_server;
 use hub_calls::user_calls::{
     delete_user, get_identity, get_info, get_user, get_users, get_version, patch_user, post_user,
     post_users,
@@ -57,11 +59,12 @@ pub(crate) fn row(
     alloc: Global,
     hub: &Machine,
     now: Moment,
+    draw: Option<[u8; 16]>,
     token: &Token,
     rights: &Grant,
     call: &Call,
 ) -> Result<Answer, AllocError>
-    ensures { IfOk result (λ answer. answer_view answer ≡ spec.row hub.now (may_of hub.now rights.now) now token.now call.now) }
+    ensures { IfOk result (λ answer. answer_view answer ≡ spec.row hub.now (may_of hub.now rights.now) now draw token.now call.now) }
 {
     match call {
         Call::GetVersion => get_version(alloc),
@@ -80,6 +83,8 @@ pub(crate) fn row(
             last_activity,
             servers,
         } => post_activity(alloc, hub, now, user, *last_activity, servers.as_slice()),
+        Call::PostServer { server } => post_server(alloc, hub, now, draw, server),
+        Call::DeleteServer { server, remove } => delete_server(alloc, hub, server, *remove),
         Call::GetGroups { page } => get_groups(alloc, hub, rights, *page),
         Call::GetGroup { group } => get_group(alloc, hub, rights, group),
         Call::PostGroup { group, users } => post_group(alloc, hub, rights, group, users.as_slice()),

@@ -12,7 +12,7 @@ pub fn entries_lead_to_one_state()
     ensures { (start : Start) (before : List Entry) (s t : Hub) → start.tells ≡ true → Reached start before s → Reached start before t → s ≡ t }
 {}
 
-/// An asked call has one answer in a state at a moment, whatever is drawn. It does nothing: its contract is the law.
+/// An asked call has one answer in a state, at a moment and with what was drawn. It does nothing: its contract is the law.
 pub fn a_call_has_one_answer()
-    ensures { (s : Hub) (now : ℕ) (draw draw' : Option (List ℕ)) (asked : Asked) (r r' : Answer) → Answers s now draw asked r → Answers s now draw' asked r' → r ≡ r' }
+    ensures { (s : Hub) (now : ℕ) (draw : Option (List ℕ)) (asked : Asked) (r r' : Answer) → Answers s now draw asked r → Answers s now draw asked r' → r ≡ r' }
 {}

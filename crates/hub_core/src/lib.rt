@@ -1,6 +1,7 @@
 //! The hub as a machine: what it answers to an asked call at a moment, and what that leaves.
 //! The contract of `Book::visit` carries it: each visit gives the answer that the rules define in the book's state, and notes
-//! its change. Connections ask at a desk by the job `Ask`.
+//! its change; that of `Book::life` takes what came of the calls that servers owe. Connections ask at a desk by the job `Ask`, and
+//! take outcomes there by the jobs of `server_work`.
 #![tactic(auto)]
 
 pub mod ask;
@@ -9,6 +10,8 @@ mod caller;
 mod decide;
 mod dispatch;
 mod laws;
+pub mod life_book;
+pub mod live;
 mod need;
 mod needs;
 mod stamps;

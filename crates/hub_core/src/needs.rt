@@ -7,10 +7,11 @@ ghost use Rattle.scope_names.specs.declared.action.Action.{Action};
 ghost use Rattle.hub_core.specs.Needs as need;
 ghost use Rattle.hub_machine.specs.Replies.{first_refusal};
 ghost use Rattle.hub_calls.specs.Rights.{may_of};
+ghost use Rattle.hub_tables.specs.Lookups.{has_server};
 
 use crate::need::Need;
 use admin_rules::roles::is_fixed_role;
-use hub_kit::names::{GroupName, RoleName, ServiceName, UserName};
+use hub_kit::names::{GroupName, RoleName, ServerKey, ServiceName, UserName};
 use hub_machine::call::Call;
 use hub_machine::machine::Machine;
 use hub_machine::refusal::Refusal;
@@ -35,6 +36,11 @@ pub(crate) fn needs(call: &Call) -> Need
         Call::PostUser { user } => Need::On(Action::AdminUsers, Object::User(*user)),
         Call::DeleteUser { user } => Need::On(Action::DeleteUsers, Object::User(*user)),
         Call::PostActivity { user, .. } => Need::On(Action::UsersActivity, Object::User(*user)),
+        Call::PostServer { server } => Need::On(Action::Servers, Object::Server(*server)),
+        Call::DeleteServer { server, .. } => Need::On(
+            Action::DeleteServers,
+            Object::Server(*server),
+        ),
         Call::GetGroups { .. } => Need::Held(Action::ListGroups),
         Call::GetGroup { group } => Need::On(Action::ReadGroupsName, Object::Group(*group)),
         Call::PostGroup { group, .. } => Need::On(Action::AdminGroups, Object::Group(*group)),
@@ -85,6 +91,13 @@ fn has_user(hub: &Machine, user: &UserName) -> bool
     hub.tables().user(user).is_some()
 }
 
+fn has_server(hub: &Machine, server: &ServerKey) -> bool
+    ensures { result ≡ has_server hub.now.tables server.now }
+{
+    has_user(hub, &server.user)
+        && (server.server.as_bytes().is_empty() || hub.tables().server(server).is_some())
+}
+
 fn has_group(hub: &Machine, group: &GroupName) -> bool
     ensures { result ≡ map.contains_key hub.now.tables.groups group.now }
 {
@@ -112,6 +125,8 @@ pub(crate) fn is_there(hub: &Machine, call: &Call) -> bool
         | Call::PatchUser { user, .. }
         | Call::DeleteUser { user }
         | Call::PostActivity { user, .. } => has_user(hub, user),
+        Call::PostServer { server } => has_user(hub, &server.user),
+        Call::DeleteServer { server, .. } => has_server(hub, server),
         Call::GetGroup { group }
         | Call::DeleteGroup { group }
         | Call::JoinGroup { group, .. }

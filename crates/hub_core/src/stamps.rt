@@ -50,8 +50,7 @@ fn changes_rights(tables: &Tables, rows: &[RowChange]) -> bool
 pub fn is_of_rights(tables: &Tables, change: &Change) -> bool
     ensures { result ≡ spec.is_of_rights tables.now change.now }
 {
-    let Change::Rows { rows } = change;
-    changes_rights(tables, rows.as_slice())
+    changes_rights(tables, change.rows())
 }
 
 /// The stamp after a change.

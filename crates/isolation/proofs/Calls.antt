@@ -25,7 +25,7 @@ use Rattle.hub_view.specs.declared.pages.Page.{Page}
 use Rattle.hub_view.specs.Records.{role_body}
 use Rattle.hub_machine.specs.State.{Hub}
 use Rattle.hub_machine.specs.Trails.{in_trail}
-use Rattle.hub_machine.specs.Replies.{Answer, gives, refuses, changes, good, rules, if_so, reply_of}
+use Rattle.hub_machine.specs.Replies.{Answer, refuses, refuses_with, gives, changes, works, good, rules, if_so, outcome_of}
 use Rattle.hub_machine.specs.declared.refusal.Refusal.{Refusal}
 use Rattle.hub_machine.specs.declared.refusal.Refusal.TheVariants.{Needs, NotFound, NoValidToken, SeenPast}
 use Rattle.hub_machine.specs.declared.call.Asked.{Asked}
@@ -153,12 +153,12 @@ module _ (k : Token) (s t : Hub) (seen : SeesSame k s t) where
     same_all_roles m = same_map nat_list_cmp_total names_exact s.tables.roles t.tables.roles (seen.roles (can A.AdminRoles Ob.Hub m))
 
   -- the reply to a call with the good token, by one judgement
-  abbrev replies : ℕ → Hub → Judgement → Call → Answer
-  replies now h j call = in_trail h (by_call h j now (Some k) call)
+  abbrev replies : ℕ → Option (List ℕ) → Hub → Judgement → Call → Answer
+  replies now draw h j call = in_trail h (by_call h j now draw (Some k) call)
 
-  module _ (own : AreOwn s.tables) (own' : AreOwn t.tables) (now : ℕ) (j : Judgement) where
+  module _ (own : AreOwn s.tables) (own' : AreOwn t.tables) (now : ℕ) (draw draw' : Option (List ℕ)) (j : Judgement) where
     abbrev Same : Call → Type 0
-    Same call = Says s k j.may → replies now s j call ≡ replies now t j call
+    Same call = Says s k j.may → replies now draw s j call ≡ replies now draw' t j call
 
     info : Same GetInfo
     info can = on_object j.is_held (j.may A.ReadHub Ob.Hub) (Needs A.ReadHub) (get_info s) (get_info t) (λ m.
@@ -211,24 +211,24 @@ module _ (k : Token) (s t : Hub) (seen : SeesSame k s t) where
   abbrev decides : Call → Option Token
   decides call = cond (needs_token call) (Some k) None
 
-  module _ (own : AreOwn s.tables) (own' : AreOwn t.tables) (now : ℕ) (j j' : Judgement) where
-    on_one : (call : Call) → j ≡ j' → Says s k j.may → Same own own' now j call → replies now s j call ≡ replies now t j' call
-    on_one call one can same = same can ∙ ap (λ x. replies now t x call) one
+  module _ (own : AreOwn s.tables) (own' : AreOwn t.tables) (now : ℕ) (draw draw' : Option (List ℕ)) (j j' : Judgement) where
+    on_one : (call : Call) → j ≡ j' → Says s k j.may → Same own own' now draw draw' j call → replies now draw s j call ≡ replies now draw' t j' call
+    on_one call one can same = same can ∙ ap (λ x. replies now draw' t x call) one
 
     by_get : (call : Call) → IsTrue (is_get call) → JudgesCaller s.tables (needs call) j (decides call) → JudgesCaller t.tables (needs call) j' (decides call)
-        → replies now s j call ≡ replies now t j' call
+        → replies now draw s j call ≡ replies now draw' t j' call
     by_get GetVersion get a b = refl
-    by_get GetInfo get a b = on_one GetInfo (same_on A.ReadHub Ob.Hub j j' a b) (says (On A.ReadHub Ob.Hub) j a) (info own own' now j)
+    by_get GetInfo get a b = on_one GetInfo (same_on A.ReadHub Ob.Hub j j' a b) (says (On A.ReadHub Ob.Hub) j a) (info own own' now draw draw' j)
     by_get (GetIdentity server) get a b =
-        who own own' now j server (says GoodToken j a) ∙ ap (λ (may : view.Rights). gives (good 200 (identity may t k server k.owner))) (same_rights GoodToken GoodToken j j' a b)
-    by_get (GetUsers page) get a b = on_one (GetUsers page) (same_some A.ListUsers j j' a b) (says (Held A.ListUsers) j a) (all_users own own' now j page)
-    by_get (GetUser user) get a b = on_one (GetUser user) (same_on A.ReadUsersName (Ob.User user) j j' a b) (says (On A.ReadUsersName (Ob.User user)) j a) (one_user own own' now j user)
-    by_get (GetGroups page) get a b = on_one (GetGroups page) (same_some A.ListGroups j j' a b) (says (Held A.ListGroups) j a) (all_groups own own' now j page)
-    by_get (GetGroup group) get a b = on_one (GetGroup group) (same_on A.ReadGroupsName (Ob.Group group) j j' a b) (says (On A.ReadGroupsName (Ob.Group group)) j a) (one_group own own' now j group)
-    by_get (GetServices page) get a b = on_one (GetServices page) (same_some A.ListServices j j' a b) (says (Held A.ListServices) j a) (all_services own own' now j page)
-    by_get (GetService service) get a b = on_one (GetService service) (same_on A.ReadServicesName (Ob.Service service) j j' a b) (says (On A.ReadServicesName (Ob.Service service)) j a) (one_service own own' now j service)
-    by_get (GetRoles page) get a b = on_one (GetRoles page) (same_on A.AdminRoles Ob.Hub j j' a b) (says (On A.AdminRoles Ob.Hub) j a) (all_roles own own' now j page)
-    by_get (GetRole role) get a b = on_one (GetRole role) (same_on A.AdminRoles Ob.Hub j j' a b) (says (On A.AdminRoles Ob.Hub) j a) (one_role own own' now j role)
+        who own own' now draw draw' j server (says GoodToken j a) ∙ ap (λ (may : view.Rights). gives (good 200 (identity may t k server k.owner))) (same_rights GoodToken GoodToken j j' a b)
+    by_get (GetUsers page) get a b = on_one (GetUsers page) (same_some A.ListUsers j j' a b) (says (Held A.ListUsers) j a) (all_users own own' now draw draw' j page)
+    by_get (GetUser user) get a b = on_one (GetUser user) (same_on A.ReadUsersName (Ob.User user) j j' a b) (says (On A.ReadUsersName (Ob.User user)) j a) (one_user own own' now draw draw' j user)
+    by_get (GetGroups page) get a b = on_one (GetGroups page) (same_some A.ListGroups j j' a b) (says (Held A.ListGroups) j a) (all_groups own own' now draw draw' j page)
+    by_get (GetGroup group) get a b = on_one (GetGroup group) (same_on A.ReadGroupsName (Ob.Group group) j j' a b) (says (On A.ReadGroupsName (Ob.Group group)) j a) (one_group own own' now draw draw' j group)
+    by_get (GetServices page) get a b = on_one (GetServices page) (same_some A.ListServices j j' a b) (says (Held A.ListServices) j a) (all_services own own' now draw draw' j page)
+    by_get (GetService service) get a b = on_one (GetService service) (same_on A.ReadServicesName (Ob.Service service) j j' a b) (says (On A.ReadServicesName (Ob.Service service)) j a) (one_service own own' now draw draw' j service)
+    by_get (GetRoles page) get a b = on_one (GetRoles page) (same_on A.AdminRoles Ob.Hub j j' a b) (says (On A.AdminRoles Ob.Hub) j a) (all_roles own own' now draw draw' j page)
+    by_get (GetRole role) get a b = on_one (GetRole role) (same_on A.AdminRoles Ob.Hub j j' a b) (says (On A.AdminRoles Ob.Hub) j a) (one_role own own' now draw draw' j role)
     by_get _ get a b = absurd (cc)
 
 -- ---- the frame
@@ -242,9 +242,9 @@ by_row h now asked k e = of_text asked.token ∙ ap (if_good now) e
     of_text (Some text) = refl
 
 answers_by : (h : Hub) (now : ℕ) (draw : Option (List ℕ)) (j : Judgement) (asked : Asked) → is_past h.length asked.seen ≡ false
-    → answer h now draw j asked ≡ in_trail h (by_call h j now (caller h now asked) asked.call)
+    → answer h now draw j asked ≡ in_trail h (by_call h j now draw (caller h now asked) asked.call)
 answers_by h now draw j asked reached =
-    ap (λ b. rules (if_so b (SeenPast (named asked.seen) h.length) ∷ []) (in_trail h (by_call h j now (caller h now asked) asked.call))) reached
+    ap (λ b. rules (if_so b (SeenPast (named asked.seen) h.length) ∷ []) (in_trail h (by_call h j now draw (caller h now asked) asked.call))) reached
 
 -- who decides, with the frame's first tests out of the way
 judged_by : (h : Hub) (now : ℕ) (j : Judgement) (asked : Asked) (c : Option Token) → is_past h.length asked.seen ≡ false → caller h now asked ≡ c
@@ -254,15 +254,15 @@ judged_by h now j asked c reached is judged =
     subst (by false) is (subst (λ b. by b (caller h now asked)) reached judged)
 
 -- without a good token a call gets the same in all states
-without : (s t : Hub) (now : ℕ) (j j' : Judgement) (call : Call) → in_trail s (by_call s j now None call) ≡ in_trail t (by_call t j' now None call)
-without s t now j j' call = elim (needs_token call) as (λ b. in_trail s (cond b (refuses NoValidToken) get_version) ≡ in_trail t (cond b (refuses NoValidToken) get_version)) [ true ↦ refl | false ↦ refl ]
+without : (s t : Hub) (now : ℕ) (draw draw' : Option (List ℕ)) (j j' : Judgement) (call : Call) → in_trail s (by_call s j now draw None call) ≡ in_trail t (by_call t j' now draw' None call)
+without s t now draw draw' j j' call = elim (needs_token call) as (λ b. in_trail s (cond b (refuses NoValidToken) get_version) ≡ in_trail t (cond b (refuses NoValidToken) get_version)) [ true ↦ refl | false ↦ refl ]
 
-by_caller : (s t : Hub) (now : ℕ) (j j' : Judgement) (asked : Asked) (k : Token) (over : Bool) → SeesSame k s t → IsTrue (is_get asked.call) → Finds s asked k → Finds t asked k
+by_caller : (s t : Hub) (now : ℕ) (draw draw' : Option (List ℕ)) (j j' : Judgement) (asked : Asked) (k : Token) (over : Bool) → SeesSame k s t → IsTrue (is_get asked.call) → Finds s asked k → Finds t asked k
     → caller s now asked ≡ cond over None (Some k) → caller t now asked ≡ cond over None (Some k) → Judged s now asked j → Judged t now asked j'
-    → in_trail s (by_call s j now (cond over None (Some k)) asked.call) ≡ in_trail t (by_call t j' now (cond over None (Some k)) asked.call)
-by_caller s t now j j' asked k true seen get a b from from' judged judged' = without s t now j j' asked.call
-by_caller s t now j j' asked k false seen get a b from from' judged judged' =
-    by_get k s t seen a.own b.own now j j' asked.call get (judged_by s now j asked (Some k) a.reached from judged) (judged_by t now j' asked (Some k) b.reached from' judged')
+    → in_trail s (by_call s j now draw (cond over None (Some k)) asked.call) ≡ in_trail t (by_call t j' now draw' (cond over None (Some k)) asked.call)
+by_caller s t now draw draw' j j' asked k true seen get a b from from' judged judged' = without s t now draw draw' j j' asked.call
+by_caller s t now draw draw' j j' asked k false seen get a b from from' judged judged' =
+    by_get k s t seen a.own b.own now draw draw' j j' asked.call get (judged_by s now j asked (Some k) a.reached from judged) (judged_by t now j' asked (Some k) b.reached from' judged')
 
 same_answer : (s t : Hub) (now : ℕ) (draw draw' : Option (List ℕ)) (j j' : Judgement) (asked : Asked) (k : Token) → SeesSame k s t → IsTrue (is_get asked.call) → Finds s asked k → Finds t asked k
     → Judged s now asked j → Judged t now asked j' → answer s now draw j asked ≡ answer t now draw' j' asked
@@ -270,19 +270,21 @@ same_answer s t now draw draw' j j' asked k seen get a b judged judged' =
     let from = by_row s now asked k a.token in
     let from' = by_row t now asked k b.token in
     answers_by s now draw j asked a.reached
-    ∙ ap (λ c. in_trail s (by_call s j now c asked.call)) from
-    ∙ by_caller s t now j j' asked k (is_over now k.expires_at) seen get a b from from' judged judged'
-    ∙ ap (λ c. in_trail t (by_call t j' now c asked.call)) (sym from')
+    ∙ ap (λ c. in_trail s (by_call s j now draw c asked.call)) from
+    ∙ by_caller s t now draw draw' j j' asked k (is_over now k.expires_at) seen get a b from from' judged judged'
+    ∙ ap (λ c. in_trail t (by_call t j' now draw' c asked.call)) (sym from')
     ∙ sym (answers_by t now draw' j' asked b.reached)
 
-same_apart : (n n' : ℕ) (r : Answer) → apart (reply_of n r) ≡ apart (reply_of n' r)
+same_apart : (n n' : ℕ) (r : Answer) → apart (outcome_of n r) ≡ apart (outcome_of n' r)
 same_apart n n' (refuses x) = refl
+same_apart n n' (refuses_with c x) = refl
 same_apart n n' (gives g) = refl
 same_apart n n' (changes c g) = refl
+same_apart n n' (works c w) = refl
 
 pub isolated : (s t : Hub) (now : ℕ) (draw draw' : Option (List ℕ)) (asked : Asked) (k : Token) (r r' : Answer) (n n' : ℕ)
     → IsTrue (is_get asked.call) → Finds s asked k → Finds t asked k → SeesSame k s t → Answers s now draw asked r → Answers t now draw' asked r'
-    → apart (reply_of n r) ≡ apart (reply_of n' r')
+    → apart (outcome_of n r) ≡ apart (outcome_of n' r')
 isolated s t now draw draw' asked k r r' n n' get a b seen here there =
     same_apart n n' r
-    ∙ ap (λ x. apart (reply_of n' x)) (here.is ∙ same_answer s t now draw draw' here.judgement there.judgement asked k seen get a b here.judged there.judged ∙ sym there.is)
+    ∙ ap (λ x. apart (outcome_of n' x)) (here.is ∙ same_answer s t now draw draw' here.judgement there.judgement asked k seen get a b here.judged there.judged ∙ sym there.is)

@@ -6,7 +6,7 @@ use Rattle.hub_tables.specs.Hashes.{row_with}
 use Rattle.hub_tables.specs.Own.{AreOwn}
 use Rattle.hub_tables.specs.State.{State}
 use Rattle.hub_machine.specs.State.{Hub}
-use Rattle.hub_machine.specs.Replies.{Reply}
+use Rattle.hub_machine.specs.Replies.{Outcome, answered, working}
 use Rattle.hub_machine.specs.declared.call.Asked.{Asked}
 use Rattle.hub_machine.specs.declared.call.Call.{Call}
 use Rattle.hub_machine.specs.declared.call.Call.TheVariants.{GetVersion, GetInfo, GetIdentity, GetUsers, GetUser, GetGroups, GetGroup, GetServices, GetService, GetRoles, GetRole}
@@ -38,6 +38,7 @@ pub record Finds (s : Hub) (asked : Asked) (k : Token) : Type 0 where
   pub token : token_of s.tables asked.token ≡ Some k
   pub reached : is_past s.length asked.seen ≡ false
 
--- the reply without its revision
-abbrev pub apart : Reply → Reply
-apart r = record r { revision = None }
+-- the outcome without the revision of its reply
+abbrev pub apart : Outcome → Outcome
+apart (answered r) = answered (record r { revision = None })
+apart (working w) = working w

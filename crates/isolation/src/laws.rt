@@ -10,7 +10,7 @@ ghost use Rattle.hub_rows.specs.declared.records.Token.{Token};
 ghost use Rattle.hub_rows.specs.declared.records.User.{User};
 ghost use Rattle.hub_tables.specs.Own.{AreOwn};
 ghost use Rattle.hub_machine.specs.State.{Hub, Lives};
-ghost use Rattle.hub_machine.specs.Replies.{Answer, reply_of};
+ghost use Rattle.hub_machine.specs.Replies.{Answer, outcome_of};
 ghost use Rattle.hub_machine.specs.declared.call.Asked.{Asked};
 ghost use Rattle.hub_machine.specs.declared.change.Change.{Change};
 ghost use Rattle.hub_core.specs.History.{Answers, state_after};
@@ -22,7 +22,7 @@ ghost use Rattle.isolation.specs.Isolation.{is_get, Finds, apart};
 pub fn a_token_sees_its_part()
     ensures { (s t : Hub) (now : ℕ) (draw draw' : Option (List ℕ)) (asked : Asked) (k : Token) (r r' : Answer) (length length' : ℕ)
         → IsTrue (is_get asked.call) → Finds s asked k → Finds t asked k → SeesSame k s t → Answers s now draw asked r → Answers t now draw' asked r'
-        → apart (reply_of length r) ≡ apart (reply_of length' r') }
+        → apart (outcome_of length r) ≡ apart (outcome_of length' r') }
 {}
 
 /// A token sees the same once the rows of users of which it may not ask are put, changed or removed: those are the users that

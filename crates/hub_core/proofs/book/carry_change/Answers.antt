@@ -1,7 +1,6 @@
-use Rattle.std.proofs.Common.{◌∙◌, ◌+◌, Bool, ap, inl, inr, refl, Ok}
+use Rattle.std.proofs.Common.{◌≡◌, ◌∙◌, ◌+◌, Bool, true, false, ap, inl, inr, refl, Ok}
 use Rattle.std.specs.Prelude.{if◌then◌else◌}
-use Rattle.hub_machine.specs.Replies.{good_reply, refusal_reply}
-use Rattle.hub_machine.specs.Answers.{good_view}
+use Rattle.hub_machine.specs.Replies.{answered, refusal_reply}
 use Rattle.hub_core.specs.Stamps.{is_of_rights}
 use Rattle.hub_machine.specs.declared.refusal.Refusal.TheVariants.{KeeperFault}
 use Rattle.hub_core.proofs.book.carry_change.Goals as goal
@@ -15,8 +14,14 @@ returns-in-Ok-true-clause-carried g c =
       longer = same.2;
       stamped = c.raised.ensures ∙ ap (λ (b : Bool). if b then c.args.stamp.now + 1 else c.args.stamp.now)
           (c.is_of_rights-of_rights.ensures ∙ (λ i. is_of_rights (c.tables.ensures i) (c.change.ensures i)));
-      said = c.good_reply.ensures ∙ ap (λ n. good_reply n (good_view c.args.good)) c.length-in-Ok-true.ensures.value;
+      unasked = λ e. ap g.K.Keeper.faults (c.in-Ok-true.ensures.calm e).0;
+      said = refl;
     })
+
+-- what isn't false is true
+commits : (b : Bool) → (b ≡ false → ⊥) → b ≡ true
+commits true h = refl
+commits false h = absurd (h refl)
 
 pub returns-in-Ok-false-clause-carried : goal.returns-in-Ok-false-clause-carried
 returns-in-Ok-false-clause-carried g c =
@@ -24,7 +29,8 @@ returns-in-Ok-false-clause-carried g c =
     inr (record {
       change = c.args.change;
       has = refl;
-      said = c.in-Ok.ensures ∙ ap (λ n. refusal_reply n KeeperFault) c.length.ensures.value;
+      commits = commits _ (λ e. (c.in-Ok-false.ensures.calm e).1 (ap Ok c.in-Ok-false.field-0-test));
+      said = ap answered (c.in-Ok.ensures ∙ ap (λ n. refusal_reply n KeeperFault) c.length.ensures.value);
       stays = record { hub = same.0; telling = same.1; longer = same.2; stamped = refl };
       rises = c.in-Ok-false.ensures.cause (ap Ok c.in-Ok-false.field-0-test);
     })

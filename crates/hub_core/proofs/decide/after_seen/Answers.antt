@@ -7,7 +7,7 @@ use Rattle.hub_core.proofs.decide.after_seen.Goals as goal
 
 pub returns-clause-answers : goal.returns-clause-answers
 returns-clause-answers c = IfOk-weaker c.get_version.result _ _
-    (λ a h draw. version_by c.args.hub.now c.args.now draw c.args.asked.now (answer_view a) c.requires.past (sym c.needs_token-needed.ensures ∙ c.if-needed.false) h)
+    (λ a h. version_by c.args.hub.now c.args.now c.args.draw c.args.asked.now (answer_view a) c.requires.past (sym c.needs_token-needed.ensures ∙ c.if-needed.false) h)
     c.get_version.ensures
 
 pub returns-clause-looked : goal.returns-clause-looked

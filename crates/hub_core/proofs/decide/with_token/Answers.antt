@@ -8,7 +8,7 @@ use Rattle.hub_core.proofs.Looking.{decides, none_looked, looked_of}
 use Rattle.hub_core.proofs.decide.with_token.Goals as goal
 
 pub returns-in-None-clause-answers : goal.returns-in-None-clause-answers
-returns-in-None-clause-answers c = λ draw. nobody_known c.args.hub.now c.args.now draw c.args.asked.now c.requires.past c.requires.needed
+returns-in-None-clause-answers c = nobody_known c.args.hub.now c.args.now c.args.draw c.args.asked.now c.requires.past c.requires.needed
     (sym c.in_ok-caller.ensures.value ∙ ap option_copied c.in-None.is)
 
 pub returns-in-None-clause-looked : goal.returns-in-None-clause-looked
@@ -17,7 +17,7 @@ returns-in-None-clause-looked c = none_looked c.args.rights.now c.args.stamp _ (
 
 pub returns-in-Some-clause-answers : goal.returns-in-Some-clause-answers
 returns-in-Some-clause-answers c = IfOk-weaker c.by_rights.result _ _
-    (λ a b draw. by_token c.args.hub.now c.args.now draw c.args.asked.now c.in-Some.token.now (answer_view a) c.requires.past c.requires.needed
+    (λ a b. by_token c.args.hub.now c.args.now c.args.draw c.args.asked.now c.in-Some.token.now (answer_view a) c.requires.past c.requires.needed
     (sym c.in_ok-caller.ensures.value ∙ ap option_copied c.in-Some.is) b)
     c.by_rights.ensures.answers
 
