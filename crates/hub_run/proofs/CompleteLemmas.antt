@@ -1,5 +1,5 @@
 -- Requests get their turns and their answers, and each 503 is counted.
-use Rattle.std.proofs.Common.{◌≡◌, inl, inr, ⊎_elim, ◌<◌, ◌⊎◌, ◌+◌, ◌-◌, ◌^◌, ◌++◌, ◌∷◌, ℕ, Bool, true, List, [], length, Option, Some, None, Result, Ok, Err, refl, sym, ap, ◌∙◌, subst, lt-ltb, arith, if◌then◌else◌}
+use Rattle.std.proofs.Common.{◌≡◌, inl, inr, ⊎_elim, ◌<◌, ◌⊎◌, ◌+◌, ◌-◌, ◌^◌, ◌++◌, ◌∷◌, ℕ, Bool, true, false, List, [], length, Option, Some, None, Result, Ok, Err, refl, sym, ap, ◌∙◌, subst, lt-ltb, arith, if◌then◌else◌}
 use Rattle.std.proofs.lemmas.List.{append-nil}
 use Rattle.http_wire.specs.Body.{RequestRefusedAt, NoBody}
 use Rattle.http_wire.specs.Request.{IsRequestText, body_due_of}
@@ -14,12 +14,15 @@ use Rattle.hub_core.specs.History.{Answers, change_of}
 use Rattle.hub_core.specs.Visits.{Entry, Reached, with_entry}
 use Rattle.hub_core.specs.declared.start.Start.{Start}
 use Rattle.hub_core.proofs.Statuses.{never_503}
-use Rattle.hub_machine.specs.Replies.{Reply, Answer, answered, reply_of, refusal_reply}
+use Rattle.hub_machine.specs.Replies.{Reply, Answer, answered, working, outcome_of, refusal_reply}
+use Rattle.hub_machine.specs.Answers.{outcome_view}
 use Rattle.hub_machine.specs.State.{Hub}
+use Rattle.hub_machine.specs.declared.reply.Outcome.{Outcome}
 use Rattle.hub_machine.specs.declared.call.Asked.{Asked}
 use Rattle.hub_machine.specs.declared.refusal.Refusal.TheVariants.{KeeperFault}
-use Rattle.hub_run.specs.Complete.{IsOf, IsDue, IsDone, IsUndone, IsServed}
-use Rattle.hub_run.specs.Turns.{Turn, View, Visit, Visits, visited, declined, refused, unsaid, wanting, TurnAt, IsAnswered, Turns}
+use Rattle.hub_machine.specs.declared.work.Work as owed
+use Rattle.hub_run.specs.Complete.{IsOf, IsDue, IsDone, IsUndone, IsSetOut, IsServed, is_work}
+use Rattle.hub_run.specs.Turns.{Turn, View, Visit, Visits, Errand, visited, worked, declined, undrawn, refused, unsaid, unfinished, wanting, TurnAt, IsDrawn, IsGiven, IsAnswered, IsSent, IsWorked, Moves, Turns}
 use Rattle.hub_run.proofs.CountLemmas.{between, never_risen}
 
 -- what the wire knows: one thing stands next
@@ -73,11 +76,17 @@ pub its_turn : NextIsOne → (start : Start) (left : Option (List ℕ)) (text mo
     → IsRequestText request text → TurnAt start left (text ++ more) turn rest → IsOf request turn
 its_turn one start left text more rest request (visited text' q v r) is at =
     same_request q request (one (text ++ more) (Ok q) (Ok request) (text', rest, at.0.0, at.1) (text, more, is, refl))
+its_turn one start left text more rest request (worked text' q v e r) is at =
+    same_request q request (one (text ++ more) (Ok q) (Ok request) (text', rest, at.0.0, at.1) (text, more, is, refl))
 its_turn one start left text more rest request (declined text' q e) is at =
+    same_request q request (one (text ++ more) (Ok q) (Ok request) (text', rest, at.0.0, at.1) (text, more, is, refl))
+its_turn one start left text more rest request (undrawn text' q) is at =
     same_request q request (one (text ++ more) (Ok q) (Ok request) (text', rest, at.0.0, at.1) (text, more, is, refl))
 its_turn one start left text more rest request (refused e) is at =
     not_refused e request (one (text ++ more) (Err e) (Ok request) (refused_next left (text ++ more) e at.0 at.2 at.5) (text, more, is, refl))
 its_turn one start left text more rest request (unsaid text' q v) is at =
+    same_request q request (one (text ++ more) (Ok q) (Ok request) (text', rest, at.0, at.2) (text, more, is, refl))
+its_turn one start left text more rest request (unfinished text' q v e) is at =
     same_request q request (one (text ++ more) (Ok q) (Ok request) (text', rest, at.0, at.2) (text, more, is, refl))
 its_turn one start left text more rest request wanting is at = _
 
@@ -88,7 +97,7 @@ abbrev pub StateIsOne : Type 0
 StateIsOne = (start : Start) (before : List Entry) (s s' : Hub) → start.tells ≡ true → Reached start before s → Reached start before s' → s ≡ s'
 
 abbrev pub AnswerIsOne : Type 0
-AnswerIsOne = (s : Hub) (now : ℕ) (draw draw' : Option (List ℕ)) (asked : Asked) (a b : Answer) → Answers s now draw asked a → Answers s now draw' asked b → a ≡ b
+AnswerIsOne = (s : Hub) (now : ℕ) (draw : Option (List ℕ)) (asked : Asked) (a b : Answer) → Answers s now draw asked a → Answers s now draw asked b → a ≡ b
 
 same_asked : (a b : Asked) (e : Result Asked ApiRefusal) → e ≡ Ok a → e ≡ Ok b → a ≡ b
 same_asked a b e first second = cc
@@ -98,23 +107,23 @@ same_reply a b e = cc
 
 -- an answer in a state that the entries before the visit left is the one that is due
 due_answer : StateIsOne → AnswerIsOne → (start : Start) (request : Request) (v : Visit) (state : Hub) (call : Asked) (r a : Answer) → start.tells ≡ true
-    → Reached start v.before state → Answers state v.moment None call r → call_read request ≡ Ok call → IsDue start request v a → r ≡ a
+    → Reached start v.before state → Answers state v.moment v.draw call r → call_read request ≡ Ok call → IsDue start request v a → r ≡ a
 due_answer states answers start request v state call r a tells reached given read due =
     let here : state ≡ due.state = states start v.before state due.state tells reached due.reached in
     let asks : call ≡ due.asked = same_asked call due.asked (call_read request) read due.read in
-    let there : Answers due.state v.moment None due.asked r = subst (λ (c : Asked). Answers due.state v.moment None c r) asks
-    (subst (λ (s : Hub). Answers s v.moment None call r) here given) in
-    answers due.state v.moment None None due.asked r a there due.answers
+    let there : Answers due.state v.moment v.draw due.asked r = subst (λ (c : Asked). Answers due.state v.moment v.draw c r) asks
+    (subst (λ (s : Hub). Answers s v.moment v.draw call r) here given) in
+    answers due.state v.moment v.draw due.asked r a there due.answers
 
-pub its_answer : StateIsOne → AnswerIsOne → (start : Start) (request : Request) (v : Visit) (r : Reply) (a : Answer) → start.tells ≡ true
-    → IsAnswered start request v r → IsDue start request v a → IsDone start v r a ⊎ IsUndone v r a
-its_answer states answers start request v r a tells (call, o, read, inl at, viewed) due =
+given_answer : StateIsOne → AnswerIsOne → (start : Start) (request : Request) (v : Visit) (call : Asked) (o : Outcome) (r : Reply) (a : Answer) → start.tells ≡ true
+    → call_read request ≡ Ok call → outcome_view o ≡ answered r → IsGiven start v call o → IsDue start request v a → IsDone start v r a ⊎ IsUndone v r a
+given_answer states answers start request v call o r a tells read viewed (inl at) due =
     let is = due_answer states answers start request v at.state call at.answer a tells at.reached at.answers read due in
     inl (record {
       entry = at.noted ∙ ap (λ (b : Answer). with_entry start.tells (change_of b) v.before) is;
-      reply = same_reply r (reply_of (length v.after) at.answer) (sym viewed ∙ at.outcome) ∙ ap (λ (b : Answer). reply_of (length v.after) b) is;
+      reply = sym viewed ∙ (at.outcome ∙ ap (λ (b : Answer). outcome_of (length v.after) b) is);
     })
-its_answer states answers start request v r a tells (call, o, read, inr at, viewed) due =
+given_answer states answers start request v call o r a tells read viewed (inr at) due =
     let is = due_answer states answers start request v at.state call at.answer a tells at.reached at.answers read due in
     inr (record {
       change = at.change;
@@ -123,6 +132,31 @@ its_answer states answers start request v r a tells (call, o, read, inr at, view
       reply = same_reply r (refusal_reply (length v.after) KeeperFault) (sym viewed ∙ at.outcome);
       rises = at.rises;
     })
+
+pub its_answer : StateIsOne → AnswerIsOne → (start : Start) (request : Request) (v : Visit) (r : Reply) (a : Answer) → start.tells ≡ true
+    → IsAnswered start request v r → IsDue start request v a → IsDone start v r a ⊎ IsUndone v r a
+its_answer states answers start request v r a tells h due = given_answer states answers start request v h.asked h.outcome r a tells h.read h.said h.given due
+
+no_work : (w : owed.Work) (r : Reply) → working w ≡ answered r → ⊥
+no_work w r e = cc
+
+-- the work that a visit gave is the one that is due
+given_work : StateIsOne → AnswerIsOne → (start : Start) (request : Request) (v : Visit) (call : Asked) (o : Outcome) (work : owed.Work) (a : Answer) → start.tells ≡ true
+    → call_read request ≡ Ok call → outcome_view o ≡ working work → IsGiven start v call o → IsDue start request v a
+    → (v.after ≡ with_entry start.tells (change_of a) v.before) × (working work ≡ outcome_of (length v.after) a)
+given_work states answers start request v call o work a tells read viewed (inl at) due =
+    let is = due_answer states answers start request v at.state call at.answer a tells at.reached at.answers read due in (
+      at.noted ∙ ap (λ (b : Answer). with_entry start.tells (change_of b) v.before) is,
+      sym viewed ∙ (at.outcome ∙ ap (λ (b : Answer). outcome_of (length v.after) b) is),
+    )
+given_work states answers start request v call o work a tells read viewed (inr at) due =
+    absurd (no_work work (refusal_reply (length v.after) KeeperFault) (sym viewed ∙ at.outcome))
+
+pub its_work : StateIsOne → AnswerIsOne → (start : Start) (request : Request) (v : Visit) (e : Errand) (a : Answer) → start.tells ≡ true
+    → IsSent start request v e → IsDue start request v a → IsSetOut start request v e a
+its_work states answers start request v e a tells h due =
+    let found = given_work states answers start request v h.asked h.outcome h.work a tells h.read h.gives h.given due in
+    record { asked = h.asked; read = h.read; work = h.work; entry = found.0; gives = found.1; first = h.first; errand = h.errand }
 
 -- ---- a connection without faults
 
@@ -136,25 +170,50 @@ its_reply one states answers start x y before after (visited text' q v r) left t
           (λ undone. absurd (never_risen x y text' q v r (between x y before (visited text' q v r) after turns) same below undone.rises))
           (its_answer states answers start request v r a tells (subst (λ (p : Request). IsAnswered start p v r) mine at.0.1) due),
     )
+its_reply one states answers start x y before after (worked text' q v e r) left text more rest request tells turns same below is at =
+    let mine : q ≡ request = its_turn one start left text more rest request (worked text' q v e r) is at in
+    let done : IsWorked start request v e r = subst (λ (p : Request). IsWorked start p v e r) mine at.0.1 in
+    (mine, λ a due. record { set_out = its_work states answers start request v e a tells done.sent due; tale = done.tale; told = done.told; reply = done.reply })
 its_reply one states answers start x y before after (declined text' q e) left text more rest request tells turns same below is at =
     let mine : q ≡ request = its_turn one start left text more rest request (declined text' q e) is at in
     (mine, subst (λ (p : Request). call_read p ≡ Err e) mine at.0.1)
+its_reply one states answers start x y before after (undrawn text' q) left text more rest request tells turns same below is at =
+    its_turn one start left text more rest request (undrawn text' q) is at
 its_reply one states answers start x y before after (refused e) left text more rest request tells turns same below is at =
     its_turn one start left text more rest request (refused e) is at
 its_reply one states answers start x y before after (unsaid text' q v) left text more rest request tells turns same below is at =
     its_turn one start left text more rest request (unsaid text' q v) is at
+its_reply one states answers start x y before after (unfinished text' q v e) left text more rest request tells turns same below is at =
+    let mine : q ≡ request = its_turn one start left text more rest request (unfinished text' q v e) is at in
+    (mine, λ a due. its_work states answers start request v e a tells (subst (λ (p : Request). IsSent start p v e) mine at.1) due)
 its_reply one states answers start x y before after wanting left text more rest request tells turns same below is at = _
 
 -- ---- a 503
 
-pub counted : (start : Start) (x y : View) (request : Request) (v : Visit) (r : Reply)
-    → IsAnswered start request v r → Visits x v y → r.status ≡ 503 → v.faults < 2 ^ 64 - 1
-    → (y.pass.failed ≡ x.pass.failed + 1) × (x.pass.faults < y.pass.faults)
-counted start x y request v r (call, o, read, inl at, viewed) visits is below =
-    let said : r ≡ reply_of (length v.after) at.answer = same_reply r (reply_of (length v.after) at.answer) (sym viewed ∙ at.outcome) in
-    absurd (never_503 (length v.after) at.state v.moment None call at.answer at.answers (ap (λ (q : Reply). q.status) (sym said) ∙ is))
-counted start x y request v r (call, o, read, inr at, viewed) visits is below =
+given_503 : (start : Start) (x y : View) (v : Visit) (call : Asked) (o : Outcome) (r : Reply) → IsDrawn v call → outcome_view o ≡ answered r → IsGiven start v call o
+    → Visits x v y → r.status ≡ 503 → v.faults < 2 ^ 64 - 1 → (y.pass.failed ≡ x.pass.failed + 1) × (x.pass.faults < y.pass.faults)
+given_503 start x y v call o r drawn viewed (inl at) visits is below =
+    absurd (never_503 (length v.after) at.state v.moment v.draw call at.answer r (λ e. drawn ∙ e) at.answers (sym at.outcome ∙ viewed) is)
+given_503 start x y v call o r drawn viewed (inr at) visits is below =
     let up = at.rises below in (
       visits.failed ∙ ap (λ (b : Bool). x.pass.failed + (if b then 1 else 0)) (lt-ltb v.faults v.faults_after up),
       omega (arith, visits.known, visits.count, up),
     )
+
+pub counted : (start : Start) (x y : View) (request : Request) (v : Visit) (r : Reply)
+    → IsAnswered start request v r → Visits x v y → r.status ≡ 503 → v.faults < 2 ^ 64 - 1
+    → (y.pass.failed ≡ x.pass.failed + 1) × (x.pass.faults < y.pass.faults)
+counted start x y request v r h visits is below = given_503 start x y v h.asked h.outcome r h.drawn h.said h.given visits is below
+
+-- ---- calls
+
+pub no_calls : (x y : View) (t : Turn) → Moves x t y → is_work t ≡ false → (y.spawner ≡ x.spawner) × (y.routes ≡ x.routes)
+no_calls x y (visited text q v r) moves is = (moves.spawner, moves.routes)
+no_calls x y (worked text q v e r) moves is = absurd (cc is)
+no_calls x y (declined text q e) moves is = (ap (λ (z : View). z.spawner) moves, ap (λ (z : View). z.routes) moves)
+no_calls x y (undrawn text q) moves is = (moves.spawner, moves.routes)
+no_calls x y (refused e) moves is = (ap (λ (z : View). z.spawner) moves, ap (λ (z : View). z.routes) moves)
+no_calls x y (unsaid text q v) moves is = (moves.spawner, moves.routes)
+no_calls x y (unfinished text q v e) moves is = absurd (cc is)
+no_calls x y wanting (inl moves) is = (ap (λ (z : View). z.spawner) moves, ap (λ (z : View). z.routes) moves)
+no_calls x y wanting (inr moves) is = (moves.spawner, moves.routes)

@@ -1,14 +1,18 @@
 -- The counts of a connection: they don't fall, and where none of its visits was counted none met a failing keeper.
-use Rattle.std.proofs.Common.{◌≡◌, ◌<◌, ◌≤◌, ◌+◌, ◌-◌, ◌^◌, ◌++◌, ◌∷◌, ℕ, Bool, true, false, ltb, List, [], Option, Result, Ok, Err, refl, sym, subst, arith, if◌then◌else◌}
+use Rattle.std.proofs.Common.{◌≡◌, ◌<◌, ◌≤◌, ◌+◌, ◌-◌, ◌^◌, ◌++◌, ◌∷◌, ℕ, Bool, true, false, ltb, List, [], Option, Result, Ok, Err, inl, inr, refl, sym, subst, arith, if◌then◌else◌}
 use Rattle.std.proofs.lemmas.Bool.{ltb-false}
 use Rattle.http_wire.specs.declared.error.SessionFault.{SessionFault}
 use Rattle.http_wire.specs.declared.error.SessionFault.TheVariants.{ReadFault, WriteFault}
 use Rattle.http_wire.specs.declared.request.Request.{Request}
+use Rattle.desk.specs.Passes.{PassState}
+use Rattle.hub_core.specs.LifeBook.{LeadsToLives, Notes}
+use Rattle.hub_core.specs.Visits.{Entry}
 use Rattle.hub_core.specs.declared.start.Start.{Start}
 use Rattle.hub_devices.specs.Faults.{Rises}
 use Rattle.hub_machine.specs.Replies.{Reply}
 use Rattle.hub_run.specs.Connections.{ConnectionEnds}
-use Rattle.hub_run.specs.Turns.{Turn, View, Visit, Visits, visited, declined, refused, unsaid, wanting, Moves, Turns}
+use Rattle.server_work.proofs.Gaining.{chain_gains}
+use Rattle.hub_run.specs.Turns.{Turn, View, Visit, Errand, Visits, Drives, IsUndrawn, at_chain, visited, worked, declined, undrawn, refused, unsaid, unfinished, wanting, Moves, Turns}
 use Rattle.hub_run.specs.declared.served.Served.{Served}
 use Rattle.hub_run.specs.declared.served.Served.TheVariants.{Ended, Cut, Closed}
 
@@ -23,18 +27,34 @@ grows_same x y same = subst (λ (z : View). Grows x z) (sym same) record { fault
 grows_then : (x y z : View) → Grows x y → Grows y z → Grows x z
 grows_then x y z first second = record { faults = omega (arith, first.faults, second.faults); failed = omega (arith, first.failed, second.failed) }
 
-visit_grows : (x y : View) (v : Visit) → Visits x v y → Grows x y
+pub visit_grows : (x y : View) (v : Visit) → Visits x v y → Grows x y
 visit_grows x y v visits = record {
   faults = omega (arith, visits.known, visits.grown, visits.count);
   failed = omega (arith, visits.failed);
 }
 
+-- a chain only adds to the counts
+drive_grows : (x y : View) (e : Errand) → Drives x e y → Grows x y
+drive_grows x y e drives =
+    let gains = chain_gains LeadsToLives Notes e.work (at_chain x) (at_chain y) e.owed e.chain e.tale drives.chain in
+    record { faults = gains.counted; failed = omega (arith, gains.failed) }
+
+undrawn_grows : (x y : View) → IsUndrawn x y → Grows x y
+undrawn_grows x y moves = record {
+  faults = subst (λ (p : PassState Entry Start). x.pass.faults ≤ p.faults) (sym moves.pass) (omega arith);
+  failed = subst (λ (p : PassState Entry Start). x.pass.failed ≤ p.failed) (sym moves.pass) (omega arith);
+}
+
 turn_grows : (x y : View) (t : Turn) → Moves x t y → Grows x y
 turn_grows x y (visited text q v r) moves = visit_grows x y v moves
+turn_grows x y (worked text q v e r) moves = grows_then x moves.0 y (visit_grows x moves.0 v moves.1) (drive_grows moves.0 y e moves.2)
 turn_grows x y (declined text q e) moves = grows_same x y moves
+turn_grows x y (undrawn text q) moves = undrawn_grows x y moves
 turn_grows x y (refused e) moves = grows_same x y moves
 turn_grows x y (unsaid text q v) moves = visit_grows x y v moves
-turn_grows x y wanting moves = grows_same x y moves
+turn_grows x y (unfinished text q v e) moves = grows_then x moves.0 y (visit_grows x moves.0 v moves.1) (drive_grows moves.0 y e moves.2)
+turn_grows x y wanting (inl same) = grows_same x y same
+turn_grows x y wanting (inr moves) = undrawn_grows x y moves
 
 pub turns_grow : (x y : View) (ts : List Turn) → Turns x ts y → Grows x y
 turns_grow x y [] done = grows_same x y done

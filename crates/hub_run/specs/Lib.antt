@@ -2,4 +2,5 @@ pub mod Complete
 pub mod Connections
 pub mod Steps
 pub mod Turns
+pub mod Works
 pub mod Written

@@ -1,5 +1,5 @@
 -- What the parts of a turn say and leave.
-use Rattle.std.specs.Prelude.{◌≡◌, ◌≤◌, ◌⊎◌, ◌||◌, ◌++◌, ℕ, Bool, true, List, length, Some, Result, Ok, Err, Option}
+use Rattle.std.specs.Prelude.{◌≡◌, ◌≤◌, ◌⊎◌, ◌||◌, ◌++◌, ℕ, Bool, true, List, length, Option, Some, None, Result, Ok, Err}
 use Rattle.hub_devices.specs.Streams.{Appends}
 use Rattle.http_wire.specs.Body.{RequestRefusedAt}
 use Rattle.http_wire.specs.Wire.{head_limit}
@@ -7,11 +7,17 @@ use Rattle.http_wire.specs.declared.error.WireError.{WireError}
 use Rattle.http_wire.specs.declared.error.WireError.TheVariants as wire
 use Rattle.hub_core.specs.declared.start.Start.{Start}
 use Rattle.hub_machine.specs.Replies as spec
-use Rattle.hub_machine.specs.Answers.{outcome_view}
+use Rattle.hub_machine.specs.Draws.{draws}
+use Rattle.hub_machine.specs.declared.call.Asked.{Asked}
+use Rattle.server_life.specs.declared.life.Todo.{Todo}
+use Rattle.server_work.specs.declared.tale.Tale.{Tale}
+use Rattle.hub_run.specs.Works.{tale_reply}
 use Rattle.hub_machine.specs.declared.reply.Outcome.{Outcome}
 use Rattle.hub_api.specs.Refusals.{wire_refusal}
 use Rattle.hub_api.specs.ReplyText.{reply_text, no_memory}
-use Rattle.hub_run.specs.Turns.{Turn, View, Moves, TurnAt, turn_text, closes}
+use Rattle.hub_run.specs.Turns.{Turn, View, Visit, Visits, IsDrawn, IsGiven, IsUndrawn, Moves, TurnAt, turn_text, closes}
+use Rattle.hub_run.specs.declared.visit.Unanswered.{Unanswered}
+use Rattle.hub_run.specs.declared.visit.Unanswered.TheVariants as missed
 use Rattle.hub_run.specs.declared.served.TurnEnd.{TurnEnd}
 use Rattle.hub_run.specs.declared.served.TurnEnd.TheVariants as end
 
@@ -19,10 +25,23 @@ use Rattle.hub_run.specs.declared.served.TurnEnd.TheVariants as end
 abbrev pub Says : spec.Reply → Bool → List ℕ → Bool → Type 0
 Says r close text closed = ((text ≡ reply_text r close) × (closed ≡ close)) ⊎ ((text ≡ no_memory) × (closed ≡ true))
 
--- the same of what a visit gave
-abbrev pub SaysOutcome : {E : Type 0} → Result Outcome E → Bool → List ℕ → Bool → Type 0
-SaysOutcome (Ok o) close text closed = (r : spec.Reply) × (outcome_view o ≡ spec.answered r) × Says r close text closed
-SaysOutcome (Err e) close text closed = (text ≡ no_memory) × (closed ≡ true)
+-- the reply of a chain is said, or there is a 507
+abbrev pub SaysTale : Todo → Option Tale → Bool → List ℕ → Bool → Type 0
+SaysTale owed None close text closed = (text ≡ no_memory) × (closed ≡ true)
+SaysTale owed (Some tale) close text closed =
+    ((r : spec.Reply) × (tale_reply owed tale ≡ Some r) × (text ≡ reply_text r close) × (closed ≡ close)) ⊎ ((text ≡ no_memory) × (closed ≡ true))
+
+-- a turn answers the request of this text, and moves the view from x to y
+abbrev pub Made : Start → View → View → List ℕ → Bool → List ℕ → Bool → Type 0
+Made start x y text last said closed =
+    (turn : Turn) × ((left : Option (List ℕ)) (rest : List ℕ) → TurnAt start left (text ++ rest) turn rest)
+    × Moves x turn y × (closed ≡ (closes turn || last)) × (said ≡ turn_text turn closed)
+
+-- what a call was answered, which was asked from the view x on
+abbrev pub Asks : Start → View → View → Asked → Result Outcome Unanswered → Type 0
+Asks start x y asked (Ok o) = (v : Visit) × Visits x v y × IsDrawn v asked × IsGiven start v asked o
+Asks start x y asked (Err missed.Memory) = (v : Visit) × Visits x v y × IsDrawn v asked × (v.after ≡ v.before)
+Asks start x y asked (Err missed.NoDraw) = (draws asked.call ≡ true) × IsUndrawn x y
 
 -- the refusal's text, or a 507
 abbrev pub Refuses : WireError → List ℕ → Type 0

@@ -1,43 +1,73 @@
--- The turns of a connection: what each reads, what it answers, and what it leaves of the pass and of the clock.
-use Rattle.std.specs.Prelude.{◌≡◌, ◌⊎◌, ℕ, ◌+◌, ◌≤◌, Bool, true, ltb, if◌then◌else◌, List, [], ◌∷◌, ◌++◌, Option, Some, None, Ok, Err}
+-- The turns of a connection: what each reads, what it answers, and what it leaves of the pass and of the devices.
+use Rattle.std.specs.Prelude.{◌≡◌, ◌⊎◌, ℕ, ◌+◌, ◌≤◌, Bool, true, ltb, if◌then◌else◌, List, [], ◌∷◌, ◌++◌, Option, Some, None, is_some, Ok, Err}
 use mathlib.Core.List.{IsPrefix}
 use Rattle.desk.specs.Passes.{PassState, IsSamePass}
 use Rattle.desk.specs.OwnEntries.{added}
 use Rattle.hub_devices.specs.ToCome.{Tells}
+use Rattle.hub_devices.specs.Faults.{Rises}
+use Rattle.hub_devices.specs.Streams.{Takes}
+use Rattle.hub_devices.specs.declared.calls.Spawning.{Spawning}
+use Rattle.hub_devices.specs.declared.calls.Routing.{Routing}
+use Rattle.hub_devices.specs.declared.calls.Told.{Told}
 use Rattle.http_wire.specs.declared.error.WireError.{WireError}
 use Rattle.http_wire.specs.declared.request.Request.{Request}
 use Rattle.http_wire.specs.Request.{IsRequestText}
 use Rattle.http_wire.specs.Body.{RequestRefusedAt, WithinRequest}
-use Rattle.hub_machine.specs.Replies.{Reply, answered}
+use Rattle.server_life.specs.declared.life.Todo.{Todo}
+use Rattle.server_work.specs.declared.work.Work.{Work}
+use Rattle.server_work.specs.declared.work.Device.{Device}
+use Rattle.server_work.specs.declared.work.Device.TheVariants.{Spawner, Proxy}
+use Rattle.server_work.specs.declared.tale.Tale.{Tale}
+use Rattle.server_work.specs.Chains.{At, Chain, ChainEnds}
+use Rattle.hub_machine.specs.Draws.{draws}
+use Rattle.hub_machine.specs.Replies.{Reply, answered, working}
 use Rattle.hub_machine.specs.Answers.{outcome_view}
-use Rattle.hub_core.specs.Visits.{Entry, AnsweredAt, FaultedAt}
-use Rattle.hub_core.specs.declared.start.Start.{Start}
+use Rattle.hub_machine.specs.declared.work.Work as owed
 use Rattle.hub_machine.specs.declared.call.Asked.{Asked}
 use Rattle.hub_machine.specs.declared.reply.Outcome.{Outcome}
+use Rattle.hub_core.specs.Visits.{Entry, AnsweredAt, FaultedAt}
+use Rattle.hub_core.specs.LifeBook.{LeadsToLives, Notes}
+use Rattle.hub_core.specs.declared.start.Start.{Start}
 use Rattle.hub_api.specs.Calls.{call_read}
-use Rattle.hub_api.specs.Refusals.{api_refusal, wire_refusal}
+use Rattle.hub_api.specs.Refusals.{api_refusal, no_draw, wire_refusal}
 use Rattle.hub_api.specs.ReplyText.{reply_text, no_memory}
 use Rattle.hub_api.specs.declared.refusal.ApiRefusal.{ApiRefusal}
+use Rattle.hub_run.specs.Works.{errand_of, path_for, tale_reply}
+use Rattle.hub_run.specs.declared.kit.HubKit.{HubKit}
 
--- a visit: its moment, the entries that it found and those that it left, and the keeper's counts of faults before and after it
+-- a visit: its moment and its draw, the entries that it found and those that it left, and the keeper's counts of faults before and after it
 pub record Visit : Type 0 where
   pub moment : ℕ
+  pub draw : Option (List ℕ)
   pub before : List Entry
   pub after : List Entry
   pub faults : ℕ
   pub faults_after : ℕ
 
+-- what a visit gave to be done: the call that is owed first, and the chain of calls from there, with what is told of it, unless it broke
+pub record Errand : Type 0 where
+  pub work : Work
+  pub owed : Todo
+  pub chain : Chain Entry
+  pub tale : Option Tale
+
 -- one request, or one refusal of the wire, with its reply
 pub data Turn : Type 0 where
   -- a request with its bytes whose call was answered by a visit, and the reply
   visited : List ℕ → Request → Visit → Reply → Turn
+  -- a request with its bytes whose call owed work, which was done, and the reply
+  worked : List ℕ → Request → Visit → Errand → Reply → Turn
   -- a request with its bytes that asks no call
   declined : List ℕ → Request → ApiRefusal → Turn
+  -- a request with its bytes whose call draws, for which no draw came
+  undrawn : List ℕ → Request → Turn
   -- bytes that are no request
   refused : WireError → Turn
   -- a request with its bytes whose call was visited, without memory for what the visit gave, or for the visit itself
   unsaid : List ℕ → Request → Visit → Turn
-  -- no memory, before any visit
+  -- a request with its bytes whose call owed work, which broke, or whose end found no memory to be kept, or without memory for the reply
+  unfinished : List ℕ → Request → Visit → Errand → Turn
+  -- no memory before any visit; a draw may have failed
   wanting : Turn
 
 -- ---- what is written
@@ -48,75 +78,152 @@ refusal_text (Some r) close = reply_text r close
 
 abbrev pub turn_text : Turn → Bool → List ℕ
 turn_text (visited text q v r) close = reply_text r close
+turn_text (worked text q v e r) close = reply_text r close
 turn_text (declined text q e) close = reply_text (api_refusal e) close
+turn_text (undrawn text q) close = reply_text no_draw close
 turn_text (refused e) close = refusal_text (wire_refusal e) close
 turn_text (unsaid text q v) close = no_memory
+turn_text (unfinished text q v e) close = no_memory
 turn_text wanting close = no_memory
 
 -- the connection is closed after it, whatever its place
 abbrev pub closes : Turn → Bool
 closes (visited text q v r) = q.close
+closes (worked text q v e r) = q.close
 closes (declined text q e) = q.close
+closes (undrawn text q) = q.close
 closes (refused e) = true
 closes (unsaid text q v) = true
+closes (unfinished text q v e) = true
 closes wanting = true
 
 -- ---- what is read
+
+-- a call that draws is visited with a draw, and another one without
+abbrev pub IsDrawn : Visit → Asked → Type 0
+IsDrawn v asked = is_some v.draw ≡ draws asked.call
 
 -- the visit gave this: what the state that the entries before it left answers, or a 503 where the keeper refused the rows of an answer that has
 -- some, and its count of faults rose
 abbrev pub IsGiven : Start → Visit → Asked → Outcome → Type 0
 IsGiven start v asked o =
-    AnsweredAt start v.before v.after v.moment None asked o ⊎ FaultedAt start v.before v.after v.faults v.faults_after v.moment None asked o
+    AnsweredAt start v.before v.after v.moment v.draw asked o ⊎ FaultedAt start v.before v.after v.faults v.faults_after v.moment v.draw asked o
 
 -- the reply says what the visit gave to the call of the request
-abbrev pub IsAnswered : Start → Request → Visit → Reply → Type 0
-IsAnswered start q v r =
-    (asked : Asked) × (o : Outcome) × (call_read q ≡ Ok asked) × IsGiven start v asked o × (outcome_view o ≡ answered r)
+pub record IsAnswered (start : Start) (q : Request) (v : Visit) (r : Reply) : Type 0 where
+  pub asked : Asked
+  pub outcome : Outcome
+  pub read : call_read q ≡ Ok asked
+  pub drawn : IsDrawn v asked
+  pub given : IsGiven start v asked outcome
+  pub said : outcome_view outcome ≡ answered r
+
+-- the visit gave this work to the call of the request, and the errand is that work by the path of the server that the call names
+pub record IsSent (start : Start) (q : Request) (v : Visit) (e : Errand) : Type 0 where
+  pub asked : Asked
+  pub outcome : Outcome
+  pub read : call_read q ≡ Ok asked
+  pub drawn : IsDrawn v asked
+  pub given : IsGiven start v asked outcome
+  pub work : owed.Work
+  pub gives : outcome_view outcome ≡ working work
+  pub first : e.owed ≡ work.todo
+  pub errand : e.work ≡ errand_of (path_for asked.call) work
+
+-- and the reply is that of what is told of its chain
+pub record IsWorked (start : Start) (q : Request) (v : Visit) (e : Errand) (r : Reply) : Type 0 where
+  pub sent : IsSent start q v e
+  pub tale : Tale
+  pub told : e.tale ≡ Some tale
+  pub reply : tale_reply e.owed tale ≡ Some r
 
 -- the entries that it left are those that it found, or those of what it gave to that call
 abbrev pub IsLeft : Start → Visit → Asked → Type 0
 IsLeft start v asked = (v.after ≡ v.before) ⊎ ((o : Outcome) × IsGiven start v asked o)
 
 -- the visit was for the call of the request
-abbrev pub IsUnsaid : Start → Request → Visit → Type 0
-IsUnsaid start q v = (asked : Asked) × (call_read q ≡ Ok asked) × IsLeft start v asked
+pub record IsUnsaid (start : Start) (q : Request) (v : Visit) : Type 0 where
+  pub asked : Asked
+  pub read : call_read q ≡ Ok asked
+  pub drawn : IsDrawn v asked
+  pub left : IsLeft start v asked
+
+-- the call of the request draws
+pub record Draws (q : Request) : Type 0 where
+  pub asked : Asked
+  pub read : call_read q ≡ Ok asked
+  pub draws : draws asked.call ≡ true
 
 -- the bytes of a turn's request
 abbrev pub request_bytes : Turn → List ℕ
 request_bytes (visited text q v r) = text
+request_bytes (worked text q v e r) = text
 request_bytes (declined text q e) = text
+request_bytes (undrawn text q) = text
 request_bytes (refused e) = []
 request_bytes (unsaid text q v) = text
+request_bytes (unfinished text q v e) = text
 request_bytes wanting = []
 
 -- a request, with the reply that it has to get
 abbrev pub IsRight : Start → Turn → Type 0
 IsRight start (visited text q v r) = IsRequestText q text × IsAnswered start q v r
+IsRight start (worked text q v e r) = IsRequestText q text × IsWorked start q v e r
 IsRight start (declined text q e) = IsRequestText q text × (call_read q ≡ Err e)
+IsRight start (undrawn text q) = IsRequestText q text × Draws q
 IsRight start (refused e) = ⊥
 IsRight start (unsaid text q v) = ⊥
+IsRight start (unfinished text q v e) = ⊥
 IsRight start wanting = ⊥
 
 -- the turn stands at the front of the bytes, and the rest goes on; a 507 takes no more than one request
 abbrev pub TurnAt : Start → Option (List ℕ) → List ℕ → Turn → List ℕ → Type 0
-TurnAt start left bytes (visited text q v r) rest =
-    IsRight start (visited text q v r) × (bytes ≡ text ++ rest)
+TurnAt start left bytes (visited text q v r) rest = IsRight start (visited text q v r) × (bytes ≡ text ++ rest)
+TurnAt start left bytes (worked text q v e r) rest = IsRight start (worked text q v e r) × (bytes ≡ text ++ rest)
 TurnAt start left bytes (declined text q e) rest = IsRight start (declined text q e) × (bytes ≡ text ++ rest)
+TurnAt start left bytes (undrawn text q) rest = IsRight start (undrawn text q) × (bytes ≡ text ++ rest)
 TurnAt start left bytes (refused e) rest =
     (r : Reply) × (gone : List ℕ) × (wire_refusal e ≡ Some r) × WithinRequest gone × (bytes ≡ gone ++ rest) × RequestRefusedAt left bytes e
 TurnAt start left bytes (unsaid text q v) rest = IsRequestText q text × IsUnsaid start q v × (bytes ≡ text ++ rest)
+TurnAt start left bytes (unfinished text q v e) rest = IsRequestText q text × IsSent start q v e × (bytes ≡ text ++ rest)
 TurnAt start left bytes wanting rest = (gone : List ℕ) × WithinRequest gone × (bytes ≡ gone ++ rest)
 
 -- ---- what it leaves
 
--- what a connection knows beside its bytes: its pass, and the moments to come
+-- how often the source of draws, the spawner and the route link have failed
+pub record Faults : Type 0 where
+  pub random : ℕ
+  pub spawner : ℕ
+  pub routes : ℕ
+
+-- what a connection knows beside its bytes: its pass, the moments and the draws to come, the calls that the spawner and the route link tell, and the faults
 pub record View : Type 0 where
   pub pass : PassState Entry Start
   pub clock : Option (ℕ → ℕ)
+  pub draws : Option (List (List ℕ))
+  pub spawner : Option (List (Spawning × Told))
+  pub routes : Option (List (Routing × Told))
+  pub faults : Faults
+
+-- what a connection knows of a pass and a kit of devices, by what these tell
+abbrev pub view_of : {S P C R : Type 0} → (C → Option (ℕ → ℕ)) → (R → Option (List (List ℕ))) → (S → Option (List (Spawning × Told))) → (P → Option (List (Routing × Told)))
+    → (R → ℕ) → (S → ℕ) → (P → ℕ) → PassState Entry Start → HubKit S P C R → View
+view_of to_come left spawned routed draw_faults spawn_faults route_faults pass kit = record {
+  pass = pass;
+  clock = to_come kit.clock;
+  draws = left kit.random;
+  spawner = spawned kit.spawner;
+  routes = routed kit.routes;
+  faults = record { random = draw_faults kit.random; spawner = spawn_faults kit.spawner; routes = route_faults kit.routes };
+}
+
+-- what was drawn was the first to come, if something was
+abbrev pub Drew : Option (List ℕ) → Option (List (List ℕ)) → ℕ → Option (List (List ℕ)) → ℕ → Type 0
+Drew None left faults left' faults' = (left' ≡ left) × (faults' ≡ faults)
+Drew (Some draw) left faults left' faults' = Takes left (draw ∷ []) left' × (faults ≤ faults')
 
 -- a visit by the pass of x: it stands after all that the pass had seen, and exactly there where nobody else is; so does the keeper's count of faults.
--- The pass counts it among those that met a failing keeper exactly where that count rose in it
+-- The pass counts it among those that met a failing keeper exactly where that count rose in it. The spawner and the route link aren't called
 pub record Visits (x : View) (v : Visit) (y : View) : Type 0 where
   pub begins : IsPrefix x.pass.seen v.before
   pub whole : x.pass.alone ≡ true → v.before ≡ x.pass.seen
@@ -130,13 +237,51 @@ pub record Visits (x : View) (v : Visit) (y : View) : Type 0 where
   pub grown : v.faults ≤ v.faults_after
   pub count : y.pass.faults ≡ v.faults_after
   pub told : Tells x.clock v.moment y.clock
+  pub drew : Drew v.draw x.draws x.faults.random y.draws y.faults.random
+  pub spawner : y.spawner ≡ x.spawner
+  pub routes : y.routes ≡ x.routes
+  pub others : (y.faults.spawner ≡ x.faults.spawner) × (y.faults.routes ≡ x.faults.routes)
+
+-- the pass, and the calls that the devices tell
+abbrev pub at_chain : View → At Entry Start
+at_chain x = record { pass = x.pass; spawner = x.spawner; routes = x.routes }
+
+-- the count of a device: it doesn't fall, and it rose where a call of this device was the first of the chain to fail
+abbrev pub IsCounted : Device → Option Tale → ℕ → ℕ → Type 0
+IsCounted device None before after = before ≤ after
+IsCounted device (Some tale) before after = (before ≤ after) × (tale.failed ≡ Some device → Rises before after)
+
+-- the chain of an errand was made from the view x on. It draws nothing and asks no moment
+pub record Drives (x : View) (e : Errand) (y : View) : Type 0 where
+  pub chain : ChainEnds LeadsToLives Notes e.work (at_chain x) e.owed e.chain e.tale (at_chain y)
+  pub clock : y.clock ≡ x.clock
+  pub draws : y.draws ≡ x.draws
+  pub random : y.faults.random ≡ x.faults.random
+  pub spawner : IsCounted Spawner e.tale x.faults.spawner y.faults.spawner
+  pub routes : IsCounted Proxy e.tale x.faults.routes y.faults.routes
+
+abbrev pub Works : View → Visit → Errand → View → Type 0
+Works x v e y = (z : View) × Visits x v z × Drives z e y
+
+-- no draw came, and all else is as before
+pub record IsUndrawn (x y : View) : Type 0 where
+  pub pass : y.pass ≡ x.pass
+  pub clock : y.clock ≡ x.clock
+  pub draws : y.draws ≡ x.draws
+  pub spawner : y.spawner ≡ x.spawner
+  pub routes : y.routes ≡ x.routes
+  pub failed : Rises x.faults.random y.faults.random
+  pub others : (y.faults.spawner ≡ x.faults.spawner) × (y.faults.routes ≡ x.faults.routes)
 
 abbrev pub Moves : View → Turn → View → Type 0
 Moves x (visited text q v r) y = Visits x v y
+Moves x (worked text q v e r) y = Works x v e y
 Moves x (declined text q e) y = y ≡ x
+Moves x (undrawn text q) y = IsUndrawn x y
 Moves x (refused e) y = y ≡ x
 Moves x (unsaid text q v) y = Visits x v y
-Moves x wanting y = y ≡ x
+Moves x (unfinished text q v e) y = Works x v e y
+Moves x wanting y = (y ≡ x) ⊎ IsUndrawn x y
 
 -- one turn after the other
 abbrev pub Turns : View → List Turn → View → Type 0

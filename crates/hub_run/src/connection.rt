@@ -4,7 +4,9 @@ ghost use Rattle.hub_api.specs.Paths.{IsRouter};
 ghost use Rattle.hub_core.specs.declared.start.Start.{Start};
 ghost use Rattle.hub_devices.specs.Faults.{Rises};
 ghost use Rattle.hub_run.specs.Connections.{ConnectionEnds};
+ghost use Rattle.hub_run.specs.Turns.{view_of};
 
+use crate::kit::HubKit;
 use crate::served::{Served, TurnEnd};
 use crate::turn::turn;
 use desk::{Desk, Pass};
@@ -14,8 +16,11 @@ use http_wire::writes::write_all;
 use hub_api::{ApiRouter, new_router, no_memory};
 use hub_core::book::Book;
 use hub_devices::clock::Clock;
+use hub_devices::random::Random;
+use hub_devices::route_link::RouteLink;
 use hub_devices::sink::Sink;
 use hub_devices::source::Source;
+use hub_devices::spawner::Spawner;
 use hub_machine::change::Change;
 use keeper::keeper::Keeper;
 use keeper::trail::Trail;
@@ -28,14 +33,24 @@ pub const REPLY_LIMIT: u64 = 1000;
 /// Serves one connection: reads requests one after the other and writes one reply for each. It ends where the input ends,
 /// after a reply that closes the connection (one that a request asks to be the last, one to HTTP/1.0, a refusal of the
 /// wire, a 507, or the thousandth), or at the first fault of the source or the sink.
-pub fn serve_connection<K: Keeper, T: Trail<Entry = Change>, I: Source, O: Sink, C: Clock, W: Wait>(
+pub fn serve_connection<
+    K: Keeper,
+    T: Trail<Entry = Change>,
+    I: Source,
+    O: Sink,
+    S: Spawner,
+    P: RouteLink,
+    C: Clock,
+    R: Random,
+    W: Wait,
+>(
     rt: &W,
     alloc: Global,
     desk: &Desk<Book<K, T>>,
     pass: &mut Pass<Book<K, T>>,
     input: &mut I,
     output: &mut O,
-    clock: &mut C,
+    kit: &mut HubKit<S, P, C, R>,
 ) -> Result<Served, SessionFault>
     requires { pass.old.of ≡ desk.now }
     ensures of { pass.new.of ≡ pass.old.of }
@@ -43,8 +58,8 @@ pub fn serve_connection<K: Keeper, T: Trail<Entry = Change>, I: Source, O: Sink,
     ensures alone { pass.new.alone ≡ pass.old.alone }
     ensures ends { (start : Start) → pass.old.base ≡ Some start
         → ConnectionEnds start
-        (record { pass = pass.old; clock = C.to_come clock.old }) (I.left input.old) (O.held output.old)
-        (record { pass = pass.new; clock = C.to_come clock.new }) (I.left input.new) (O.held output.new) result }
+        (view_of C.to_come R.left S.calls P.calls R.faults S.faults P.faults pass.old kit.old) (I.left input.old) (O.held output.old)
+        (view_of C.to_come R.left S.calls P.calls R.faults S.faults P.faults pass.new kit.new) (I.left input.new) (O.held output.new) result }
     ensures reads { I.faults input.old ≤ I.faults input.new }
     ensures writes { O.faults output.old ≤ O.faults output.new }
     ensures read_fault { (n : ℕ) → result ≡ Err (SessionFault.ReadFault n) → Rises (I.faults input.old) (I.faults input.new) }
@@ -54,7 +69,7 @@ pub fn serve_connection<K: Keeper, T: Trail<Entry = Change>, I: Source, O: Sink,
         Ok(router) => {
             let mut kept = WireBuffer::new(alloc);
             let served = serve_turns(
-                rt, alloc, &router, desk, pass, input, output, &mut kept, clock,
+                rt, alloc, &router, desk, pass, input, output, &mut kept, kit,
             );
             drop(kept);
             drop(router);
@@ -68,7 +83,17 @@ pub fn serve_connection<K: Keeper, T: Trail<Entry = Change>, I: Source, O: Sink,
 }
 
 /// The turns of a connection, by a router and a buffer of its own.
-fn serve_turns<K: Keeper, T: Trail<Entry = Change>, I: Source, O: Sink, C: Clock, W: Wait>(
+fn serve_turns<
+    K: Keeper,
+    T: Trail<Entry = Change>,
+    I: Source,
+    O: Sink,
+    S: Spawner,
+    P: RouteLink,
+    C: Clock,
+    R: Random,
+    W: Wait,
+>(
     rt: &W,
     alloc: Global,
     router: &ApiRouter,
@@ -77,7 +102,7 @@ fn serve_turns<K: Keeper, T: Trail<Entry = Change>, I: Source, O: Sink, C: Clock
     input: &mut I,
     output: &mut O,
     kept: &mut WireBuffer,
-    clock: &mut C,
+    kit: &mut HubKit<S, P, C, R>,
 ) -> Result<Served, SessionFault>
     requires of { pass.old.of ≡ desk.now }
     requires routed { IsRouter router.now }
@@ -87,8 +112,8 @@ fn serve_turns<K: Keeper, T: Trail<Entry = Change>, I: Source, O: Sink, C: Clock
     ensures alone { pass.new.alone ≡ pass.old.alone }
     ensures ends { (start : Start) → pass.old.base ≡ Some start
         → ConnectionEnds start
-        (record { pass = pass.old; clock = C.to_come clock.old }) (I.left input.old) (O.held output.old)
-        (record { pass = pass.new; clock = C.to_come clock.new }) (I.left input.new) (O.held output.new) result }
+        (view_of C.to_come R.left S.calls P.calls R.faults S.faults P.faults pass.old kit.old) (I.left input.old) (O.held output.old)
+        (view_of C.to_come R.left S.calls P.calls R.faults S.faults P.faults pass.new kit.new) (I.left input.new) (O.held output.new) result }
     ensures reads { I.faults input.old ≤ I.faults input.new }
     ensures writes { O.faults output.old ≤ O.faults output.new }
     ensures read_fault { (n : ℕ) → result ≡ Err (SessionFault.ReadFault n) → Rises (I.faults input.old) (I.faults input.new) }
@@ -105,7 +130,7 @@ fn serve_turns<K: Keeper, T: Trail<Entry = Change>, I: Source, O: Sink, C: Clock
             input,
             output,
             kept,
-            clock,
+            kit,
             count + 1 == REPLY_LIMIT,
         ) {
             Ok(close) => {

@@ -1,11 +1,12 @@
 //! What the contract of a connection comes to.
-ghost use Rattle.std.specs.Prelude.{◌≡◌, ◌<◌, ◌+◌, ◌-◌, ◌^◌, ◌⊎◌, ◌++◌, ◌∷◌, ℕ, true, List, Option};
+ghost use Rattle.std.specs.Prelude.{◌≡◌, ◌<◌, ◌+◌, ◌-◌, ◌^◌, ◌⊎◌, ◌++◌, ◌∷◌, ℕ, true, false, List, Option};
 ghost use Rattle.http_wire.specs.Request.{IsRequestText};
 ghost use Rattle.http_wire.specs.declared.request.Request.{Request};
 ghost use Rattle.hub_core.specs.declared.start.Start.{Start};
+ghost use Rattle.hub_devices.specs.Faults.{Rises};
 ghost use Rattle.hub_machine.specs.Replies.{Answer, Reply};
-ghost use Rattle.hub_run.specs.Complete.{IsOf, IsDue, IsDone, IsUndone, IsServed};
-ghost use Rattle.hub_run.specs.Turns.{Turn, Turns, TurnAt, View, Visit, Visits, IsAnswered};
+ghost use Rattle.hub_run.specs.Complete.{IsOf, IsDue, IsDone, IsUndone, IsServed, IsSetOut, IsOfFault, is_work};
+ghost use Rattle.hub_run.specs.Turns.{Turn, Turns, TurnAt, View, Visit, Visits, Errand, Works, Moves, IsAnswered, IsSent, IsWorked, undrawn};
 
 use http_wire::laws::next_request_is_one;
 
@@ -18,15 +19,19 @@ pub fn a_request_gets_its_turn()
 }
 
 /// Over a history that is told, a visited request has the reply of the one answer that the definition gives to its call in the
-/// state and at the moment of the visit, with the answer's change as the visit's entry; or 503 `keeper` with no entry, only
-/// where the answer has a change and the keeper's count of faults rose in that visit.
+/// state, at the moment and with the draw of the visit, with the answer's change as the visit's entry; or 503 `keeper` with no entry,
+/// only where the answer has a change and the keeper's count of faults rose in that visit. Where that answer owes work, it is what
+/// was done.
 pub fn a_visited_request_gets_its_answer()
-    ensures { (start : Start) (request : Request) (v : Visit) (r : Reply) (a : Answer) → start.tells ≡ true
+    ensures answered { (start : Start) (request : Request) (v : Visit) (r : Reply) (a : Answer) → start.tells ≡ true
         → IsAnswered start request v r → IsDue start request v a → IsDone start v r a ⊎ IsUndone v r a }
+    ensures sent { (start : Start) (request : Request) (v : Visit) (e : Errand) (a : Answer) → start.tells ≡ true
+        → IsSent start request v e → IsDue start request v a → IsSetOut start request v e a }
 {}
 
 /// On a connection in which no visit was counted among those that met a failing keeper, over a history that is told, the turn of each
-/// request gives it the reply of the definition's answer, whatever its call, or the refusal of a request that asks no call, or a 507.
+/// request gives it the reply of the definition's answer, whatever its call, or of the chain that this answer owes, or the refusal of a
+/// request that asks no call, or a 503 where no draw came, or a 507.
 pub fn a_request_without_faults_is_served()
     ensures { (start : Start) (x y : View) (before after : List Turn) (turn : Turn) (left : Option (List ℕ)) (text more rest : List ℕ) (request : Request)
         → start.tells ≡ true → Turns x (before ++ turn ∷ after) y → y.pass.failed ≡ x.pass.failed → y.pass.faults < 2 ^ 64 - 1
@@ -36,9 +41,18 @@ pub fn a_request_without_faults_is_served()
 }
 
 /// A visited request is answered 503 only where the keeper refused its rows, and the pass counts this visit and knows the count of faults that
-/// rose in it, unless the keeper's count stood at its greatest.
+/// rose in it, unless the keeper's count stood at its greatest. A worked request is answered 503 only by a refusal that names the spawner,
+/// the proxy or the keeper, whose count rose meanwhile; and one for which no draw came only where the count of the draws' source rose.
 pub fn a_503_is_counted()
-    ensures { (start : Start) (x y : View) (request : Request) (v : Visit) (r : Reply)
+    ensures visited { (start : Start) (x y : View) (request : Request) (v : Visit) (r : Reply)
         → IsAnswered start request v r → Visits x v y → r.status ≡ 503 → v.faults < 2 ^ 64 - 1
         → (y.pass.failed ≡ x.pass.failed + 1) × (x.pass.faults < y.pass.faults) }
+    ensures worked { (start : Start) (x y : View) (request : Request) (v : Visit) (e : Errand) (r : Reply)
+        → IsWorked start request v e r → Works x v e y → r.status ≡ 503 → y.pass.faults < 2 ^ 64 - 1 → IsOfFault x y r }
+    ensures undrawn { (x y : View) (text : List ℕ) (request : Request) → Moves x (undrawn text request) y → Rises x.faults.random y.faults.random }
+{}
+
+/// A turn that isn't work makes no call on the spawner or the route link.
+pub fn only_work_makes_calls()
+    ensures { (x y : View) (turn : Turn) → Moves x turn y → is_work turn ≡ false → (y.spawner ≡ x.spawner) × (y.routes ≡ x.routes) }
 {}

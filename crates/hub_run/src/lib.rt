@@ -5,15 +5,18 @@
 
 mod answering;
 mod connection;
+mod kit;
 mod laws;
 mod served;
 mod turn;
 mod visit;
+mod works;
 mod written;
 
 pub use connection::{REPLY_LIMIT, serve_connection};
+pub use kit::HubKit;
 pub use laws::{
     a_503_is_counted, a_request_gets_its_turn, a_request_without_faults_is_served,
-    a_visited_request_gets_its_answer,
+    a_visited_request_gets_its_answer, only_work_makes_calls,
 };
 pub use served::Served;

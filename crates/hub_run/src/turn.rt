@@ -8,10 +8,11 @@ ghost use Rattle.http_wire.specs.Wire.{head_limit};
 ghost use Rattle.hub_api.specs.Paths.{IsRouter};
 ghost use Rattle.hub_core.specs.declared.start.Start.{Start};
 ghost use Rattle.hub_run.specs.Steps.{StopsAt, TurnEnds};
-ghost use Rattle.hub_run.specs.Turns.{Turn, TurnAt, Moves, turn_text, closes};
+ghost use Rattle.hub_run.specs.Turns.{Turn, TurnAt, Moves, turn_text, closes, view_of};
 ghost use Rattle.hub_run.specs.Written.{written_bytes};
 
 use crate::answering::answer;
+use crate::kit::HubKit;
 use crate::served::TurnEnd;
 use crate::written::{Written, text_of_wire};
 use desk::{Desk, Pass};
@@ -22,8 +23,11 @@ use http_wire::writes::write_all;
 use hub_api::ApiRouter;
 use hub_core::book::Book;
 use hub_devices::clock::Clock;
+use hub_devices::random::Random;
+use hub_devices::route_link::RouteLink;
 use hub_devices::sink::Sink;
 use hub_devices::source::Source;
+use hub_devices::spawner::Spawner;
 use hub_machine::change::Change;
 use keeper::keeper::Keeper;
 use keeper::trail::Trail;
@@ -31,7 +35,16 @@ use std::alloc::Global;
 use std::sync::Wait;
 
 /// Reads what comes next, and makes its reply. `true` says that the connection is to be closed.
-fn next_reply<K: Keeper, T: Trail<Entry = Change>, I: Source, C: Clock, W: Wait>(
+fn next_reply<
+    K: Keeper,
+    T: Trail<Entry = Change>,
+    I: Source,
+    S: Spawner,
+    P: RouteLink,
+    C: Clock,
+    R: Random,
+    W: Wait,
+>(
     rt: &W,
     alloc: Global,
     router: &ApiRouter,
@@ -39,7 +52,7 @@ fn next_reply<K: Keeper, T: Trail<Entry = Change>, I: Source, C: Clock, W: Wait>
     pass: &mut Pass<Book<K, T>>,
     input: &mut I,
     kept: &mut WireBuffer,
-    clock: &mut C,
+    kit: &mut HubKit<S, P, C, R>,
     last: bool,
 ) -> Result<(Written, bool), TurnEnd>
     requires of { pass.old.of ≡ desk.now }
@@ -50,16 +63,17 @@ fn next_reply<K: Keeper, T: Trail<Entry = Change>, I: Source, C: Clock, W: Wait>
     ensures last { IfOk result (λ r. last ≡ true → r.1 ≡ true) }
     ensures ok { (start : Start) → pass.old.base ≡ Some start → IfOk result (λ r. (turn : Turn) × (bytes : List ℕ)
         × Took (I.left input.old) kept.old (I.left input.new) bytes × TurnAt start (I.left input.new) bytes turn kept.new
-        × Moves (record { pass = pass.old; clock = C.to_come clock.old }) turn (record { pass = pass.new; clock = C.to_come clock.new })
+        × Moves (view_of C.to_come R.left S.calls P.calls R.faults S.faults P.faults pass.old kit.old) turn (view_of C.to_come R.left S.calls P.calls R.faults S.faults P.faults pass.new kit.new)
         × (r.1 ≡ (closes turn || last)) × (written_bytes r.0 ≡ turn_text turn r.1)) }
     ensures err { IfErr result (λ e. (bytes : List ℕ) × Took (I.left input.old) kept.old (I.left input.new) bytes
-        × StopsAt (I.left input.new) bytes e × (pass.new ≡ pass.old) × (C.to_come clock.new ≡ C.to_come clock.old)) }
+        × StopsAt (I.left input.new) bytes e
+        × (view_of C.to_come R.left S.calls P.calls R.faults S.faults P.faults pass.new kit.new ≡ view_of C.to_come R.left S.calls P.calls R.faults S.faults P.faults pass.old kit.old)) }
     ensures kept { length kept.new ≤ head_limit }
     ensures counted { I.faults input.old ≤ I.faults input.new }
     ensures cause { result ≡ Err TurnEnd.ReadFault → Rises (I.faults input.old) (I.faults input.new) }
 {
     match read_request(alloc, input, kept) {
-        Ok(request) => Ok(answer(rt, alloc, router, desk, pass, clock, request, last)),
+        Ok(request) => Ok(answer(rt, alloc, router, desk, pass, kit, request, last)),
         Err(WireError::Ended) => Err(TurnEnd::Ended),
         Err(WireError::Cut) => Err(TurnEnd::Cut),
         Err(WireError::ReadFault) => Err(TurnEnd::ReadFault),
@@ -68,7 +82,17 @@ fn next_reply<K: Keeper, T: Trail<Entry = Change>, I: Source, C: Clock, W: Wait>
 }
 
 /// Reads what comes next and writes its reply. `true` says that the connection is to be closed.
-pub(crate) fn turn<K: Keeper, T: Trail<Entry = Change>, I: Source, O: Sink, C: Clock, W: Wait>(
+pub(crate) fn turn<
+    K: Keeper,
+    T: Trail<Entry = Change>,
+    I: Source,
+    O: Sink,
+    S: Spawner,
+    P: RouteLink,
+    C: Clock,
+    R: Random,
+    W: Wait,
+>(
     rt: &W,
     alloc: Global,
     router: &ApiRouter,
@@ -77,7 +101,7 @@ pub(crate) fn turn<K: Keeper, T: Trail<Entry = Change>, I: Source, O: Sink, C: C
     input: &mut I,
     output: &mut O,
     kept: &mut WireBuffer,
-    clock: &mut C,
+    kit: &mut HubKit<S, P, C, R>,
     last: bool,
 ) -> Result<bool, TurnEnd>
     requires of { pass.old.of ≡ desk.now }
@@ -88,12 +112,12 @@ pub(crate) fn turn<K: Keeper, T: Trail<Entry = Change>, I: Source, O: Sink, C: C
     ensures last { IfOk result (λ close. last ≡ true → close ≡ true) }
     ensures ok { (start : Start) → pass.old.base ≡ Some start → IfOk result (λ close. (turn : Turn) × (bytes : List ℕ)
         × Took (I.left input.old) kept.old (I.left input.new) bytes × TurnAt start (I.left input.new) bytes turn kept.new
-        × Moves (record { pass = pass.old; clock = C.to_come clock.old }) turn (record { pass = pass.new; clock = C.to_come clock.new })
+        × Moves (view_of C.to_come R.left S.calls P.calls R.faults S.faults P.faults pass.old kit.old) turn (view_of C.to_come R.left S.calls P.calls R.faults S.faults P.faults pass.new kit.new)
         × (close ≡ (closes turn || last))
         × Appends (O.held output.old) (turn_text turn close) (O.held output.new)) }
     ensures err { (start : Start) → pass.old.base ≡ Some start → IfErr result (λ e. (bytes : List ℕ)
         × Took (I.left input.old) kept.old (I.left input.new) bytes
-        × TurnEnds start last (record { pass = pass.old; clock = C.to_come clock.old }) (record { pass = pass.new; clock = C.to_come clock.new })
+        × TurnEnds start last (view_of C.to_come R.left S.calls P.calls R.faults S.faults P.faults pass.old kit.old) (view_of C.to_come R.left S.calls P.calls R.faults S.faults P.faults pass.new kit.new)
         (I.left input.new) (O.held output.old) (O.held output.new) bytes e) }
     ensures kept { length kept.new ≤ head_limit }
     ensures reads { I.faults input.old ≤ I.faults input.new }
@@ -101,7 +125,7 @@ pub(crate) fn turn<K: Keeper, T: Trail<Entry = Change>, I: Source, O: Sink, C: C
     ensures read_fault { result ≡ Err TurnEnd.ReadFault → Rises (I.faults input.old) (I.faults input.new) }
     ensures write_fault { result ≡ Err TurnEnd.WriteFault → Rises (O.faults output.old) (O.faults output.new) }
 {
-    match next_reply(rt, alloc, router, desk, pass, input, kept, clock, last) {
+    match next_reply(rt, alloc, router, desk, pass, input, kept, kit, last) {
         Ok((written, close)) => match write_all(output, written.as_slice()) {
             Ok(()) => {
                 drop(written);

@@ -15,7 +15,7 @@ returns-in-Ok-write_all-clause-ends g c = λ start base. (
   only_wanting start _ _ _ _
       (subst (λ (text : List ℕ). Appends (g.O.Sink.held c.args.output.now) text (g.O.Sink.held c.write_all.new.output))
       c.no_memory.ensures c.in-Ok-write_all.ensures.ok),
-  (_, refl, refl),
+  (_, inl refl, refl),
   (([], inl refl, refl), omega arith),
   refl,
 )
@@ -31,7 +31,7 @@ returns-in-Err-write_all-clause-ends g c = λ start base.
       broken.1,
       (refl, omega arith),
       only_wanting start _ _ _ broken.0 broken.3,
-      (_, refl, refl),
+      (_, inl refl, refl),
       (([], inl refl, refl), omega arith),
       sym c.no_memory.ensures ∙ broken.2,
     )

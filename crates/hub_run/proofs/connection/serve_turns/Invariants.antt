@@ -1,6 +1,6 @@
 use Rattle.std.proofs.Common.{◌≡◌, ◌≤◌, ◌<◌, ◌-◌, [], List, length, Some}
 use Rattle.hub_core.specs.declared.start.Start.{Start}
-use Rattle.hub_run.specs.Turns.{Turn, Turns}
+use Rattle.hub_run.specs.Turns.{Turn, Turns, view_of}
 use Rattle.hub_run.specs.Connections.{Ran}
 use Rattle.hub_run.proofs.connection.serve_turns.Given as goal
 
@@ -11,7 +11,8 @@ invariant-turns g l = record {
   alone : l.pass.alone ≡ l.fn.pass.alone;
   ran : (start : Start) → l.fn.pass.base ≡ Some start → (turns : List Turn) × (length turns ≡ l.count)
       × Ran start (g.I.Source.left l.fn.input) (g.O.Sink.held l.fn.output) (g.I.Source.left l.input) (g.O.Sink.held l.output) turns l.kept []
-      × Turns (record { pass = l.fn.pass; clock = g.C.Clock.to_come l.fn.clock }) turns (record { pass = l.pass; clock = g.C.Clock.to_come l.clock });
+      × Turns (view_of g.C.Clock.to_come g.R.Random.left g.S.Spawner.calls g.P.RouteLink.calls g.R.Random.faults g.S.Spawner.faults g.P.RouteLink.faults l.fn.pass l.fn.kit) turns
+      (view_of g.C.Clock.to_come g.R.Random.left g.S.Spawner.calls g.P.RouteLink.calls g.R.Random.faults g.S.Spawner.faults g.P.RouteLink.faults l.pass l.kit);
   below : l.count < 1000;
   reads : g.I.Source.faults l.fn.input ≤ g.I.Source.faults l.input;
   writes : g.O.Sink.faults l.fn.output ≤ g.O.Sink.faults l.output;

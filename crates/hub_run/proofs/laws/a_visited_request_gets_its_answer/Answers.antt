@@ -1,7 +1,10 @@
 use Rattle.hub_core.proofs.OneAnswer.{one_answer}
 use Rattle.hub_core.proofs.Places.{one_state}
-use Rattle.hub_run.proofs.CompleteLemmas.{its_answer}
+use Rattle.hub_run.proofs.CompleteLemmas.{its_answer, its_work}
 use Rattle.hub_run.proofs.laws.a_visited_request_gets_its_answer.Goals as goal
 
-pub returns : goal.returns
-returns c = its_answer one_state one_answer
+pub returns-clause-answered : goal.returns-clause-answered
+returns-clause-answered c = its_answer one_state one_answer
+
+pub returns-clause-sent : goal.returns-clause-sent
+returns-clause-sent c = its_work one_state one_answer

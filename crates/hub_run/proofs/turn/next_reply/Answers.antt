@@ -19,17 +19,17 @@ returns-in-Ok-clause-ok g c = λ start base.
 pub returns-in-Err-Ended-clause-err : goal.returns-in-Err-Ended-clause-err
 returns-in-Err-Ended-clause-err g c =
     let found = rw c.in-Err-Ended.field-0-is at c.in-Err-Ended.ensures.err in
-    (found.0 ++ c.read_request.new.kept, found.2, found.3, refl, refl)
+    (found.0 ++ c.read_request.new.kept, found.2, found.3, refl)
 
 pub returns-in-Err-Cut-clause-err : goal.returns-in-Err-Cut-clause-err
 returns-in-Err-Cut-clause-err g c =
     let found = rw c.in-Err-Cut.field-0-is at c.in-Err-Cut.ensures.err in
-    (found.0 ++ c.read_request.new.kept, found.2, found.3, refl, refl)
+    (found.0 ++ c.read_request.new.kept, found.2, found.3, refl)
 
 pub returns-in-Err-ReadFault-clause-err : goal.returns-in-Err-ReadFault-clause-err
 returns-in-Err-ReadFault-clause-err g c =
     let found = rw c.in-Err-ReadFault.field-0-is at c.in-Err-ReadFault.ensures.err in
-    (found.0 ++ c.read_request.new.kept, found.2, found.3, refl, refl)
+    (found.0 ++ c.read_request.new.kept, found.2, found.3, refl)
 
 pub returns-in-Err : goal.returns-in-Err
 returns-in-Err g c =

@@ -1,7 +1,7 @@
 use Rattle.std.proofs.Common.{◌∙◌, ℕ, Bool, List, ap, sym, subst}
 use Rattle.hub_devices.specs.Streams.{Appends}
 use Rattle.hub_run.specs.Turns.{turn_text}
-use Rattle.hub_run.proofs.AnswerLemmas.{stops, same_view}
+use Rattle.hub_run.proofs.AnswerLemmas.{stops}
 use Rattle.hub_run.proofs.turn.turn.Goals as goal
 
 pub returns-in-Ok-write_all-clause-ok : goal.returns-in-Ok-write_all-clause-ok
@@ -39,4 +39,4 @@ returns-in-Err-write_all-clause-err g c = λ start base.
 pub returns-in-Err-clause-err : goal.returns-in-Err-clause-err
 returns-in-Err-clause-err g c = λ start base.
     let found = c.in-Err.ensures.err in
-    (found.0, found.1, stops start _ _ _ _ _ found.0 c.in-Err.end found.2 (same_view _ _ _ _ found.3 found.4))
+    (found.0, found.1, stops start _ _ _ _ _ found.0 c.in-Err.end found.2 found.3)

@@ -1,31 +1,21 @@
-use Rattle.std.proofs.Common.{None, subst}
+use Rattle.std.proofs.Common.{Ok, Err, refl, subst}
 use Rattle.hub_core.specs.Visits.{entries_of, VisitedAt}
 use Rattle.hub_core.specs.declared.ask.Ask.{Ask}
-use Rattle.hub_run.specs.Turns.{Visit}
-use Rattle.hub_run.proofs.AnswerLemmas.{from_start}
+use Rattle.hub_run.proofs.AnswerLemmas.{asked_of}
 use Rattle.hub_run.proofs.visit.ask.Goals as goal
 
-pub returns-clause-answers : goal.returns-clause-answers
-returns-clause-answers g c = λ start base.
-    let visit = c.visit-outcome.ensures.visit in
-    let found = visit.3 in
-    let made : Visit = record { moment = c.now-now.result; before = entries_of visit.0; after = entries_of visit.1; faults = visit.0.faults; faults_after = visit.1.faults } in (
-      made,
-      record {
-        begins = found.begins;
-        whole = found.whole;
-        appends = found.appends;
-        same = found.same;
-        seen = found.seen;
-        mine = found.mine;
-        failed = found.failed;
-        known = found.known;
-        exact = found.exact;
-        grown = found.grown;
-        count = found.count;
-        told = c.now-now.ensures;
-      },
-      from_start c.args.pass.now.base visit.0.start start made c.args.asked c.visit-outcome.result found.found_base base
-          (subst (λ (job : Ask). VisitedAt visit.0.start (entries_of visit.0) (entries_of visit.1) visit.0.faults visit.1.faults job.now job.draw job.asked c.visit-outcome.result)
-          c.new-ask.ensures visit.2),
-    )
+pub returns-in-Ok-outcome-clause-asks : goal.returns-in-Ok-outcome-clause-asks
+returns-in-Ok-outcome-clause-asks g c = λ start base.
+    let visit = c.in-Ok-outcome.ensures.visit in
+    asked_of {E = Unit {0}} start _ _ c.args.asked c.in-Ok.draw c.now-now.result visit.0 visit.1 (Ok c.in-Ok-outcome.outcome) base
+    c.in-Ok.ensures.drawn.0 c.in-Ok.ensures.drawn.1 c.now-now.ensures (refl, refl, refl, refl) visit.3
+    (subst (λ (job : Ask). VisitedAt {E = Unit {0}} visit.0.start (entries_of visit.0) (entries_of visit.1) visit.0.faults visit.1.faults job.now job.draw job.asked (Ok c.in-Ok-outcome.outcome))
+    c.new-ask.ensures visit.2.0)
+
+pub returns-in-Err-outcome-clause-asks : goal.returns-in-Err-outcome-clause-asks
+returns-in-Err-outcome-clause-asks g c = λ start base.
+    let visit = c.in-Err-outcome.ensures.visit in
+    asked_of start _ _ c.args.asked c.in-Ok.draw c.now-now.result visit.0 visit.1 (Err c.in-Err-outcome.field-0) base
+    c.in-Ok.ensures.drawn.0 c.in-Ok.ensures.drawn.1 c.now-now.ensures (refl, refl, refl, refl) visit.3
+    (subst (λ (job : Ask). VisitedAt visit.0.start (entries_of visit.0) (entries_of visit.1) visit.0.faults visit.1.faults job.now job.draw job.asked (Err c.in-Err-outcome.field-0))
+    c.new-ask.ensures visit.2.0)

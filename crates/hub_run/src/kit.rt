@@ -1,0 +1,10 @@
+//! The devices of a connection, but for its bytes.
+
+/// What starts programs, adds routes, tells the time and gives random bytes.
+#[derive(Drop)]
+pub struct HubKit<S, P, C, R> {
+    pub spawner: S,
+    pub routes: P,
+    pub clock: C,
+    pub random: R,
+}
