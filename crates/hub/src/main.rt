@@ -1,10 +1,17 @@
-//! The hub: a thin main over `hub_main::run`, with the process's words, standard input and standard output, and a store in memory.
-//! What it does is the contract of `run`; the two devices tell no content, so what the system gave and took isn't known.
+//! The hub: a thin main over `hub_main::run`, with the process's words, standard input, standard output and random bytes, and a store,
+//! a spawner and a route link in memory. What it does is the contract of `run`; the streams and the random bytes tell no content, so what
+//! the system gave and took isn't known.
 #![tactic(auto)]
 
+use hub_devices::mem_clock::FixedClock;
+use hub_devices::mem_routes::MemRouteLink;
+use hub_devices::mem_spawner::MemSpawner;
 use hub_devices::streams::{ReaderSource, WriterSink};
+use hub_kit::moment::Moment;
 use hub_kit::text::Text;
 use hub_main::run::{Outside, run};
+use hub_main::system_random::SystemRandom;
+use hub_run::HubKit;
 use keeper::mem_keeper::MemKeeper;
 use std::io::ErrorKind;
 use std::process::ExitCode;
@@ -39,6 +46,13 @@ fn main(rt: HostRuntime) -> ExitCode {
         input: ReaderSource::new(rt.reader()),
         output: WriterSink::new(io::writer(&rt)),
         store: Some(store),
+        kit: HubKit {
+            spawner: MemSpawner::new(alloc, Vec::new(alloc)),
+            routes: MemRouteLink::new(alloc, Vec::new(alloc)),
+            // each command sets it
+            clock: FixedClock(Moment::zero()),
+            random: SystemRandom::new(&rt),
+        },
     };
     ExitCode::from(run(&rt, alloc, words.as_slice(), &mut outside))
 }

@@ -13,7 +13,7 @@ use Rattle.hub_machine.specs.State.{Hub}
 use Rattle.hub_machine.specs.declared.change.Change.{Change}
 use Rattle.hub_run.specs.declared.served.Served as served
 use Rattle.hub_run.specs.declared.served.Served.TheVariants.{Ended, Cut, Closed}
-use Rattle.hub_main.specs.Sessions.{Sides, IsQuiet, IsServed, IsBad, SessionEnds, RunEnds, config_of, start_of, status_of}
+use Rattle.hub_main.specs.Sessions.{Sides, IsQuiet, IsServed, IsBad, SessionEnds, RunEnds, config_of, start_of, status_of, view_with}
 use Rattle.hub_words.specs.declared.session.SessionWords.{SessionWords}
 
 -- no end of a connection has the status of an opening that was refused
@@ -42,7 +42,7 @@ module _ {K : Type 0} (Tells : K → Type 0) (rows : K → Rows) (faults : K →
   pub session_served : (words : SessionWords) (made : Standing) (pass : PassState Entry Start) (table : TableId) (s s' : Sides K) (status : ℕ)
       → HasOpened (config_of words) words.now (Some []) (faults s.store) made
       → pass ≡ opening table made.start (entries_of made) made.faults
-      → ((start : Start) → pass.base ≡ Some start → IsServed Tells rows faults start (record { pass = pass; clock = Some (λ k. words.now) }) s s' status)
+      → ((start : Start) → pass.base ≡ Some start → IsServed Tells rows faults start (view_with pass words.now s.kit) s s' status)
       → SessionEnds Tells rows faults words s s' status
   session_served words made pass table s s' status has first served_so =
       let first' : pass ≡ opening table (start_of words) [] made.faults =
@@ -51,7 +51,7 @@ module _ {K : Type 0} (Tells : K → Type 0) (rows : K → Rows) (faults : K →
         table,
         made.faults,
         has.counted,
-        subst (λ (p : PassState Entry Start). IsServed Tells rows faults (start_of words) (record { pass = p; clock = Some (λ k. words.now) }) s s' status)
+        subst (λ (p : PassState Entry Start). IsServed Tells rows faults (start_of words) (view_with p words.now s.kit) s s' status)
             first' (served_so (start_of words) (ap (λ (p : PassState Entry Start). p.base) first')),
       ))
 

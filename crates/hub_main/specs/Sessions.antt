@@ -1,10 +1,13 @@
 -- What a command does, and with which status it ends.
 use Rattle.std.specs.Prelude.{◌≡◌, ◌≤◌, ◌⊎◌, ℕ, true, false, List, [], ◌∷◌, Option, Some, None, Result, Ok, Err}
 use Rattle.atomic_table.specs.Seated.{TableId}
-use Rattle.desk.specs.Passes.{opening}
+use Rattle.desk.specs.Passes.{PassState, opening}
 use Rattle.http_wire.specs.declared.error.SessionFault.{SessionFault}
 use Rattle.http_wire.specs.declared.error.SessionFault.TheVariants.{ReadFault, WriteFault}
 use Rattle.hub_devices.specs.Faults.{Rises}
+use Rattle.hub_devices.specs.declared.calls.Spawning.{Spawning}
+use Rattle.hub_devices.specs.declared.calls.Routing.{Routing}
+use Rattle.hub_devices.specs.declared.calls.Told.{Told}
 use Rattle.scope_filters.specs.declared.holder.Owner.TheVariants as Own
 use Rattle.scope_filters.specs.declared.scope.RawScope.TheVariants.{Inherit}
 use Rattle.keeper.specs.Rows.{Rows, AreSame}
@@ -14,10 +17,11 @@ use Rattle.hub_opening.specs.Opening.{opened, opened_tables, greatest_limits, Is
 use Rattle.hub_opening.specs.declared.config.HubConfig.{HubConfig}
 use Rattle.hub_opening.specs.declared.open_error.OpenError.{OpenError}
 use Rattle.hub_opening.specs.declared.open_error.OpenError.TheVariants.{KeeperFault, BadRow, Full, Memory}
-use Rattle.hub_core.specs.Visits.{Reached}
+use Rattle.hub_core.specs.Visits.{Entry, Reached}
 use Rattle.hub_core.specs.declared.start.Start.{Start}
 use Rattle.hub_run.specs.Connections.{ConnectionEnds}
-use Rattle.hub_run.specs.Turns.{View}
+use Rattle.hub_run.specs.Turns.{View, Faults}
+use Rattle.hub_run.specs.declared.kit.HubKit.{HubKit}
 use Rattle.hub_run.specs.declared.served.Served as served
 use Rattle.hub_run.specs.declared.served.Served.TheVariants.{Ended, Cut, Closed}
 use Rattle.hub_words.specs.declared.session.SessionWords.{SessionWords}
@@ -53,20 +57,46 @@ config_of words = record {
 abbrev pub start_of : SessionWords → Start
 start_of words = record { machine = opened (config_of words) words.now; tells = true }
 
--- a session is served by a pass that is alone, with an empty history and this count of faults, by a clock that gives NOW for ever
-abbrev pub first_view : TableId → SessionWords → (faults : ℕ) → View
-first_view table words faults = record { pass = opening table (start_of words) [] faults; clock = Some (λ k. words.now) }
+-- what the devices of a kit tell: the draws to come, the calls of the spawner and of the route link, and their faults
+pub record KitTold : Type 0 where
+  pub draws : Option (List (List ℕ))
+  pub spawner : Option (List (Spawning × Told))
+  pub routes : Option (List (Routing × Told))
+  pub faults : Faults
 
--- what the input has left and the output holds, where they are told, and the store
+abbrev pub told_by : {S P C R : Type 0} → (R → Option (List (List ℕ))) → (S → Option (List (Spawning × Told))) → (P → Option (List (Routing × Told)))
+    → (R → ℕ) → (S → ℕ) → (P → ℕ) → HubKit S P C R → KitTold
+told_by left spawned routed draw_faults spawn_faults route_faults kit = record {
+  draws = left kit.random;
+  spawner = spawned kit.spawner;
+  routes = routed kit.routes;
+  faults = record { random = draw_faults kit.random; spawner = spawn_faults kit.spawner; routes = route_faults kit.routes };
+}
+
+-- what a connection knows of this pass and of a kit whose clock gives this moment for ever
+abbrev pub view_with : PassState Entry Start → (now : ℕ) → KitTold → View
+view_with pass now kit =
+    record { pass = pass; clock = Some (λ k. now); draws = kit.draws; spawner = kit.spawner; routes = kit.routes; faults = kit.faults }
+
+abbrev pub kit_in : View → KitTold
+kit_in y = record { draws = y.draws; spawner = y.spawner; routes = y.routes; faults = y.faults }
+
+-- a session is served by a pass that is alone, with an empty history and this count of faults, by a clock that gives NOW for ever
+abbrev pub first_view : TableId → SessionWords → (faults : ℕ) → KitTold → View
+first_view table words faults kit = view_with (opening table (start_of words) [] faults) words.now kit
+
+-- what the input has left and the output holds, and what the kit tells, where it is told, and the store
 pub record Sides (K : Type 0) : Type 0 where
   pub left : Option (List ℕ)
   pub held : Option (List ℕ)
+  pub kit : KitTold
   pub store : K
 
--- nothing was read or written
+-- nothing was read or written, and no device of the kit was called
 pub record IsQuiet {K : Type 0} (s s' : Sides K) : Type 0 where
   pub left : s'.left ≡ s.left
   pub held : s'.held ≡ s.held
+  pub kit : s'.kit ≡ s.kit
 
 -- of stores of a kind that tells of each whether its rows are told, its rows and its count of faults
 module _ {K : Type 0} (Tells : K → Type 0) (rows : K → Rows) (faults : K → ℕ) where
@@ -86,14 +116,14 @@ module _ {K : Type 0} (Tells : K → Type 0) (rows : K → Rows) (faults : K →
   abbrev pub IsServed : Start → View → Sides K → Sides K → ℕ → Type 0
   IsServed start x s s' status =
       (y : View) × (end : Result served.Served SessionFault) × ConnectionEnds start x s.left s.held y s'.left s'.held end × (status ≡ status_of end)
-      × HasKept start y s'.store
+      × HasKept start y s'.store × (s'.kit ≡ kit_in y)
 
   -- the book wasn't opened; or it was, and memory was wanting for its desk; or it was, with a store whose count is n then, and its connection was served
   abbrev pub SessionEnds : SessionWords → Sides K → Sides K → ℕ → Type 0
   SessionEnds words s s' status =
       ((e : OpenError) × IsUnopened words s.store s'.store e × (status ≡ refusal_status e) × IsQuiet s s')
       ⊎ ((status ≡ 7) × (Tells s'.store → Keeps (rows s'.store) (opened_tables (config_of words) words.now)) × IsQuiet s s')
-      ⊎ ((table : TableId) × (n : ℕ) × (faults s.store ≤ n) × IsServed (start_of words) (first_view table words n) s s' status)
+      ⊎ ((table : TableId) × (n : ℕ) × (faults s.store ≤ n) × IsServed (start_of words) (first_view table words n s.kit) s s' status)
 
   -- the words are refused, or memory was wanting to read them; or they are a session's
   abbrev pub RunEnds : Option SessionWords → Sides K → Sides K → ℕ → Type 0

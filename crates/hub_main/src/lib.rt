@@ -5,3 +5,4 @@
 
 mod opening;
 pub mod run;
+pub mod system_random;

@@ -13,6 +13,7 @@ use keeper::keeper::Keeper;
 use keeper::trail::ListTrail;
 use scope_filters::holder::Owner;
 use scope_filters::scope::RawScope;
+use server_life::Pool;
 use std::alloc::{AllocError, Global};
 
 /// One user, and one token of this user that holds all that the user holds.
@@ -32,7 +33,7 @@ fn config_of(alloc: Global, words: SessionWords) -> Result<HubConfig, AllocError
     };
     let users = vec![in alloc; owner]?;
     Ok(HubConfig {
-        pool: List::new(alloc),
+        pool: Pool::empty(alloc),
         hub_url: None,
         limits: greatest_limits(),
         no_trail: false,

@@ -5,7 +5,11 @@
 #[cfg(test)]
 mod check;
 #[cfg(test)]
+mod kits;
+#[cfg(test)]
 mod of_hub_run;
+#[cfg(test)]
+mod of_servers;
 #[cfg(test)]
 mod of_sessions;
 #[cfg(test)]

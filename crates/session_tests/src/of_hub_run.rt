@@ -2,12 +2,12 @@
 ghost use Rattle.std.specs.Prelude.{◌≡◌};
 
 use crate::check::check;
+use crate::kits::quiet_kit;
 use crate::repeated::repeated;
 use desk::{Desk, Pass};
 use http_wire::error::SessionFault;
 use hub_core::book::Book;
 use hub_devices::mem_bytes::{MemSink, MemSource};
-use hub_devices::mem_clock::FixedClock;
 use hub_kit::list::List;
 use hub_kit::moment::Moment;
 use hub_kit::names::{ServiceName, UserName, read_role, read_service, read_user};
@@ -21,6 +21,7 @@ use keeper::trail::ListTrail;
 use keyed_rows::sorted::Sorted;
 use scope_filters::holder::Owner;
 use scope_filters::scope::RawScope;
+use server_life::Pool;
 use std::alloc::Global;
 use std::process::Abort;
 use std::sync::Wait;
@@ -392,7 +393,7 @@ fn config(rt: &impl Abort, alloc: Global, admin: bool) -> HubConfig {
     let services = vec![in alloc; service(rt)];
     let roles = vec![in alloc; helper(rt, alloc)];
     HubConfig {
-        pool: List::new(alloc),
+        pool: Pool::empty(alloc),
         hub_url: None,
         limits: greatest_limits(),
         no_trail: false,
@@ -449,8 +450,8 @@ fn is_served<R: Abort + Wait>(
     let output = repeated(rt, alloc, connection.output, connection.times);
     let mut source = MemSource::new(input, 5, Vec::new(alloc));
     let mut sink = MemSink::new(alloc, Vec::new(alloc));
-    let mut clock = FixedClock(Moment::up_to(NOW));
-    let served = serve_connection(rt, alloc, desk, pass, &mut source, &mut sink, &mut clock);
+    let mut kit = quiet_kit(alloc, Moment::up_to(NOW));
+    let served = serve_connection(rt, alloc, desk, pass, &mut source, &mut sink, &mut kit);
     (served == Ok(connection.end)) & (sink.as_slice() == output.as_slice())
 }
 

@@ -2,9 +2,14 @@
 ghost use Rattle.std.specs.Prelude.{IsSome};
 
 use crate::check::check;
+use crate::kits::quiet_kit;
 use crate::repeated::repeated;
 use hub_devices::mem_bytes::{MemSink, MemSource};
+use hub_devices::mem_random::ListRandom;
+use hub_devices::mem_routes::MemRouteLink;
+use hub_devices::mem_spawner::MemSpawner;
 use hub_kit::bytes::Bytes;
+use hub_kit::moment::Moment;
 use hub_kit::text::Text;
 use hub_main::run::{Outside, run};
 use keeper::mem_keeper::MemKeeper;
@@ -256,7 +261,7 @@ fn outside(
     rt: &impl Abort,
     alloc: Global,
     session: &Session,
-) -> Outside<MemSource, MemSink, MemKeeper>
+) -> Outside<MemSource, MemSink, MemKeeper, MemSpawner, MemRouteLink, ListRandom>
     ensures { IsSome result.store }
 {
     let mut input = Bytes::from_slice(alloc, session.input).expect(rt, "there is memory");
@@ -271,6 +276,7 @@ fn outside(
         input: MemSource::new(input, session.cut, reads.expect(rt, "there is memory")),
         output: MemSink::new(alloc, writes.expect(rt, "there is memory")),
         store: Some(store.expect(rt, "there is memory")),
+        kit: quiet_kit(alloc, Moment::zero()),
     }
 }
 

@@ -11,13 +11,13 @@ returns c =
     let users = c.from_vec-2.ensures ∙ c.in_ok-users.ensures.items in
     let tokens = c.from_vec-3.ensures ∙ (c.in_ok-tokens.ensures.items ∙ ap (λ (s : List RawScope). token s ∷ []) scopes) in
     λ i. record {
-      pool = c.new.ensures i;
+      pool = c.empty.ensures i;
       hub_url = None;
       limits = c.greatest_limits.ensures i;
       no_trail = false;
       users = users i;
-      groups = c.new-2.ensures i;
-      services = c.new-3.ensures i;
-      roles = c.new-4.ensures i;
+      groups = c.new.ensures i;
+      services = c.new-2.ensures i;
+      roles = c.new-3.ensures i;
       tokens = tokens i;
     }

@@ -10,4 +10,4 @@ returns-in-Ok-open-clause-ends g c =
 pub returns-in-Err-open-clause-ends : goal.returns-in-Err-open-clause-ends
 returns-in-Err-open-clause-ends g c =
     session_wanting g.K.Keeper.Tells g.K.Keeper.rows g.K.Keeper.faults c.args.words c.in-Ok.book c.in-Err-open.book _ _
-    c.in-Ok.ensures.ok c.in-Err-open.ensures.back c.into_parts-store.ensures.rows (record { left = refl; held = refl })
+    c.in-Ok.ensures.ok c.in-Err-open.ensures.back c.into_parts-store.ensures.rows (record { left = refl; held = refl; kit = refl })

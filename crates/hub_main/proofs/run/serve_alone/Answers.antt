@@ -1,4 +1,4 @@
-use Rattle.std.proofs.Common.{◌∙◌, ◌≤◌, ℕ, sym, subst}
+use Rattle.std.proofs.Common.{◌∙◌, ◌≤◌, ℕ, refl, sym, subst}
 use Rattle.hub_run.proofs.CountLemmas.{ends_grow}
 use Rattle.hub_main.proofs.SessionLemmas.{last_state, other_status}
 use Rattle.hub_main.proofs.run.serve_alone.Goals as goal
@@ -16,6 +16,7 @@ returns-clause-ends g c = λ start store base.
         kept = c.into_parts-store.ensures.rows;
         count = c.into_parts-store.ensures.faults ∙ c.close.ensures.exact alone;
       },
+      refl,
     )
 
 pub returns-clause-counted : goal.returns-clause-counted
