@@ -7,6 +7,7 @@ ghost use Rattle.sqlite.specs.State.{HasCleanDisk};
 ghost use Rattle.sqlite.specs.Held.{state};
 ghost use Rattle.sqlite.specs.View.{doubt};
 ghost use Rattle.sqlite.specs.Steps.{over_memory};
+ghost use Rattle.row_table.specs.Open.{StaysOpen};
 ghost use Rattle.row_table.specs.Tables.{no_schema};
 ghost use Rattle.keeper_sqlite.specs.Own.{IsOwned, IsOwnStore, IsShutByFault, IsTold, Stands, told_rows};
 ghost use Rattle.keeper_sqlite.specs.Statements.{IsCommitted, IsLoaded};
@@ -78,6 +79,8 @@ impl<S: Alter + Drop> SqliteKeeper<S> {
     ) -> Result<SqliteKeeper<S>, (KeeperError, Connection<S>)>
         ensures faults { IfOk result (λ k. k.faults ≡ 0) }
         ensures clean { MatchResult result (λ k. doubt (state S.Store connection).is_clean ≤ doubt (state S.Store k.connection).is_clean) (λ e. doubt (state S.Store connection).is_clean ≤ doubt (state S.Store e.1).is_clean) }
+        ensures stays { MatchResult result (λ k. StaysOpen (state S.Store connection) (state S.Store k.connection)) (λ e. StaysOpen (state S.Store connection) (state S.Store e.1)) }
+        ensures open { IfOk result (λ k. HasCleanDisk (state S.Store k.connection) → IsTrue (state S.Store connection).is_open → IsTrue (state S.Store k.connection).is_open) }
         ensures stands { MatchResult result (λ k. HasCleanDisk (state S.Store k.connection) → Stands S.Store connection k.connection) (λ e. HasCleanDisk (state S.Store e.1) → Stands S.Store connection e.1) }
         ensures known { IfOk result (λ k. IsTrue k.is_own → IsOwned S.Store k.connection) }
         ensures only { IfOk result (λ k. HasCleanDisk (state S.Store k.connection) → connection.in_transaction ≡ false → IsOwnStore (state S.Store connection).now → IsTrue k.is_own) }

@@ -71,6 +71,8 @@ pub(crate) fn is_fresh<S: Alter>(conn: &Connection<S>) -> bool
 /// says that it couldn't be read, which tells neither.
 pub(crate) fn is_own<S: Alter>(conn: &mut Connection<S>) -> Result<bool, Error>
     ensures clean { doubt (state S.Store conn.old).is_clean ≤ doubt (state S.Store conn.new).is_clean }
+    ensures stays { StaysOpen (state S.Store conn.old) (state S.Store conn.new) }
+    ensures open { HasCleanDisk (state S.Store conn.new) → IsTrue (state S.Store conn.old).is_open → IfOk result (λ own. IsTrue (state S.Store conn.new).is_open) }
     ensures stands { HasCleanDisk (state S.Store conn.new) → Stands S.Store conn.old conn.new }
     ensures own { IfOk result (λ own. IsTrue own → IsOwned S.Store conn.new) }
     ensures only { HasCleanDisk (state S.Store conn.new) → conn.old.in_transaction ≡ false → IsOwnStore (state S.Store conn.old).now → IfOk result IsTrue }

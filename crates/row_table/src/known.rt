@@ -3,6 +3,7 @@ ghost use Rattle.std.specs.Prelude.{◌≡◌, ◌≤◌, false, IsTrue, IfOk, I
 ghost use Rattle.sqlite.specs.View.{doubt};
 ghost use Rattle.sqlite.specs.State.{HasCleanDisk};
 ghost use Rattle.sqlite.specs.Held.{state};
+ghost use Rattle.row_table.specs.Open.{StaysOpen};
 ghost use Rattle.row_table.specs.Stored.{IsRowStore};
 ghost use Rattle.row_table.specs.Unread.{IsUnread};
 
@@ -13,6 +14,8 @@ use sqlite::{Alter, Connection, Error};
 pub fn has_row_store<S: Alter>(conn: &mut Connection<S>) -> Result<bool, Error>
     ensures clean { doubt (state S.Store conn.old).is_clean ≤ doubt (state S.Store conn.new).is_clean }
     ensures mode { conn.old.in_transaction ≡ false → conn.new.in_transaction ≡ false }
+    ensures stays { StaysOpen (state S.Store conn.old) (state S.Store conn.new) }
+    ensures open { HasCleanDisk (state S.Store conn.new) → IsTrue (state S.Store conn.old).is_open → IfOk result (λ known. IsTrue (state S.Store conn.new).is_open) }
     ensures stands { HasCleanDisk (state S.Store conn.new) → IsTrue (state S.Store conn.new).is_open
         → IsTrue (state S.Store conn.old).is_open × ((state S.Store conn.new).now ≡ (state S.Store conn.old).now) }
     ensures apart { IfOk result (λ known. IsTrue known → conn.old.in_transaction ≡ false) }

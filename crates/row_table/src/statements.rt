@@ -117,6 +117,7 @@ pub fn select_all<S: Alter>(conn: &mut Connection<S>) -> Result<Vec<Row>, Error>
     ensures left { HasCleanDisk (state S.Store conn.new) → Leaves all_text (state S.Store conn.old) (state S.Store conn.new) }
     ensures whole { HasCleanDisk (state S.Store conn.new) → (state S.Store conn.old).now.schema ≡ store_schema
         → IfOk result (λ rows. IsPermutation (map whole ((state S.Store conn.old).now.trees 0)) rows.items) }
+    ensures open { HasCleanDisk (state S.Store conn.new) → IfOk result (λ rows. IsTrue (state S.Store conn.new).is_open) }
     ensures ours { HasCleanDisk (state S.Store conn.new) → IsRowStore (state S.Store conn.old).now → IfOk result (λ rows. AreOurs rows.items) }
     ensures unread { HasCleanDisk (state S.Store conn.new) → (state S.Store conn.old).now.schema ≡ store_schema
         → IfErr result (IsUnread (state S.Store conn.old) (state S.Store conn.new)) }

@@ -8,6 +8,7 @@ use Rattle.row_table.specs.Stored.{IsRowStore}
 use Rattle.row_table.specs.Tables.{store_schema}
 use Rattle.row_table.specs.Texts.{all_text}
 use Rattle.row_table.proofs.Found.{known_store}
+use Rattle.row_table.proofs.Open.{still_open}
 use Rattle.row_table.proofs.Upsert.{all_plain}
 use Rattle.row_table.proofs.known.has_row_store.Goals as goal
 
@@ -41,3 +42,6 @@ pub returns-in_err-all-clause-unread : goal.returns-in_err-all-clause-unread
 returns-in_err-all-clause-unread g c clean =
     let unread = c.in_err-all.ensures.unread clean (sym c.schema.ensures.value ∙ c.is_store_schema.ensures.is c.if-not-is_store_schema.false) in
     search rules
+
+pub returns-clause-open : goal.returns-clause-open
+returns-clause-open g c clean was_open = c.in_ok-all.ensures.open clean

@@ -1,7 +1,8 @@
 use Rattle.std.proofs.lemmas.Result.{IfOk-weaker}
 use Rattle.sqlite.specs.Held.{state}
-use Rattle.row_table.proofs.Open.{survives_open}
+use Rattle.row_table.proofs.Open.{survives_open, shown_open}
 use Rattle.row_table.proofs.Asked.{all_leave}
+use Rattle.row_table.specs.Texts.{all_text}
 use Rattle.row_table.proofs.Lists.{all_shown, all_ours}
 use Rattle.row_table.proofs.Refused.{unread_if}
 use Rattle.row_table.proofs.statements.select_all.Goals as goal
@@ -13,6 +14,10 @@ returns-clause-left g c clean =
 pub returns-clause-whole : goal.returns-clause-whole
 returns-clause-whole g c clean has =
     IfOk-weaker c.query_all.result _ _ (λ rows h. all_shown (state g.S.Store c.args.conn.now) (state g.S.Store c.query_all.new.self) rows.items has h) (c.query_all.ensures.ok clean)
+
+pub returns-clause-open : goal.returns-clause-open
+returns-clause-open g c clean =
+    IfOk-weaker c.query_all.result _ _ (λ rows h. shown_open all_text _ (state g.S.Store c.args.conn.now) (state g.S.Store c.query_all.new.self) rows.items h) (c.query_all.ensures.ok clean)
 
 pub returns-clause-ours : goal.returns-clause-ours
 returns-clause-ours g c clean store =
