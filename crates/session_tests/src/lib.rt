@@ -7,10 +7,14 @@ mod check;
 #[cfg(test)]
 mod kits;
 #[cfg(test)]
+mod of_adopt;
+#[cfg(test)]
 mod of_hub_run;
 #[cfg(test)]
 mod of_servers;
 #[cfg(test)]
 mod of_sessions;
+#[cfg(test)]
+mod of_two_passes;
 #[cfg(test)]
 mod repeated;

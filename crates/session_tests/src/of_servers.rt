@@ -31,14 +31,15 @@ use std::sync::Wait;
 
 /// A call of the spawner with its generation.
 #[derive(Clone, Copy)]
-enum Spawned {
+pub enum Spawned {
     Start(u64),
     Stop(u64),
+    Poll(u64),
 }
 
 /// A call of the route link with its path and its serial.
 #[derive(Clone, Copy)]
-enum Routed {
+pub enum Routed {
     Add(&'static str, u64),
     Delete(&'static str, u64),
 }
@@ -62,10 +63,10 @@ struct Connection {
 }
 
 /// The number of a call that doesn't come.
-const NEVER: u64 = u64::MAX;
+pub const NEVER: u64 = u64::MAX;
 
 /// What the clock tells, in seconds: 2023-11-14T22:13:20Z.
-const NOW: u64 = 1_700_000_000;
+pub const NOW: u64 = 1_700_000_000;
 
 const CONNECTIONS: [Connection; 8] = [
     Connection {
@@ -233,7 +234,7 @@ const CONNECTIONS: [Connection; 8] = [
     },
 ];
 
-type MemBook = Book<MemKeeper, ListTrail<Change>>;
+pub type MemBook = Book<MemKeeper, ListTrail<Change>>;
 
 fn user(rt: &impl Abort, name: &[u8]) -> UserName {
     read_user(name).expect(rt, "it is a name")
@@ -257,7 +258,7 @@ fn pool(rt: &impl Abort, alloc: Global) -> Pool {
 }
 
 /// A configuration of the users ann and bob with a token each.
-fn config(rt: &impl Abort, alloc: Global) -> HubConfig
+pub fn config(rt: &impl Abort, alloc: Global) -> HubConfig
     ensures { result.limits.trail_bytes ≤ 2 ^ 62 }
 {
     let users = vec![in alloc;
@@ -288,7 +289,7 @@ fn config(rt: &impl Abort, alloc: Global) -> HubConfig
 }
 
 /// The numbers of the calls that fail: this one.
-fn failing(rt: &impl Abort, alloc: Global, call: u64) -> Vec<u64> {
+pub fn failing(rt: &impl Abort, alloc: Global, call: u64) -> Vec<u64> {
     Vec::from_slice(alloc, &[call]).expect(rt, "there is memory")
 }
 
@@ -306,7 +307,7 @@ fn book(rt: &impl Abort, alloc: Global, connection: &Connection) -> MemBook {
 }
 
 /// A desk over the book, and its first pass.
-fn open_desk(rt: &impl Abort, alloc: Global, book: MemBook) -> (Desk<MemBook>, Pass<MemBook>)
+pub fn open_desk(rt: &impl Abort, alloc: Global, book: MemBook) -> (Desk<MemBook>, Pass<MemBook>)
     ensures { result.1.of ≡ result.0 }
 {
     match Desk::open(alloc, book) {
@@ -316,7 +317,7 @@ fn open_desk(rt: &impl Abort, alloc: Global, book: MemBook) -> (Desk<MemBook>, P
 }
 
 /// Three draws: fifteen zeros, and a byte that counts from 1.
-fn draws(rt: &impl Abort, alloc: Global) -> Vec<[u8; 16]> {
+pub fn draws(rt: &impl Abort, alloc: Global) -> Vec<[u8; 16]> {
     let draws = vec![in alloc;
         [0, 0, 0, 0, 0, 0, 0, 0, 0, 0, 0, 0, 0, 0, 0, 1],
         [0, 0, 0, 0, 0, 0, 0, 0, 0, 0, 0, 0, 0, 0, 0, 2],
@@ -341,6 +342,7 @@ fn is_spawned(call: &Spawning, spawned: Spawned) -> bool {
     match (call, spawned) {
         (Spawning::Start(made, ..), Spawned::Start(generation)) => *made == generation,
         (Spawning::Stop(made, ..), Spawned::Stop(generation)) => *made == generation,
+        (Spawning::Poll(made, ..), Spawned::Poll(generation)) => *made == generation,
         _ => false,
     }
 }
@@ -358,7 +360,7 @@ fn is_routed(call: &Routing, routed: Routed) -> bool {
 }
 
 /// Whether the spawner was called so.
-fn are_spawned(calls: &[(Spawning, Told)], all: &[Spawned]) -> bool {
+pub fn are_spawned(calls: &[(Spawning, Told)], all: &[Spawned]) -> bool {
     if calls.len() != all.len() {
         return false;
     }
@@ -371,7 +373,7 @@ fn are_spawned(calls: &[(Spawning, Told)], all: &[Spawned]) -> bool {
 }
 
 /// Whether the route link was called so.
-fn are_routed(calls: &[(Routing, Told)], all: &[Routed]) -> bool {
+pub fn are_routed(calls: &[(Routing, Told)], all: &[Routed]) -> bool {
     if calls.len() != all.len() {
         return false;
     }
