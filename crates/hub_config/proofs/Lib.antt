@@ -1,0 +1,5 @@
+pub mod Made
+pub mod Bytes
+pub mod Sound
+pub mod Pools
+mod Distinct

@@ -1,0 +1,162 @@
+//! Values of a configuration, whatever they are.
+ghost use Rattle.std.specs.Prelude.{◌≡◌, ℕ, Option, Some, None, [], ◌++◌, ◌∷◌, map, Result, Err, OnOk};
+ghost use Rattle.toml.specs.Data.{Data};
+ghost use Rattle.toml.specs.View.{view, items_view, table_view};
+ghost use Rattle.hub_config.specs.Settings.{Gives, pair, is_among, list_from};
+ghost use Rattle.hub_config.specs.Settings as spec;
+
+use hub_kit::list::List;
+use std::alloc::Global;
+use toml::{Table, Value};
+
+/// Why a configuration isn't read.
+#[derive(Clone, Copy, Debug, PartialEq, Eq)]
+pub enum ConfigError {
+    /// The bytes are no configuration.
+    Refused,
+    Memory,
+}
+
+/// Read from a value of a configuration.
+pub(crate) trait Setting: Drop {
+    ghost reads: { Data → Option Self };
+
+    fn read(alloc: Global, value: &Value) -> Result<Self, ConfigError>
+        ensures { Gives result (reads (view value.now)) };
+}
+
+/// What two readers gave. The readers of a table are put together by twos, so that one early return is left: each drops what was read
+/// before it, and the proof follows each drop.
+pub(crate) fn both<A: Drop, B: Drop>(
+    first: Result<A, ConfigError>,
+    second: Result<B, ConfigError>,
+) -> Result<(A, B), ConfigError>
+    ensures { (a : Option A) (b : Option B) → Gives first a → Gives second b → Gives result (pair a b) }
+{
+    match first {
+        Ok(first) => match second {
+            Ok(second) => Ok((first, second)),
+            Err(error) => Err(error),
+        },
+        Err(error) => Err(error),
+    }
+}
+
+/// The value of a key that has to be there.
+pub(crate) fn needed<S: Setting>(alloc: Global, value: &Value, key: &str) -> Result<S, ConfigError>
+    ensures { Gives result (spec.needed S.reads key.now (view value.now)) }
+{
+    match value.get(key) {
+        Some(found) => S::read(alloc, found),
+        None => Err(ConfigError::Refused),
+    }
+}
+
+/// The value of a key that may lack.
+pub(crate) fn optional<S: Setting>(
+    alloc: Global,
+    value: &Value,
+    key: &str,
+) -> Result<Option<S>, ConfigError>
+    ensures { Gives result (spec.optional S.reads key.now (view value.now)) }
+{
+    match value.get(key) {
+        Some(found) => match S::read(alloc, found) {
+            Ok(read) => Ok(Some(read)),
+            Err(error) => Err(error),
+        },
+        None => Ok(None),
+    }
+}
+
+pub(crate) fn add<T: Drop>(items: &mut Vec<T>, item: T) -> Result<(), ConfigError>
+    ensures ok { OnOk result (items.new.items ≡ items.old.items ++ item ∷ []) }
+    ensures memory { result ≡ Err ConfigError.Refused → ⊥ }
+{
+    match items.push(item) {
+        Ok(()) => Ok(()),
+        Err(_) => Err(ConfigError::Memory),
+    }
+}
+
+fn list_in<S: Setting>(alloc: Global, items: &[Value]) -> Result<List<S>, ConfigError>
+    ensures { Gives result (list_from S.reads [] (items_view items.now)) }
+{
+    let mut read = Vec::new(alloc);
+    for item in items {
+        match S::read(alloc, item) {
+            Ok(found) => add(&mut read, found)?,
+            Err(error) => return Err(error),
+        }
+    }
+    Ok(List::from_vec(read))
+}
+
+/// The items of a list, of which there are none where the key lacks.
+pub(crate) fn listed<S: Setting>(
+    alloc: Global,
+    value: &Value,
+    key: &str,
+) -> Result<List<S>, ConfigError>
+    ensures { Gives result (spec.listed S.reads key.now (view value.now)) }
+{
+    match value.get(key) {
+        Some(found) => match found.as_array() {
+            Some(items) => list_in(alloc, items.as_slice()),
+            None => Err(ConfigError::Refused),
+        },
+        None => Ok(List::new(alloc)),
+    }
+}
+
+/// Whether a key is one of those that are known.
+fn is_known(key: &str, known: &[&str]) -> bool
+    ensures { result ≡ is_among (map (λ s. s.now) known.now) key.now }
+{
+    for name in known {
+        if *name == key {
+            return true;
+        }
+    }
+    false
+}
+
+/// Whether a value is a table with known keys alone.
+pub(crate) fn has_only(value: &Value, known: &[&str]) -> bool
+    ensures { result ≡ spec.has_only (map (λ s. s.now) known.now) (view value.now) }
+{
+    match value.as_table() {
+        Some(table) => has_known_keys(table, known),
+        None => false,
+    }
+}
+
+fn has_known_keys(table: &Table, known: &[&str]) -> bool
+    ensures { result ≡ spec.known_alone (map (λ s. s.now) known.now) (table_view table.now) }
+{
+    for (key, _) in table.iter() {
+        if !is_known(key.as_str(), known) {
+            return false;
+        }
+    }
+    true
+}
+
+/// A whole number from 0 to a greatest one, which is also the number where the key lacks.
+pub(crate) fn limit(value: &Value, key: &str, greatest: u32) -> Result<u32, ConfigError>
+    ensures { Gives result (spec.limit greatest key.now (view value.now)) }
+{
+    match value.get(key) {
+        Some(found) => match found.as_integer() {
+            Some(n) => {
+                if n < 0 || n > greatest as i64 {
+                    Err(ConfigError::Refused)
+                } else {
+                    Ok(n as u32)
+                }
+            }
+            None => Err(ConfigError::Refused),
+        },
+        None => Ok(greatest),
+    }
+}
