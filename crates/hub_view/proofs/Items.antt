@@ -5,8 +5,8 @@ use Rattle.json.specs.Token.{key, begin_array, end_array, begin_object, end_obje
 use Rattle.hub_view.specs.Json.{Json, line, lines, items, pairs}
 use Rattle.hub_view.specs.Body.{body_tokens, bodies, members, items_tokens, pairs_tokens}
 use Rattle.hub_view.specs.declared.body.Body.{Body}
-use Rattle.hub_view.specs.declared.body.Body.TheVariants.{Items, Pairs}
-use Rattle.hub_view.proofs.Tokens.{tokens_of_items, tokens_of_pairs}
+use Rattle.hub_view.specs.declared.body.Body.TheVariants.{Items, Pairs, Record}
+use Rattle.hub_view.proofs.Tokens.{tokens_of_items, tokens_of_pairs, tokens_of_record}
 
 -- what is left begins with the item at hand
 pub left_at : {A : Type 0} (xs : List A) (i : ℕ) (x : A) → i < length xs → x ≡ get_or xs i x → drop i xs ≡ x ∷ drop (i + 1) xs
@@ -80,4 +80,13 @@ object_written b v list before opened after is same begun wrote =
     ∙ append_assoc before (begin_object ∷ []) (pairs_tokens list)
     ∙ ap (λ (xs : List (List ℕ × Body)). before ++ pairs (members xs)) same
     ∙ ap (λ (tokens : Json). before ++ tokens) (sym (tokens_of_pairs v))
+    ∙ ap (λ (x : Body). before ++ body_tokens x) (sym is)
+
+pub record_written : (b : Body) (v : Vec (List ℕ × Body) Global) (list : List (List ℕ × Body)) (before opened after : Json) → b ≡ Record v → list ≡ v.items
+    → opened ≡ before ++ begin_object ∷ [] → after ≡ opened ++ pairs_tokens list → after ≡ before ++ body_tokens b
+record_written b v list before opened after is same begun wrote =
+    wrote ∙ ap (λ (tokens : Json). tokens ++ pairs_tokens list) begun
+    ∙ append_assoc before (begin_object ∷ []) (pairs_tokens list)
+    ∙ ap (λ (xs : List (List ℕ × Body)). before ++ pairs (members xs)) same
+    ∙ ap (λ (tokens : Json). before ++ tokens) (sym (tokens_of_record v))
     ∙ ap (λ (x : Body). before ++ body_tokens x) (sym is)

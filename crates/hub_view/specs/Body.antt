@@ -1,6 +1,8 @@
 -- The tokens of a body.
 use Rattle.std.specs.Prelude.{ℕ, List, [], map}
 use Rattle.hub_view.specs.Json.{Json, Member, line, whole, truth, nothing, items, items_on, pairs, pairs_on}
+use Rattle.hub_kit.specs.MomentTexts.{moment_text}
+use Rattle.hub_view.specs.Words.{word_text}
 use Rattle.hub_view.specs.declared.body.Body.{Body, fold-Body}
 use Rattle.hub_view.specs.declared.body.Body.TheOpen.{Body-F}
 
@@ -10,9 +12,12 @@ body_step Body-F.Nothing = []
 body_step Body-F.Null = nothing
 body_step (Body-F.Truth b) = truth b
 body_step (Body-F.Number n) = whole n
+body_step (Body-F.Fixed w) = line (word_text w)
+body_step (Body-F.At m) = line (moment_text m)
 body_step (Body-F.Line s) = line s
 body_step (Body-F.Items v) = items v.items
 body_step (Body-F.Pairs v) = pairs v.items
+body_step (Body-F.Record v) = pairs v.items
 
 abbrev pub body_tokens : Body → Json
 body_tokens = fold-Body Json body_step

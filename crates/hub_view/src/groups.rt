@@ -9,7 +9,8 @@ ghost use Rattle.hub_view.specs.Fields as spec;
 use crate::body::Body;
 use crate::fields::Fields;
 use crate::members::line;
-use crate::parts::names;
+use crate::parts::{fixed, names};
+use crate::word::Word;
 use hub_kit::names::{RoleName, ServiceName};
 use hub_rows::records::Group;
 use scope_filters::grant::Grant;
@@ -34,11 +35,11 @@ pub fn group_body<M: Members>(
     let named = admits(rights, Action::ReadGroupsName, &object, m);
     let with_roles = admits(rights, Action::ReadRolesGroups, &object, m);
     let whole = admits(rights, Action::ReadGroups, &object, m);
-    let mut fields = Fields::new(alloc);
-    fields.add(alloc, named, "kind", line(alloc, "group"));
-    fields.add(alloc, named, "name", line(alloc, group.name.as_str()));
-    fields.add(alloc, with_roles, "roles", names(alloc, roles));
-    fields.add(alloc, whole, "users", names(alloc, group.users.as_slice()));
+    let mut fields = Fields::new(alloc, 4);
+    fields.add(named, Word::Kind, Ok(fixed(Word::Group)));
+    fields.add(named, Word::Name, line(alloc, group.name.as_str()));
+    fields.add(with_roles, Word::Roles, names(alloc, roles));
+    fields.add(whole, Word::Users, names(alloc, group.users.as_slice()));
     fields.into_body()
 }
 
@@ -53,7 +54,7 @@ pub fn service_body<M: Members>(
 ) -> Result<Body, AllocError>
     ensures { IfOk result (λ body. body_tokens body ≡ spec.service_body (grant_admits (M.context m.now) rights.now) service.now roles.now) }
 {
-    let mut fields = Fields::new(alloc);
+    let mut fields = Fields::new(alloc, 3);
     add_service(alloc, m, rights, &mut fields, false, service, roles);
     fields.into_body()
 }
@@ -73,7 +74,7 @@ pub fn add_service<M: Members>(
     let object = Object::Service(*service);
     let named = named || admits(rights, Action::ReadServicesName, &object, m);
     let with_roles = admits(rights, Action::ReadRolesServices, &object, m);
-    fields.add(alloc, named, "kind", line(alloc, "service"));
-    fields.add(alloc, named, "name", line(alloc, service.as_str()));
-    fields.add(alloc, with_roles, "roles", names(alloc, roles));
+    fields.add(named, Word::Kind, Ok(fixed(Word::Service)));
+    fields.add(named, Word::Name, line(alloc, service.as_str()));
+    fields.add(with_roles, Word::Roles, names(alloc, roles));
 }

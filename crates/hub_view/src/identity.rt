@@ -12,6 +12,7 @@ use crate::fields::Fields;
 use crate::groups::add_service;
 use crate::parts::scopes;
 use crate::users::{add_servers, add_user};
+use crate::word::Word;
 use hub_kit::names::{RoleName, ServerKey, ServiceName};
 use scope_filters::grant::Grant;
 use scope_filters::members::Members;
@@ -35,7 +36,7 @@ pub fn user_identity<M: Members>(
 {
     let mut fields = access(alloc, m, rights, server);
     add_user(alloc, m, rights, &mut fields, true, facts);
-    fields.add(alloc, true, "scopes", scopes(alloc, token_scopes));
+    fields.add(true, Word::Scopes, scopes(alloc, token_scopes));
     add_servers(alloc, m, rights, &mut fields, facts);
     fields.into_body()
 }
@@ -54,7 +55,7 @@ pub fn service_identity<M: Members>(
 {
     let mut fields = access(alloc, m, rights, server);
     add_service(alloc, m, rights, &mut fields, true, service, roles);
-    fields.add(alloc, true, "scopes", scopes(alloc, token_scopes));
+    fields.add(true, Word::Scopes, scopes(alloc, token_scopes));
     fields.into_body()
 }
 
@@ -62,10 +63,10 @@ pub fn service_identity<M: Members>(
 fn access<M: Members>(alloc: Global, m: &M, rights: &Grant, server: &Option<ServerKey>) -> Fields
     ensures { holds result (spec.access_member (grant_admits (M.context m.now) rights.now) server.now) }
 {
-    let mut fields = Fields::new(alloc);
+    let mut fields = Fields::new(alloc, 10);
     if let Some(key) = server {
         let enters = admits(rights, Action::AccessServers, &Object::Server(*key), m);
-        fields.add(alloc, true, "access", Ok(Body::Truth(enters)));
+        fields.add(true, Word::Access, Ok(Body::Truth(enters)));
     }
     fields
 }

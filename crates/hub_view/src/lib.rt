@@ -4,6 +4,7 @@
 #![tactic(auto)]
 
 mod body;
+mod dates;
 mod facts;
 mod fields;
 mod groups;
@@ -16,15 +17,17 @@ mod records;
 mod servers;
 mod text;
 mod users;
+mod word;
 
 pub use body::Body;
 pub use facts::{ServerFacts, UserFacts};
 pub use groups::{group_body, service_body};
 pub use identity::{service_identity, user_identity};
 pub use members::{add_member, line, message_body};
-pub use page_part::{PagePart, part_of};
+pub use page_part::{PagePart, names_in_page, part_of};
 pub use pages::{Page, page_body};
 pub use records::{code_body, new_code_body, new_token_body, role_body, share_body, token_body};
 pub use servers::{is_live, server_url};
 pub use text::body_text;
 pub use users::user_body;
+pub use word::{MemberKey, Word};

@@ -6,6 +6,7 @@ ghost use Rattle.hub_view.specs.Body.{body_tokens, members};
 
 use crate::body::Body;
 use crate::fields::Fields;
+use crate::word::Word;
 use hub_kit::text::Text;
 use std::alloc::{AllocError, Global};
 
@@ -38,8 +39,8 @@ pub fn add_member(
 pub fn message_body(alloc: Global, status: u16, message: &str) -> Result<Body, AllocError>
     ensures { IfOk result (λ body. body_tokens body ≡ json.message_body status message.now) }
 {
-    let mut fields = Fields::new(alloc);
-    fields.add(alloc, true, "message", line(alloc, message));
-    fields.add(alloc, true, "status", Ok(Body::Number(status as u64)));
+    let mut fields = Fields::new(alloc, 2);
+    fields.add(true, Word::Message, line(alloc, message));
+    fields.add(true, Word::Status, Ok(Body::Number(status as u64)));
     fields.into_body()
 }

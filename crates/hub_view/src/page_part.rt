@@ -65,7 +65,7 @@ fn rows_in_page<K: Key + Copy, V>(
 }
 
 /// The names that stand in a page.
-fn names_in_page<K: Copy>(alloc: Global, names: &[K], page: Page) -> Result<Vec<K>, AllocError>
+pub fn names_in_page<K: Copy>(alloc: Global, names: &[K], page: Page) -> Result<Vec<K>, AllocError>
     ensures { IfOk result (λ part. part.items ≡ in_page page names.now) }
 {
     let limit = limit_of(page) as usize;

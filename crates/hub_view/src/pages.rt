@@ -5,6 +5,7 @@ ghost use Rattle.hub_view.specs.Pages as spec;
 
 use crate::body::Body;
 use crate::fields::Fields;
+use crate::word::Word;
 use hub_kit::text::Text;
 use std::alloc::{AllocError, Global};
 
@@ -35,10 +36,10 @@ pub fn page_body(
     if !page.paged {
         return Ok(Body::Items(part));
     }
-    let mut fields = Fields::new(alloc);
+    let mut fields = Fields::new(alloc, 2);
     let place = pagination(alloc, path, page, total);
-    fields.add(alloc, true, "_pagination", place);
-    fields.add(alloc, true, "items", Ok(Body::Items(part)));
+    fields.add(true, Word::Pagination, place);
+    fields.add(true, Word::Items, Ok(Body::Items(part)));
     fields.into_body()
 }
 
@@ -49,11 +50,11 @@ fn pagination(alloc: Global, path: &str, page: Page, total: u64) -> Result<Body,
         Some(offset) => next_page(alloc, path, page, offset),
         None => Ok(Body::Null),
     };
-    let mut fields = Fields::new(alloc);
-    fields.add(alloc, true, "limit", Ok(Body::Number(limit_of(page))));
-    fields.add(alloc, true, "next", next);
-    fields.add(alloc, true, "offset", Ok(Body::Number(page.offset)));
-    fields.add(alloc, true, "total", Ok(Body::Number(total)));
+    let mut fields = Fields::new(alloc, 4);
+    fields.add(true, Word::Limit, Ok(Body::Number(limit_of(page))));
+    fields.add(true, Word::Next, next);
+    fields.add(true, Word::Offset, Ok(Body::Number(page.offset)));
+    fields.add(true, Word::Total, Ok(Body::Number(total)));
     fields.into_body()
 }
 
@@ -81,10 +82,10 @@ fn next_page(alloc: Global, path: &str, page: Page, offset: u64) -> Result<Body,
 {
     let limit = limit_of(page);
     let url = page_url(alloc, path, limit, offset)?;
-    let mut fields = Fields::new(alloc);
-    fields.add(alloc, true, "limit", Ok(Body::Number(limit)));
-    fields.add(alloc, true, "offset", Ok(Body::Number(offset)));
-    fields.add(alloc, true, "url", Ok(Body::Line(url)));
+    let mut fields = Fields::new(alloc, 3);
+    fields.add(true, Word::Limit, Ok(Body::Number(limit)));
+    fields.add(true, Word::Offset, Ok(Body::Number(offset)));
+    fields.add(true, Word::Url, Ok(Body::Line(url)));
     fields.into_body()
 }
 

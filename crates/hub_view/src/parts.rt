@@ -5,11 +5,12 @@ ghost use Rattle.hub_view.specs.Body.{body_tokens};
 ghost use Rattle.hub_view.specs.Servers as servers;
 ghost use Rattle.hub_view.specs.Fields.{scope_lines};
 ghost use Rattle.hub_view.specs.Records as records;
+ghost use Rattle.hub_view.specs.Words.{word_text};
 
 use crate::body::Body;
 use crate::members::line;
+use crate::word::Word;
 use hub_kit::moment::Moment;
-use hub_kit::moments::moment_text;
 use hub_kit::names::{GroupName, RoleName, ServerKey, ServiceName, UserName, key_text};
 use hub_kit::text::Text;
 use scope_filters::scope::{RawScope, scope_text};
@@ -62,11 +63,18 @@ pub fn truth(value: bool) -> Body
     Body::Truth(value)
 }
 
+/// One of the hub's own words.
+pub fn fixed(word: Word) -> Body
+    ensures { body_tokens result ≡ json.line (word_text word) }
+{
+    Body::Fixed(word)
+}
+
 /// Names as a list of texts.
 pub fn names<N: Name>(alloc: Global, names: &[N]) -> Result<Body, AllocError>
     ensures { IfOk result (λ body. body_tokens body ≡ json.lines (map N.text names.now)) }
 {
-    let mut items = Vec::new(alloc);
+    let mut items = Vec::with_capacity(alloc, names.len())?;
     for name in names {
         items.push(line(alloc, name.text())?)?;
     }
@@ -77,7 +85,7 @@ pub fn names<N: Name>(alloc: Global, names: &[N]) -> Result<Body, AllocError>
 pub fn scopes(alloc: Global, scopes: &[RawScope]) -> Result<Body, AllocError>
     ensures { IfOk result (λ body. body_tokens body ≡ scope_lines scopes.now) }
 {
-    let mut items = Vec::new(alloc);
+    let mut items = Vec::with_capacity(alloc, scopes.len())?;
     for scope in scopes {
         items.push(Body::Line(scope_text(alloc, scope)?))?;
     }
@@ -85,19 +93,19 @@ pub fn scopes(alloc: Global, scopes: &[RawScope]) -> Result<Body, AllocError>
 }
 
 /// The text of a moment.
-pub fn moment(alloc: Global, at: Moment) -> Result<Body, AllocError>
-    ensures { IfOk result (λ body. body_tokens body ≡ servers.at at) }
+pub fn moment(at: Moment) -> Body
+    ensures { body_tokens result ≡ servers.at at }
 {
-    Ok(Body::Line(moment_text(alloc, at)?))
+    Body::At(at)
 }
 
 /// The text of a moment, or null.
-pub fn moment_or_null(alloc: Global, at: Option<Moment>) -> Result<Body, AllocError>
-    ensures { IfOk result (λ body. body_tokens body ≡ json.maybe servers.at at) }
+pub fn moment_or_null(at: Option<Moment>) -> Body
+    ensures { body_tokens result ≡ json.maybe servers.at at }
 {
     match at {
-        Some(at) => moment(alloc, at),
-        None => Ok(Body::Null),
+        Some(at) => moment(at),
+        None => Body::Null,
     }
 }
 

@@ -8,7 +8,8 @@ ghost use Rattle.hub_view.specs.Records as spec;
 use crate::body::Body;
 use crate::fields::Fields;
 use crate::members::line;
-use crate::parts::{digits, key_line, line_or_null, moment, moment_or_null, names, scopes};
+use crate::parts::{digits, fixed, key_line, line_or_null, moment, moment_or_null, names, scopes};
+use crate::word::Word;
 use hub_rows::keys::Recipient;
 use hub_rows::records::{Role, Share, ShareCode, Token};
 use scope_filters::holder::Owner;
@@ -18,9 +19,9 @@ use std::alloc::{AllocError, Global};
 pub fn token_body(alloc: Global, token: &Token) -> Result<Body, AllocError>
     ensures { IfOk result (λ body. body_tokens body ≡ spec.token_body token.now) }
 {
-    let mut fields = Fields::new(alloc);
+    let mut fields = Fields::new(alloc, 8);
     add_token(alloc, &mut fields, token);
-    fields.add(alloc, true, "user", user_of(alloc, &token.owner));
+    fields.add(true, Word::User, user_of(alloc, &token.owner));
     fields.into_body()
 }
 
@@ -28,10 +29,10 @@ pub fn token_body(alloc: Global, token: &Token) -> Result<Body, AllocError>
 pub fn new_token_body(alloc: Global, token: &Token, text: &str) -> Result<Body, AllocError>
     ensures { IfOk result (λ body. body_tokens body ≡ spec.new_token_body token.now text.now) }
 {
-    let mut fields = Fields::new(alloc);
+    let mut fields = Fields::new(alloc, 9);
     add_token(alloc, &mut fields, token);
-    fields.add(alloc, true, "token", line(alloc, text));
-    fields.add(alloc, true, "user", user_of(alloc, &token.owner));
+    fields.add(true, Word::Token, line(alloc, text));
+    fields.add(true, Word::User, user_of(alloc, &token.owner));
     fields.into_body()
 }
 
@@ -39,28 +40,13 @@ pub fn new_token_body(alloc: Global, token: &Token, text: &str) -> Result<Body, 
 fn add_token(alloc: Global, fields: &mut Fields, token: &Token)
     ensures { (before : List Member) → holds fields.old before → holds fields.new (before ++ spec.token_members token.now) }
 {
-    fields.add(alloc, true, "created", moment(alloc, token.created));
-    fields.add(
-        alloc,
-        true,
-        "expires_at",
-        moment_or_null(alloc, token.expires_at),
-    );
-    fields.add(alloc, true, "id", digits(alloc, token.id));
-    fields.add(alloc, true, "kind", line(alloc, "api_token"));
-    fields.add(alloc, true, "note", line(alloc, token.note.as_str()));
-    fields.add(
-        alloc,
-        true,
-        "oauth_client",
-        line_or_null(alloc, &token.client),
-    );
-    fields.add(
-        alloc,
-        true,
-        "scopes",
-        scopes(alloc, token.scopes.as_slice()),
-    );
+    fields.add(true, Word::Created, Ok(moment(token.created)));
+    fields.add(true, Word::ExpiresAt, Ok(moment_or_null(token.expires_at)));
+    fields.add(true, Word::Id, digits(alloc, token.id));
+    fields.add(true, Word::Kind, Ok(fixed(Word::ApiToken)));
+    fields.add(true, Word::Note, line(alloc, token.note.as_str()));
+    fields.add(true, Word::OauthClient, line_or_null(alloc, &token.client));
+    fields.add(true, Word::Scopes, scopes(alloc, token.scopes.as_slice()));
 }
 
 fn user_of(alloc: Global, owner: &Owner) -> Result<Body, AllocError>
@@ -76,17 +62,12 @@ fn user_of(alloc: Global, owner: &Owner) -> Result<Body, AllocError>
 pub fn role_body(alloc: Global, role: &Role) -> Result<Body, AllocError>
     ensures { IfOk result (λ body. body_tokens body ≡ spec.role_body role.now) }
 {
-    let mut fields = Fields::new(alloc);
-    fields.add(alloc, true, "groups", names(alloc, role.groups.as_slice()));
-    fields.add(alloc, true, "name", line(alloc, role.name.as_str()));
-    fields.add(alloc, true, "scopes", scopes(alloc, role.scopes.as_slice()));
-    fields.add(
-        alloc,
-        true,
-        "services",
-        names(alloc, role.services.as_slice()),
-    );
-    fields.add(alloc, true, "users", names(alloc, role.users.as_slice()));
+    let mut fields = Fields::new(alloc, 5);
+    fields.add(true, Word::Groups, names(alloc, role.groups.as_slice()));
+    fields.add(true, Word::Name, line(alloc, role.name.as_str()));
+    fields.add(true, Word::Scopes, scopes(alloc, role.scopes.as_slice()));
+    fields.add(true, Word::Services, names(alloc, role.services.as_slice()));
+    fields.add(true, Word::Users, names(alloc, role.users.as_slice()));
     fields.into_body()
 }
 
@@ -94,17 +75,12 @@ pub fn role_body(alloc: Global, role: &Role) -> Result<Body, AllocError>
 pub fn share_body(alloc: Global, share: &Share) -> Result<Body, AllocError>
     ensures { IfOk result (λ body. body_tokens body ≡ spec.share_body share.now) }
 {
-    let mut fields = Fields::new(alloc);
-    fields.add(alloc, true, "created", moment(alloc, share.created));
-    fields.add(alloc, true, "group", group_to(alloc, &share.key.to));
-    fields.add(
-        alloc,
-        true,
-        "scopes",
-        scopes(alloc, share.scopes.as_slice()),
-    );
-    fields.add(alloc, true, "server", key_line(alloc, &share.key.server));
-    fields.add(alloc, true, "user", user_to(alloc, &share.key.to));
+    let mut fields = Fields::new(alloc, 5);
+    fields.add(true, Word::Created, Ok(moment(share.created)));
+    fields.add(true, Word::Group, group_to(alloc, &share.key.to));
+    fields.add(true, Word::Scopes, scopes(alloc, share.scopes.as_slice()));
+    fields.add(true, Word::Server, key_line(alloc, &share.key.server));
+    fields.add(true, Word::User, user_to(alloc, &share.key.to));
     fields.into_body()
 }
 
@@ -130,7 +106,7 @@ fn user_to(alloc: Global, to: &Recipient) -> Result<Body, AllocError>
 pub fn code_body(alloc: Global, code: &ShareCode) -> Result<Body, AllocError>
     ensures { IfOk result (λ body. body_tokens body ≡ spec.code_body code.now) }
 {
-    let mut fields = Fields::new(alloc);
+    let mut fields = Fields::new(alloc, 5);
     add_code(alloc, &mut fields, code);
     fields.into_body()
 }
@@ -139,8 +115,8 @@ pub fn code_body(alloc: Global, code: &ShareCode) -> Result<Body, AllocError>
 pub fn new_code_body(alloc: Global, code: &ShareCode, text: &str) -> Result<Body, AllocError>
     ensures { IfOk result (λ body. body_tokens body ≡ spec.new_code_body code.now text.now) }
 {
-    let mut fields = Fields::new(alloc);
-    fields.add(alloc, true, "code", line(alloc, text));
+    let mut fields = Fields::new(alloc, 6);
+    fields.add(true, Word::Code, line(alloc, text));
     add_code(alloc, &mut fields, code);
     fields.into_body()
 }
@@ -149,9 +125,9 @@ pub fn new_code_body(alloc: Global, code: &ShareCode, text: &str) -> Result<Body
 fn add_code(alloc: Global, fields: &mut Fields, code: &ShareCode)
     ensures { (before : List Member) → holds fields.old before → holds fields.new (before ++ spec.code_members code.now) }
 {
-    fields.add(alloc, true, "created", moment(alloc, code.created));
-    fields.add(alloc, true, "expires_at", moment(alloc, code.expires_at));
-    fields.add(alloc, true, "id", digits(alloc, code.id));
-    fields.add(alloc, true, "scopes", scopes(alloc, code.scopes.as_slice()));
-    fields.add(alloc, true, "server", key_line(alloc, &code.server));
+    fields.add(true, Word::Created, Ok(moment(code.created)));
+    fields.add(true, Word::ExpiresAt, Ok(moment(code.expires_at)));
+    fields.add(true, Word::Id, digits(alloc, code.id));
+    fields.add(true, Word::Scopes, scopes(alloc, code.scopes.as_slice()));
+    fields.add(true, Word::Server, key_line(alloc, &code.server));
 }

@@ -8,7 +8,8 @@ use crate::body::Body;
 use crate::facts::ServerFacts;
 use crate::fields::Fields;
 use crate::members::line;
-use crate::parts::{moment_or_null, truth};
+use crate::parts::{fixed, moment_or_null, truth};
+use crate::word::Word;
 use hub_kit::names::ServerKey;
 use hub_kit::text::Text;
 use server_life::Phase;
@@ -28,13 +29,13 @@ fn is_ready(phase: Phase) -> bool
 }
 
 /// `spawn` for a server that is starting, `stop` for one that is ending or still has to, else null.
-fn pending(alloc: Global, phase: Phase) -> Result<Body, AllocError>
-    ensures { IfOk result (λ body. body_tokens body ≡ spec.pending phase) }
+fn pending(phase: Phase) -> Body
+    ensures { body_tokens result ≡ spec.pending phase }
 {
     match phase {
-        Phase::Stopped | Phase::Ready(_) => Ok(Body::Null),
-        Phase::Adopting(_) | Phase::Spawning(_) | Phase::Routing(_) => line(alloc, "spawn"),
-        Phase::Unrouting(_) | Phase::Stopping(_) | Phase::Parked(_, _) => line(alloc, "stop"),
+        Phase::Stopped | Phase::Ready(_) => Body::Null,
+        Phase::Adopting(_) | Phase::Spawning(_) | Phase::Routing(_) => fixed(Word::Spawn),
+        Phase::Unrouting(_) | Phase::Stopping(_) | Phase::Parked(_, _) => fixed(Word::Stop),
     }
 }
 
@@ -72,13 +73,13 @@ pub fn server_body(alloc: Global, server: &ServerFacts) -> Result<Body, AllocErr
 {
     let row = &server.row;
     let phase = server.life.phase;
-    let mut fields = Fields::new(alloc);
-    let last_activity = moment_or_null(alloc, row.last_activity);
-    fields.add(alloc, true, "last_activity", last_activity);
-    fields.add(alloc, true, "name", line(alloc, row.key.server.as_str()));
-    fields.add(alloc, true, "pending", pending(alloc, phase));
-    fields.add(alloc, true, "ready", Ok(truth(is_ready(phase))));
-    fields.add(alloc, true, "started", moment_or_null(alloc, row.started));
-    fields.add(alloc, true, "url", url_line(alloc, &row.key));
+    let mut fields = Fields::new(alloc, 6);
+    let last_activity = moment_or_null(row.last_activity);
+    fields.add(true, Word::LastActivity, Ok(last_activity));
+    fields.add(true, Word::Name, line(alloc, row.key.server.as_str()));
+    fields.add(true, Word::Pending, Ok(pending(phase)));
+    fields.add(true, Word::Ready, Ok(truth(is_ready(phase))));
+    fields.add(true, Word::Started, Ok(moment_or_null(row.started)));
+    fields.add(true, Word::Url, url_line(alloc, &row.key));
     fields.into_body()
 }

@@ -10,8 +10,9 @@ use crate::body::Body;
 use crate::facts::{ServerFacts, UserFacts};
 use crate::fields::Fields;
 use crate::members::{add_member, line};
-use crate::parts::{moment, moment_or_null, names, truth};
+use crate::parts::{fixed, moment, moment_or_null, names, truth};
 use crate::servers::{is_live, server_body};
+use crate::word::Word;
 use hub_kit::names::UserName;
 use hub_kit::text::Text;
 use scope_filters::grant::Grant;
@@ -32,7 +33,7 @@ pub fn user_body<M: Members>(
 ) -> Result<Body, AllocError>
     ensures { IfOk result (λ body. body_tokens body ≡ spec.user_body (grant_admits (M.context m.now) rights.now) facts.now) }
 {
-    let mut fields = Fields::new(alloc);
+    let mut fields = Fields::new(alloc, 8);
     add_user(alloc, m, rights, &mut fields, false, facts);
     add_servers(alloc, m, rights, &mut fields, facts);
     fields.into_body()
@@ -51,16 +52,16 @@ pub fn add_user<M: Members>(
 {
     let user = &facts.user;
     let shown = shown_fields(m, rights, named, &user.name);
-    fields.add(alloc, shown.account, "admin", Ok(truth(user.admin)));
-    fields.add(alloc, shown.account, "created", moment(alloc, user.created));
+    fields.add(shown.account, Word::Admin, Ok(truth(user.admin)));
+    fields.add(shown.account, Word::Created, Ok(moment(user.created)));
     let groups = names(alloc, facts.groups.as_slice());
-    fields.add(alloc, shown.groups, "groups", groups);
-    fields.add(alloc, shown.name, "kind", line(alloc, "user"));
-    let last_activity = moment_or_null(alloc, user.last_activity);
-    fields.add(alloc, shown.activity, "last_activity", last_activity);
-    fields.add(alloc, shown.name, "name", line(alloc, user.name.as_str()));
+    fields.add(shown.groups, Word::Groups, groups);
+    fields.add(shown.name, Word::Kind, Ok(fixed(Word::User)));
+    let last_activity = moment_or_null(user.last_activity);
+    fields.add(shown.activity, Word::LastActivity, Ok(last_activity));
+    fields.add(shown.name, Word::Name, line(alloc, user.name.as_str()));
     let roles = names(alloc, facts.roles.as_slice());
-    fields.add(alloc, shown.roles, "roles", roles);
+    fields.add(shown.roles, Word::Roles, roles);
 }
 
 /// Which fields of a user are shown: `kind` and `name`, `admin` and `created`, and the others one by one.
@@ -104,7 +105,7 @@ pub fn add_servers<M: Members>(
     match shown_servers(alloc, m, rights, facts.servers.as_slice()) {
         Ok(servers) => {
             let shown = has_any(&servers) || admits(rights, Action::ReadServers, &object, m);
-            fields.add(alloc, shown, "servers", Ok(Body::Pairs(servers)));
+            fields.add(shown, Word::Servers, Ok(Body::Pairs(servers)));
         }
         Err(_) => fields.fail(),
     }

@@ -17,8 +17,8 @@ returns g c = λ x h kept.
       | then-named w ↦ either c.args.named by_name c.if-named.named w.named-is w.if-named.true
       | else-named w ↦ other c.args.named by_name c.if-named.named (w.named-is ∙ w.admits-named.ensures) w.if-named.false
     ] in
-    joined c.add-3.new.self x _ _ (c.add-3.ensures _ _ (joined c.add-2.new.self x _ _ (c.add-2.ensures _ _ (c.add.ensures x _ h c.line.ensures)
-    (spelled c.line-2.result _ _ c.line-2.ensures c.as_str.ensures.value)))
+    joined c.add-3.new.self x _ _ (c.add-3.ensures _ _ (joined c.add-2.new.self x _ _ (c.add-2.ensures _ _ (c.add.ensures x _ h c.fixed.ensures)
+    (spelled c.line.result _ _ c.line.ensures c.as_str.ensures.value)))
     (named c.names.result _ _ c.names.ensures refl)) kept
     ∙ (λ i. x ++ (member (shown i) (codes "kind") (line (codes "service")) ++ member (shown i) (codes "name") (line c.args.service.now)
     ++ member (c.admits-with_roles.ensures i) (codes "roles") (lines c.args.roles.now)))

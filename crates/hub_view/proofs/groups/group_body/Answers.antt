@@ -5,8 +5,8 @@ use Rattle.hub_view.proofs.groups.group_body.Goals as goal
 
 pub returns : goal.returns
 returns g c = retold c.into_body.result _ _
-    (c.into_body.ensures _ (c.add-4.ensures _ _ (c.add-3.ensures _ _ (c.add-2.ensures _ _ (c.add.ensures _ _ c.new-fields.ensures c.line.ensures)
-    (spelled c.line-2.result _ _ c.line-2.ensures c.as_str.ensures.value))
+    (c.into_body.ensures _ (c.add-4.ensures _ _ (c.add-3.ensures _ _ (c.add-2.ensures _ _ (c.add.ensures _ _ c.new-fields.ensures c.fixed.ensures)
+    (spelled c.line.result _ _ c.line.ensures c.as_str.ensures.value))
     (named c.names.result _ _ c.names.ensures refl))
     (named c.names-2.result _ _ c.names-2.ensures c.as_slice.ensures.keys)))
     (λ i. pairs (member (c.admits-named.ensures i) (codes "kind") (line (codes "group"))

@@ -11,7 +11,7 @@ returns c = λ x h.
     (joined c.add-4.new.self x _ _ (c.add-4.ensures _ _ (joined c.add-3.new.self x _ _ (c.add-3.ensures _ _
     (joined c.add-2.new.self x _ _ (c.add-2.ensures _ _ (c.add.ensures x _ h c.moment.ensures) c.moment_or_null.ensures))
     c.digits.ensures))
-    c.line.ensures))
-    (spelled c.line-2.result _ _ c.line-2.ensures c.as_str.ensures)))
+    c.fixed.ensures))
+    (spelled c.line.result _ _ c.line.ensures c.as_str.ensures)))
     c.line_or_null.ensures))
     (retold c.scopes.result _ _ c.scopes.ensures (ap scope_lines c.as_slice.ensures)))

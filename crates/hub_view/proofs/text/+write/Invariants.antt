@@ -11,3 +11,8 @@ abbrev pub invariant-write_pairs-loop-key : goal.invariant-write_pairs-loop-key
 invariant-write_pairs-loop-key l =
     (l.out.before ≡ l.fn.out.before)
     × (l.out.tokens ++ pairs_tokens (drop l.key-index l.fn.pairs) ≡ l.fn.out.tokens ++ pairs_tokens l.fn.pairs)
+
+abbrev pub invariant-write_record-loop-key : goal.invariant-write_record-loop-key
+invariant-write_record-loop-key l =
+    (l.out.before ≡ l.fn.out.before)
+    × (l.out.tokens ++ pairs_tokens (drop l.key-index l.fn.fields) ≡ l.fn.out.tokens ++ pairs_tokens l.fn.fields)

@@ -11,9 +11,9 @@ returns g c = λ x h kept.
     (joined c.add-4.new.self x _ _ (c.add-4.ensures _ _ (joined c.add-3.new.self x _ _ (c.add-3.ensures _ _
     (joined c.add-2.new.self x _ _ (c.add-2.ensures _ _ (c.add.ensures x _ h c.truth.ensures) c.moment.ensures))
     (named c.names-groups.result _ _ c.names-groups.ensures c.as_slice.ensures)))
-    c.line.ensures))
+    c.fixed.ensures))
     c.moment_or_null-last_activity.ensures))
-    (spelled c.line-2.result _ _ c.line-2.ensures c.as_str.ensures.value)))
+    (spelled c.line.result _ _ c.line.ensures c.as_str.ensures.value)))
     (named c.names-roles.result _ _ c.names-roles.ensures c.as_slice-2.ensures)) kept
     ∙ (λ i. x ++ user_shown (grant_admits (g.M.Members.context c.args.m.now) c.args.rights.now) c.args.named c.args.facts.now
     shown.account shown.groups shown.name shown.activity shown.roles rights.account rights.groups rights.name rights.activity rights.roles i)
