@@ -74,7 +74,7 @@ pub fn issue(
     Ok(issued(alloc, ask, hash, id, now)?)
 }
 
-fn is_hash_kept(tables: &Tables, hash: &Text) -> bool
+pub(crate) fn is_hash_kept(tables: &Tables, hash: &Text) -> bool
     ensures { result ≡ is_hash_kept tables.now hash.now }
 {
     tables.token_of_hash(hash).is_some()
@@ -112,8 +112,8 @@ pub fn within(
     Ok(contained(&asked, rights, tables))
 }
 
-/// The token of a hash.
-fn issued(
+/// The token of a hash, exactly as it was asked for, under this id.
+pub fn issued(
     alloc: Global,
     ask: &TokenAsk,
     hash: Text,
