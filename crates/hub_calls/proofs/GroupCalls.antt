@@ -7,7 +7,8 @@ use Rattle.hub_machine.specs.Replies.{good}
 use Rattle.hub_calls.specs.Calling.{done}
 use Rattle.hub_calls.specs.Facts.{group_at}
 use Rattle.hub_calls.specs.GroupCalls as calls
-use Rattle.hub_calls.proofs.Statuses.{is_503, ruled}
+use Rattle.hub_machine.proofs.Statuses.{is_503}
+use Rattle.hub_calls.proofs.Statuses.{ruled}
 
 pub post_group : (s : Hub) (may : Rights) (group : List ℕ) (names : List (List ℕ)) → is_503 (calls.post_group s may group names) ≡ false
 post_group s may group names = ruled s (groups.add_group s.tables group names) (λ after. good 201 (group_at may after group)) (λ t. refl)

@@ -1,6 +1,7 @@
 pub mod Listing
 pub mod Putting
 pub mod Ruling
+pub mod Refusing
 pub mod AddingUsers
 pub mod Statuses
 pub mod UserCalls

@@ -8,7 +8,8 @@ use Rattle.hub_machine.specs.State.{Hub}
 use Rattle.hub_machine.specs.Replies.{good}
 use Rattle.hub_calls.specs.Calling.{done}
 use Rattle.hub_calls.specs.RoleCalls as calls
-use Rattle.hub_calls.proofs.Statuses.{is_503, ruled}
+use Rattle.hub_machine.proofs.Statuses.{is_503}
+use Rattle.hub_calls.proofs.Statuses.{ruled}
 
 put_or_made : (b : Bool) → (cond b 200 201 == 503) ≡ false
 put_or_made true = refl

@@ -7,7 +7,8 @@ use Rattle.hub_machine.specs.Replies.{good}
 use Rattle.hub_calls.specs.Calling.{done}
 use Rattle.hub_calls.specs.Facts.{service_body}
 use Rattle.hub_calls.specs.ServiceCalls as calls
-use Rattle.hub_calls.proofs.Statuses.{is_503, ruled}
+use Rattle.hub_machine.proofs.Statuses.{is_503}
+use Rattle.hub_calls.proofs.Statuses.{ruled}
 
 pub post_service : (s : Hub) (may : Rights) (service : List ℕ) → is_503 (calls.post_service s may service) ≡ false
 post_service s may service = ruled s (services.add_service s.tables service) (λ after. good 201 (service_body may after service)) (λ t. refl)

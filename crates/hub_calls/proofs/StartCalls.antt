@@ -1,7 +1,6 @@
 -- A start is answered by no 503, once there is a draw.
-use Rattle.std.proofs.Common.{◌≡◌, ◌==◌, ℕ, Bool, true, false, [], ◌∷◌, List, Option, refl}
+use Rattle.std.proofs.Common.{◌≡◌, ℕ, false, [], ◌∷◌, List, Option, refl}
 use Rattle.std.specs.Prelude.{Some, None, IsSome, Ok, Err, codes}
-use Rattle.std.specs.FinMap.{len}
 use Rattle.std.specs.Option.{is_some}
 use Rattle.hub_kit.specs.Hashes.{draw_text, hash_text}
 use Rattle.hub_kit.specs.declared.names.ServerKey.{ServerKey}
@@ -12,17 +11,11 @@ use Rattle.server_life.specs.declared.life.LifeEvent.TheVariants.{Begin}
 use Rattle.server_life.specs.declared.life.LifeRefusal.TheVariants.{Running, PendingSpawn, PendingStop, OldGeneration, NotNow}
 use Rattle.hub_machine.specs.State.{Hub, free_target, life_of, next_generation}
 use Rattle.hub_machine.specs.Apply.{LifeStep}
-use Rattle.hub_machine.specs.Replies.{Answer, rules, if_so, status_of}
+use Rattle.hub_machine.specs.Replies.{Answer, if_so}
 use Rattle.hub_machine.specs.declared.refusal.Refusal.{Refusal}
 use Rattle.hub_machine.specs.declared.refusal.Refusal.TheVariants.{Exists, Full, Rule}
 use Rattle.hub_calls.specs.Starts as calls
-use Rattle.hub_calls.proofs.Statuses.{is_503}
-
--- one rule more in front of others
-no_rule : (b : Bool) (x : Refusal) (rest : List (Option Refusal)) (r : Answer) → (status_of x == 503) ≡ false → is_503 (rules rest r) ≡ false
-    → is_503 (rules (if_so b x ∷ rest) r) ≡ false
-no_rule true x rest r h k = h
-no_rule false x rest r h k = k
+use Rattle.hub_machine.proofs.Statuses.{is_503, no_rule}
 
 on_target : (s : Hub) (now : ℕ) (secret : List ℕ) (server : ServerKey) (target : Option (List ℕ)) → is_503 (calls.on_target s now secret server target) ≡ false
 on_target s now secret server None = refl

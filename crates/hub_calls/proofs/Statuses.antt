@@ -1,20 +1,13 @@
--- Which answers are said by a 503: none that the rules give, since that status is for a keeper's refusal alone.
-use Rattle.std.proofs.Common.{◌≡◌, ◌==◌, Bool, false, [], ◌∷◌, List, refl}
+-- An answer by the rules is said by no 503.
+use Rattle.std.proofs.Common.{◌≡◌, ◌==◌, false, refl}
 use Rattle.std.specs.Prelude.{Ok, Err}
-use Rattle.hub_rows.specs.declared.changes.RowChange.{RowChange}
 use Rattle.admin_rules.specs.declared.refusals.RuleRefusal.{RuleRefusal}
 use Rattle.admin_rules.specs.declared.refusals.RuleRefusal.TheVariants as Rule
 use Rattle.admin_rules.specs.Rules as rules
 use Rattle.hub_machine.specs.State.{Hub}
-use Rattle.hub_machine.specs.Replies.{Answer, refuses, refuses_with, gives, changes, works, Good, rows_then, status_of}
+use Rattle.hub_machine.specs.Replies.{Good, status_of}
+use Rattle.hub_machine.proofs.Statuses.{is_503, no_rows}
 use Rattle.hub_calls.specs.Calling.{after_rows, by_rules, refusal_of}
-
-abbrev pub is_503 : Answer → Bool
-is_503 (refuses r) = status_of r == 503
-is_503 (refuses_with c r) = status_of r == 503
-is_503 (gives g) = g.status == 503
-is_503 (changes c g) = g.status == 503
-is_503 (works c w) = false
 
 no_rule : (r : RuleRefusal) → (status_of (refusal_of r) == 503) ≡ false
 no_rule (Rule.Exists key) = refl
@@ -26,10 +19,6 @@ no_rule (Rule.UnknownScope scope) = refl
 no_rule (Rule.UnknownHolder name) = refl
 no_rule (Rule.Full kind limit) = refl
 no_rule Rule.Memory = refl
-
-no_rows : (rows : List RowChange) (g : Good) → (g.status == 503) ≡ false → is_503 (rows_then rows g) ≡ false
-no_rows [] g h = h
-no_rows (r ∷ rest) g h = h
 
 -- an answer by the rules, whose reply isn't
 pub ruled : (s : Hub) (made : rules.Answer) (reply : Hub → Good) → ((t : Hub) → ((reply t).status == 503) ≡ false) → is_503 (by_rules s made reply) ≡ false

@@ -1,6 +1,6 @@
 -- A stop is answered by no 503.
-use Rattle.std.proofs.Common.{◌≡◌, ℕ, Bool, true, false, ◌&&◌, cond, [], ◌∷◌, Option, refl}
-use Rattle.std.specs.Prelude.{Some, None, Ok, Err}
+use Rattle.std.proofs.Common.{◌≡◌, ℕ, Bool, true, false, ◌&&◌, [], ◌∷◌, Option, refl}
+use Rattle.std.specs.Prelude.{Some, None, Ok, Err, codes}
 use Rattle.hub_kit.specs.declared.names.ServerKey.{ServerKey}
 use Rattle.hub_tables.specs.Lookups.{is_default}
 use Rattle.server_life.specs.LifeTable.{life_after}
@@ -15,8 +15,8 @@ use Rattle.hub_lives.specs.declared.lives.Leased.{Leased}
 use Rattle.hub_machine.specs.declared.refusal.Refusal.TheVariants.{Rule}
 use Rattle.hub_calls.specs.Calling.{done}
 use Rattle.hub_calls.specs.Stops as calls
-use Rattle.hub_calls.proofs.Statuses.{is_503, ruled}
-use Rattle.std.specs.Prelude.{codes}
+use Rattle.hub_machine.proofs.Statuses.{is_503}
+use Rattle.hub_calls.proofs.Statuses.{ruled}
 
 goes_on : (server : ServerKey) (g : ℕ) (l : Leased) (todo : Todo) → is_503 (calls.goes_on server g l todo) ≡ false
 goes_on server g l Nothing = refl

@@ -8,7 +8,8 @@ use Rattle.hub_machine.specs.Replies.{good}
 use Rattle.hub_calls.specs.Calling.{done}
 use Rattle.hub_calls.specs.Facts.{user_at}
 use Rattle.hub_calls.specs.UserCalls as calls
-use Rattle.hub_calls.proofs.Statuses.{is_503, ruled}
+use Rattle.hub_machine.proofs.Statuses.{is_503}
+use Rattle.hub_calls.proofs.Statuses.{ruled}
 
 pub post_users : (s : Hub) (may : Rights) (now : ℕ) (names : List (List ℕ)) (admin : Bool) → is_503 (calls.post_users s may now names admin) ≡ false
 post_users s may now names admin =

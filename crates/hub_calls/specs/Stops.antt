@@ -1,5 +1,5 @@
 -- The stop of a server, and its deletion.
-use Rattle.std.specs.Prelude.{ℕ, Bool, ◌&&◌, List, [], ◌∷◌, codes, Option, Some, None, Ok, Err, if◌then◌else◌}
+use Rattle.std.specs.Prelude.{ℕ, Bool, ◌&&◌, [], ◌∷◌, codes, Option, Some, None, Ok, Err, if◌then◌else◌}
 use Rattle.hub_kit.specs.declared.names.ServerKey.{ServerKey}
 use Rattle.hub_tables.specs.Lookups.{is_default}
 use Rattle.server_life.specs.LifeTable.{life_after}

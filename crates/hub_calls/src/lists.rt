@@ -1,10 +1,10 @@
-//! Lists in pages: the bodies of those that stand in a page, and the answer.
-ghost use Rattle.std.specs.Prelude.{◌≡◌, List, length, map as over, IfOk};
+//! Lists in pages: the bodies of those that stand in a page.
+ghost use Rattle.std.specs.Prelude.{◌≡◌, map as over, IfOk};
 ghost use Rattle.keyed_rows.specs.Rows.{map_of};
 ghost use Rattle.hub_view.specs.Body.{body_tokens, bodies};
 ghost use Rattle.hub_view.specs.Fields.{Rights};
 ghost use Rattle.hub_view.specs.Json.{Json};
-ghost use Rattle.hub_view.specs.Pages.{in_page, kept, paged_list};
+ghost use Rattle.hub_view.specs.Pages.{kept, paged_list};
 ghost use Rattle.hub_machine.specs.Answers.{answer_view};
 ghost use Rattle.hub_machine.specs.Replies as spec;
 ghost use Rattle.hub_machine.specs.State.{Hub};
@@ -13,9 +13,9 @@ ghost use Rattle.hub_calls.specs.Rights.{may_of};
 
 use crate::bodies::{group_at, service_body, user_at};
 use hub_kit::names::{GroupName, ServiceName, UserName};
-use hub_machine::answer::{Answer, gives};
+use hub_machine::answer::{Answer, listed};
 use hub_machine::machine::Machine;
-use hub_view::{Body, Page, page_body, part_of};
+use hub_view::{Body, Page, part_of};
 use scope_filters::grant::Grant;
 use scope_meet::admitted::{Named, those_admitted};
 use scope_names::action::Action;
@@ -87,17 +87,4 @@ fn bodies_of<K: Shown>(
         bodies.push(name.body(alloc, hub, rights)?)?;
     }
     Ok(bodies)
-}
-
-/// The answer with a page of a list that has so many objects, of which these stand in the page.
-pub(crate) fn listed(
-    alloc: Global,
-    page: Page,
-    total: usize,
-    part: Vec<Body>,
-    path: &str,
-) -> Result<Answer, AllocError>
-    ensures { IfOk result (λ answer. (shown : List Json) → bodies part.items ≡ in_page page shown → total ≡ length shown → answer_view answer ≡ spec.gives (spec.good 200 (paged_list path.now page shown))) }
-{
-    Ok(gives(200, page_body(alloc, path, page, total as u64, part)?))
 }

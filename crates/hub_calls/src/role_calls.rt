@@ -7,12 +7,11 @@ ghost use Rattle.hub_calls.specs.Facts.{role_at};
 ghost use Rattle.hub_calls.specs.RoleCalls as spec;
 
 use crate::bodies::role_at;
-use crate::lists::listed;
 use crate::ruled::{answered, carried, refused};
 use admin_rules::roles;
 use hub_kit::list::List;
 use hub_kit::names::{GroupName, RoleName, ServiceName, UserName};
-use hub_machine::answer::{Answer, gives};
+use hub_machine::answer::{Answer, gives, listed};
 use hub_machine::machine::Machine;
 use hub_rows::records::Role;
 use hub_tables::tables::Tables;

@@ -1,5 +1,5 @@
 //! Answers of calls that the rules decide.
-ghost use Rattle.std.specs.Prelude.{◌≡◌, ◌++◌, IfOk, Ok, Err, alloc_error};
+ghost use Rattle.std.specs.Prelude.{◌≡◌, IfOk, Ok, Err, alloc_error};
 ghost use Rattle.admin_rules.specs.Rules as rules;
 ghost use Rattle.hub_machine.specs.Answers.{answer_view};
 ghost use Rattle.hub_machine.specs.Replies as spec;
@@ -9,21 +9,11 @@ ghost use Rattle.hub_view.specs.Json.{Json};
 ghost use Rattle.hub_calls.specs.Calling.{after_rows, refusal_of, by_rules, done};
 
 use admin_rules::refusals::RuleRefusal;
-use hub_kit::text::Text;
 use hub_machine::answer::{Answer, plain, rows_then};
-use hub_machine::refusal::Refusal;
+use hub_machine::refusal::{Refusal, worded};
 use hub_rows::changes::RowChange;
 use hub_view::Body;
 use std::alloc::{AllocError, Global};
-
-/// A rule's refusal in words.
-pub(crate) fn worded(alloc: Global, front: &str, back: &str) -> Result<Refusal, AllocError>
-    ensures { IfOk result (λ r. r ≡ Refusal.Rule (front.now ++ back.now)) }
-{
-    let mut text = Text::from_str(alloc, front)?;
-    text.push_str(back)?;
-    Ok(Refusal::Rule(text))
-}
 
 /// How a refusal of the rules is said. Want of memory stays that.
 fn refusal_said(alloc: Global, refusal: RuleRefusal) -> Result<Refusal, AllocError>

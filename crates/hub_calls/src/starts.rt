@@ -1,17 +1,16 @@
 //! The start of a server.
 ghost use Rattle.std.specs.Prelude.{◌≡◌, ◌<◌, ◌-◌, ◌^◌, ◌∷◌, [], ◌++◌, codes, IfOk, OnOk};
 ghost use Rattle.std.specs.FinMap as map;
-ghost use Rattle.std.specs.Option.{is_some, option_copied};
-ghost use Rattle.hub_kit.specs.Hashes.{draw_text, hash_text};
+ghost use Rattle.std.specs.Option.{option_copied};
+ghost use Rattle.hub_kit.specs.Hashes.{hash_text};
 ghost use Rattle.hub_rows.specs.declared.changes.RowChange.TheVariants.{Put};
-ghost use Rattle.hub_tables.specs.Lookups.{next_of, token_of_hash};
+ghost use Rattle.hub_tables.specs.Lookups.{next_of};
 ghost use Rattle.hub_machine.specs.Answers.{answer_view};
 ghost use Rattle.hub_machine.specs.Apply.{client_of};
 ghost use Rattle.hub_machine.specs.Replies.{first_refusal};
 ghost use Rattle.hub_machine.specs.State.{next_generation};
 ghost use Rattle.hub_calls.specs.Starts as spec;
 
-use crate::ruled::worded;
 use hub_kit::hashes::{hash_of, token_text};
 use hub_kit::list::List;
 use hub_kit::moment::Moment;
@@ -22,7 +21,7 @@ use hub_machine::answer::{Answer, gives};
 use hub_machine::ends::client_of;
 use hub_machine::machine::Machine;
 use hub_machine::planned::Planned;
-use hub_machine::refusal::Refusal;
+use hub_machine::refusal::{Refusal, worded};
 use hub_machine::work::Work;
 use hub_rows::changes::RowChange;
 use hub_rows::client_id::ClientId;
@@ -36,6 +35,7 @@ use scope_filters::scope::{RawFilter, RawScope};
 use scope_names::action::Action;
 use server_life::{LifeEvent, LifeRefusal, Todo, life_step};
 use std::alloc::{AllocError, Global};
+use token_store::keeping::{is_text_kept, next_id};
 
 /// How many clients of OAuth there may be.
 const CLIENTS: usize = 2_000;
@@ -111,7 +111,7 @@ fn refusal(
     if is_past_limit(alloc, tables, server)? {
         return Ok(Some(worded(alloc, "server limit", "")?));
     }
-    if is_hash_kept(alloc, tables, secret)? {
+    if is_text_kept(alloc, tables, secret)? {
         return Ok(Some(Refusal::Exists(Text::from_str(alloc, "token")?)));
     }
     if is_without_token(alloc, tables)? {
@@ -157,30 +157,11 @@ fn named_among(keys: &[ServerKey]) -> usize
         .count()
 }
 
-/// Whether a token of this text is kept.
-fn is_hash_kept(alloc: Global, tables: &Tables, secret: &Text) -> Result<bool, AllocError>
-    ensures { IfOk result (λ b. b ≡ is_some (token_of_hash tables.now (hash_text secret.now))) }
-{
-    let hash = hash_of(alloc, secret.as_bytes())?;
-    Ok(tables.token_of_hash(&hash).is_some())
-}
-
-/// The next number of a kind of numbers.
-fn next_number(alloc: Global, tables: &Tables, kind: &str) -> Result<u64, AllocError>
-    ensures { IfOk result (λ n. n ≡ next_of tables.now kind.now) }
-{
-    let kind = Text::from_str(alloc, kind)?;
-    match tables.next_of(&kind) {
-        Some(row) => Ok(row.next),
-        None => Ok(1),
-    }
-}
-
 /// Whether there is no room for a token more, or no number left for it.
 fn is_without_token(alloc: Global, tables: &Tables) -> Result<bool, AllocError>
     ensures { IfOk result (λ b. b ≡ spec.is_without_token tables.now) }
 {
-    let next = next_number(alloc, tables, "token")?;
+    let next = next_id(alloc, tables)?;
     Ok(tables.limits().tokens as usize <= tables.count_of_tokens() || next == u64::MAX)
 }
 
@@ -263,7 +244,7 @@ fn put_rows(
     requires below { generation < 2 ^ 63 }
     ensures { OnOk result (rows.new.items ≡ spec.begin_rows tables.now now secret.now server.now target.now) }
 {
-    let id = next_number(alloc, tables, "token")?;
+    let id = next_id(alloc, tables)?;
     put(
         rows,
         Row::Token(server_token(alloc, id, now, secret, server)?),

@@ -3,13 +3,14 @@ ghost use Rattle.std.specs.Prelude.{◌≡◌, IfOk};
 ghost use Rattle.hub_machine.specs.Answers.{answer_view};
 ghost use Rattle.hub_calls.specs.Stops as spec;
 
-use crate::ruled::{carried, worded};
+use crate::ruled::carried;
 use admin_rules::servers;
 use hub_kit::names::ServerKey;
 use hub_lives::lives::Leased;
 use hub_machine::answer::{Answer, gives, plain};
 use hub_machine::machine::Machine;
 use hub_machine::planned::Planned;
+use hub_machine::refusal::worded;
 use hub_machine::work::Work;
 use hub_view::Body;
 use server_life::{LifeEvent, Todo, life_step};

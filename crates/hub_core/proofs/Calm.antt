@@ -1,4 +1,4 @@
--- No row that an answer changes is one that a test finds, where the test finds none of the kinds of rows that answers change.
+-- No row that an answer changes is one that a test finds, where the test finds none of the kinds of rows that answers change, unless the call issues a token.
 use Rattle.std.proofs.Common.{◌≡◌, ℕ, Bool, true, false, ◌||◌, ◌&&◌, not, cond, codes, List, [], ◌∷◌, ◌++◌, map, filter, length, Option, refl, sym, subst}
 use Rattle.std.specs.Prelude.{Some, None, Ok, Err}
 use Rattle.std.specs.List.{flat_map, list_any}
@@ -39,6 +39,7 @@ use Rattle.admin_rules.specs.Servers as servers
 use Rattle.admin_rules.specs.Services as services
 use Rattle.admin_rules.specs.Roles as roles
 use Rattle.admin_rules.specs.Purges.{changes_of, has_member, without_member, is_held_by_user, without_user, is_token_of_user, is_server_of_user, is_share_of_user, is_code_of_user, is_called, clients_of_user, is_grant_of_user, user_rows, is_held_by_group, without_group, is_share_to_group, group_rows, is_held_by_service, without_service, is_token_of_service, is_client, client_of_service, service_rows, is_share_of_server, is_code_of_server, server_rows}
+use Rattle.scope_meet.specs.declared.inside.Inside.{Inside}
 use Rattle.hub_view.specs.Fields.{Rights}
 use Rattle.hub_machine.specs.State.{Hub, has_live_server, free_target, lease_of, life_of, next_generation}
 use Rattle.hub_lives.specs.declared.lives.Leased.{Leased}
@@ -60,7 +61,15 @@ use Rattle.hub_machine.specs.declared.refusal.Refusal.{Refusal}
 use Rattle.hub_machine.specs.declared.refusal.Refusal.TheVariants.{SeenPast, NotFound, TrailFull, Rule as NotSo}
 use Rattle.hub_machine.specs.declared.call.Asked.{Asked}
 use Rattle.hub_machine.specs.declared.call.Call.{Call}
-use Rattle.hub_machine.specs.declared.call.Call.TheVariants.{PostUsers, PostUser, PatchUser, DeleteUser, PostActivity, PostServer, DeleteServer, PostGroup, DeleteGroup, JoinGroup, LeaveGroup, PostService, DeleteService, PutRole, DeleteRole}
+use Rattle.hub_machine.specs.declared.call.Call.TheVariants.{PostUsers, PostUser, PatchUser, DeleteUser, PostActivity, PostServer, DeleteServer, PostToken, DeleteToken, PostGroup, DeleteGroup, JoinGroup, LeaveGroup, PostService, DeleteService, PutRole, DeleteRole}
+
+-- the call issues a token
+abbrev pub issues : Call → Bool
+issues (PostToken ask) = true
+issues call = false
+
+not_old : true ≡ false → ⊥
+not_old e = cc
 
 -- the test finds none of the kinds of rows that answers change
 pub record IsCalm (test : RowChange → Bool) : Type 0 where
@@ -319,52 +328,54 @@ module _ (test : RowChange → Bool) (calm : IsCalm test) where
   stopping s server remove None = resting s server remove
   stopping s server remove (Some held) = stopped server held.0 held.1 (life_after held.1.life held.0 AskStop)
 
-  -- ---- each call
+  -- ---- each call that issues no token
 
-  calm_by_row : (s : Hub) (may : Rights) (now : ℕ) (draw : Option (List ℕ)) (k : Token) (call : Call) → Calm test (row s may now draw k call)
-  calm_by_row s may now draw k (PostUsers names admin) = calm_by_rules s (users.add_users s.tables names admin now) _ (new_users s.tables names admin now)
-  calm_by_row s may now draw k (PostUser user) = calm_by_rules s (users.add_users s.tables (user ∷ []) false now) _ (new_users s.tables (user ∷ []) false now)
-  calm_by_row s may now draw k (PatchUser user admin) = calm_by_rules s (users.set_admin s.tables user admin) (λ after. good 200 (user_at may after user)) (λ rows e. calm_by_ok _ rows (one_admin admin (get s.tables.users user)) e)
-  calm_by_row s may now draw k (DeleteUser user) = calm_by_rules s (users.delete_user s.tables user (has_live_server s.lives user)) _
+  calm_by_row : (s : Hub) (may : Rights) (inside : Inside) (now : ℕ) (draw : Option (List ℕ)) (k : Token) (call : Call) → issues call ≡ false → Calm test (row s may inside now draw k call)
+  calm_by_row s may inside now draw k (PostUsers names admin) old = calm_by_rules s (users.add_users s.tables names admin now) _ (new_users s.tables names admin now)
+  calm_by_row s may inside now draw k (PostUser user) old = calm_by_rules s (users.add_users s.tables (user ∷ []) false now) _ (new_users s.tables (user ∷ []) false now)
+  calm_by_row s may inside now draw k (PatchUser user admin) old = calm_by_rules s (users.set_admin s.tables user admin) (λ after. good 200 (user_at may after user)) (λ rows e. calm_by_ok _ rows (one_admin admin (get s.tables.users user)) e)
+  calm_by_row s may inside now draw k (DeleteUser user) old = calm_by_rules s (users.delete_user s.tables user (has_live_server s.lives user)) _
       (λ rows e. calm_by_ruled (rules.if_so (has_live_server s.lives user) LiveServers ∷ []) _ rows (calm_by_if (contains_key s.tables.users user) (user_rows s.tables user) (calm_user s.tables user)) e)
-  calm_by_row s may now draw k (PostActivity user last told) = calm_by_rules s (servers.note_activity s.tables user now last told) done
+  calm_by_row s may inside now draw k (PostActivity user last told) old = calm_by_rules s (servers.note_activity s.tables user now last told) done
       (λ rows e. calm_by_ruled (servers.if_unknown_server s.tables user told ∷ []) _ rows (all_active s.tables now user last told) e)
-  calm_by_row s may now draw k (PostServer server) = starting s now server draw
-  calm_by_row s may now draw k (DeleteServer server remove) =
+  calm_by_row s may inside now draw k (PostServer server) old = starting s now server draw
+  calm_by_row s may inside now draw k (DeleteServer server remove) old =
       calm_by_or (first_refusal (if_so (remove && is_default server.server) (NotSo (codes "default server")) ∷ [])) (on_lease s server remove (lease_of s.lives server))
       (stopping s server remove (lease_of s.lives server))
-  calm_by_row s may now draw k (PostGroup group names) = calm_by_rules s (groups.add_group s.tables group names) _
+  calm_by_row s may inside now draw k (PostToken ask) old = absurd (not_old old)
+  calm_by_row s may inside now draw k (DeleteToken user id) old = one (Remove (RowKey.Token id)) (calm.remove_token id)
+  calm_by_row s may inside now draw k (PostGroup group names) old = calm_by_rules s (groups.add_group s.tables group names) _
       (λ rows e. calm_by_ruled (rules.if_so (contains_key s.tables.groups group) (Exists group) ∷ groups.if_unknown_user s.tables names ∷ rules.if_full 2 s.tables.limits.groups (len s.tables.groups) 1 ∷ []) (Put (Row.Group (record { name = group; users = in_order name_cmp names })) ∷ []) rows (one _ (calm.put_group _)) e)
-  calm_by_row s may now draw k (DeleteGroup group) = calm_by_rules s (groups.delete_group s.tables group) done
+  calm_by_row s may inside now draw k (DeleteGroup group) old = calm_by_rules s (groups.delete_group s.tables group) done
       (λ rows e. calm_by_ok _ rows (calm_by_if (contains_key s.tables.groups group) (group_rows s.tables group) (calm_group s.tables group)) e)
-  calm_by_row s may now draw k (JoinGroup group names) = calm_by_rules s (groups.join_group s.tables group names) _
+  calm_by_row s may inside now draw k (JoinGroup group names) old = calm_by_rules s (groups.join_group s.tables group names) _
       (λ rows e. calm_by_ruled (groups.if_unknown_user s.tables names ∷ []) _ rows (one_group (with_keys name_cmp names) (get s.tables.groups group)) e)
-  calm_by_row s may now draw k (LeaveGroup group names) = calm_by_rules s (groups.leave_group s.tables group names) _
+  calm_by_row s may inside now draw k (LeaveGroup group names) old = calm_by_rules s (groups.leave_group s.tables group names) _
       (λ rows e. calm_by_ruled (groups.if_unknown_user s.tables names ∷ []) _ rows (one_group (without_keys name_cmp names) (get s.tables.groups group)) e)
-  calm_by_row s may now draw k (PostService service) = calm_by_rules s (services.add_service s.tables service) _
+  calm_by_row s may inside now draw k (PostService service) old = calm_by_rules s (services.add_service s.tables service) _
       (λ rows e. calm_by_ruled (rules.if_so (contains_key s.tables.services service) (Exists service) ∷ rules.if_full 3 s.tables.limits.services (len s.tables.services) 1 ∷ []) (Put (Row.Service (record { name = service })) ∷ []) rows (one _ (calm.put_service _)) e)
-  calm_by_row s may now draw k (DeleteService service) = calm_by_rules s (services.delete_service s.tables service) done
+  calm_by_row s may inside now draw k (DeleteService service) old = calm_by_rules s (services.delete_service s.tables service) done
       (λ rows e. calm_by_ok _ rows (calm_by_if (contains_key s.tables.services service) (service_rows s.tables service) (calm_service s.tables service)) e)
-  calm_by_row s may now draw k (PutRole role scopes us gs vs) =
+  calm_by_row s may inside now draw k (PutRole role scopes us gs vs) old =
       let x : Role = role_of role scopes us gs vs in
       calm_by_rules s (roles.put_role s.tables x) _
       (λ rows e. calm_by_ruled (rules.if_so (roles.is_fixed_role x.name) FixedRole ∷ roles.if_unknown_scope s.tables.scopes x.scopes ∷ roles.if_unknown_holder s.tables x
       ∷ rules.if_full 4 s.tables.limits.roles (len s.tables.roles) (cond (contains_key s.tables.roles x.name) 0 1) ∷ []) _ rows (one_role x (get s.tables.roles x.name)) e)
-  calm_by_row s may now draw k (DeleteRole role) = calm_by_rules s (roles.delete_role s.tables role) _
+  calm_by_row s may inside now draw k (DeleteRole role) old = calm_by_rules s (roles.delete_role s.tables role) _
       (λ rows e. calm_by_ruled (rules.if_so (roles.is_fixed_role role) FixedRole ∷ []) _ rows (calm_by_if (contains_key s.tables.roles role) (Remove (RowKey.Role role) ∷ []) (one _ (calm.remove_role _))) e)
-  calm_by_row s may now draw k _ = tt
+  calm_by_row s may inside now draw k _ old = tt
 
   -- ---- the frame
 
-  calm_by_token : (s : Hub) (j : Judgement) (now : ℕ) (draw : Option (List ℕ)) (call : Call) (k : Option Token) → Calm test (by_token s j now draw call k)
-  calm_by_token s j now draw call None = tt
-  calm_by_token s j now draw call (Some k) =
-      calm_by_or (first_refusal (action_rules j (needs call))) (if_there s j.may now draw k call)
-      (calm_by_or (first_refusal (if_so (not (is_there s.tables call)) NotFound ∷ [])) (row s j.may now draw k call) (calm_by_row s j.may now draw k call))
+  calm_by_token : (s : Hub) (j : Judgement) (now : ℕ) (draw : Option (List ℕ)) (call : Call) (k : Option Token) → issues call ≡ false → Calm test (by_token s j now draw call k)
+  calm_by_token s j now draw call None old = tt
+  calm_by_token s j now draw call (Some k) old =
+      calm_by_or (first_refusal (action_rules j (needs call))) (if_there s j.may j.inside now draw k call)
+      (calm_by_or (first_refusal (if_so (not (is_there s.tables call)) NotFound ∷ [])) (row s j.may j.inside now draw k call) (calm_by_row s j.may j.inside now draw k call old))
 
-  pub calm_by_call : (s : Hub) (j : Judgement) (now : ℕ) (draw : Option (List ℕ)) (call : Call) (k : Option Token) (b : Bool) → Calm test (cond b (by_token s j now draw call k) get_version)
-  calm_by_call s j now draw call k true = calm_by_token s j now draw call k
-  calm_by_call s j now draw call k false = tt
+  pub calm_by_call : (s : Hub) (j : Judgement) (now : ℕ) (draw : Option (List ℕ)) (call : Call) (k : Option Token) (b : Bool) → issues call ≡ false → Calm test (cond b (by_token s j now draw call k) get_version)
+  calm_by_call s j now draw call k true old = calm_by_token s j now draw call k old
+  calm_by_call s j now draw call k false old = tt
 
   calm_if : (r : Answer) (b : Bool) → Calm test r → Calm test (cond b (refuses TrailFull) r)
   calm_if r true h = tt
@@ -377,9 +388,9 @@ module _ (test : RowChange → Bool) (calm : IsCalm test) where
   calm_in_trail s (changes c g) h = calm_if (changes c g) (is_past_trail s c) h
   calm_in_trail s (works c w) h = calm_if (works c w) (is_past_trail s c) h
 
-  pub calm_answer : (s : Hub) (now : ℕ) (draw : Option (List ℕ)) (asked : Asked) (r : Answer) → Answers s now draw asked r → Calm test r
-  calm_answer s now draw asked r a =
+  pub calm_answer : (s : Hub) (now : ℕ) (draw : Option (List ℕ)) (asked : Asked) (r : Answer) → issues asked.call ≡ false → Answers s now draw asked r → Calm test r
+  calm_answer s now draw asked r old a =
       let by : Answer = by_call s a.judgement now draw (caller s now asked) asked.call in
       subst (Calm test) (sym a.is)
       (calm_by_or (first_refusal (if_so (is_past s.length asked.seen) (SeenPast (named asked.seen) s.length) ∷ [])) (in_trail s by)
-      (calm_in_trail s by (calm_by_call s a.judgement now draw asked.call (caller s now asked) (needs_token asked.call))))
+      (calm_in_trail s by (calm_by_call s a.judgement now draw asked.call (caller s now asked) (needs_token asked.call) old)))

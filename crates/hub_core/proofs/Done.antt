@@ -14,7 +14,7 @@ use Rattle.admin_rules.specs.Roles as roles
 use Rattle.admin_rules.specs.Servers as servers
 use Rattle.hub_view.specs.Fields.{Rights}
 use Rattle.hub_machine.specs.State.{Hub, AreLeased, has_live_server, lease_of, next_generation}
-use Rattle.hub_machine.specs.Apply.{is_past_trail}
+use Rattle.hub_machine.specs.Apply.{is_past_trail, rows_of}
 use Rattle.hub_machine.specs.Carry.{FitsIn, touches_lives}
 use Rattle.hub_machine.specs.Replies.{Answer, refuses, refuses_with, gives, changes, works, or_refusal, first_refusal, if_so}
 use Rattle.hub_machine.specs.Replies as spec
@@ -28,24 +28,31 @@ use Rattle.hub_machine.specs.declared.work.Work.{Work}
 use Rattle.hub_calls.specs.Calling.{done}
 use Rattle.hub_calls.specs.Facts.{user_at}
 use Rattle.hub_calls.specs.RoleCalls.{role_of}
+use Rattle.access_calls.specs.TokenCalls.{made, new_token, post_token, token_rules}
 use Rattle.hub_calls.specs.UserCalls.{get_version}
+use Rattle.hub_kit.specs.Hashes.{draw_text}
+use Rattle.scope_filters.specs.declared.holder.Owner.TheVariants as Own
+use Rattle.scope_meet.specs.declared.inside.Inside.{Inside}
+use Rattle.token_store.specs.Finding.{expired_tokens}
+use Rattle.token_store.specs.declared.issuing.TokenAsk.{TokenAsk}
 use Rattle.hub_calls.specs.Stops.{on_lease}
 use Rattle.hub_core.specs.Needs.{needs, needs_token, is_there}
 use Rattle.hub_core.specs.Answer.{Judgement, row, if_there, by_token, by_call, action_rules, caller, is_past, named}
 use Rattle.hub_core.specs.Current.{AreNumbered}
 use Rattle.hub_core.specs.History.{Answers, change_of}
 use Rattle.hub_core.specs.Carrying.{Carrier, Carried, MayBeDone, long_after}
-use Rattle.hub_core.proofs.Calm.{IsCalm, Calm, CalmIn, calm_answer}
+use Rattle.hub_core.proofs.Calm.{IsCalm, Calm, CalmIn, calm_answer, issues}
+use Rattle.hub_core.proofs.Issued.{answer_issued}
 use Rattle.hub_core.proofs.Lively.{IsLively, Lively, lively_change, lively_or, lively_by_rules, start_lively, stop_lively}
 use Rattle.hub_core.proofs.Places.{says_of}
-use Rattle.hub_core.proofs.Numbered.{NumbersIn, none_numbered, numbers, numbers_tokens}
+use Rattle.hub_core.proofs.Numbered.{NumbersIn, NumbersTokens, none_numbered, numbers, numbers_tokens}
 use Rattle.hub_machine.specs.declared.change.Change.{Change}
 use Rattle.hub_machine.specs.declared.change.Change.TheVariants as Of
 use Rattle.hub_machine.specs.declared.refusal.Refusal.{Refusal}
 use Rattle.hub_machine.specs.declared.refusal.Refusal.TheVariants.{Rule, SeenPast, NotFound, TrailFull, KeeperFault}
 use Rattle.hub_machine.specs.declared.call.Asked.{Asked}
 use Rattle.hub_machine.specs.declared.call.Call.{Call}
-use Rattle.hub_machine.specs.declared.call.Call.TheVariants.{PostUsers, PostUser, PatchUser, DeleteUser, PostActivity, PostServer, DeleteServer, PostGroup, DeleteGroup, JoinGroup, LeaveGroup, PostService, DeleteService, PutRole, DeleteRole}
+use Rattle.hub_machine.specs.declared.call.Call.TheVariants.{PostUsers, PostUser, PatchUser, DeleteUser, PostActivity, PostServer, DeleteServer, PostToken, PostGroup, DeleteGroup, JoinGroup, LeaveGroup, PostService, DeleteService, PutRole, DeleteRole}
 
 -- ---- no row of an answer's change is found by a hash, and none is of the live servers, unless it starts a server
 
@@ -89,34 +96,43 @@ none_lives = record {
 
 -- ---- starts and stops, through the frame
 
-row_lively : (s : Hub) (may : Rights) (now : ℕ) (draw : Option (List ℕ)) (k : Token) (call : Call) → AreLeased s → AreNumbered s.tables → next_generation s.tables < 2 ^ 63 → Lively s (row s may now draw k call)
-row_lively s may now draw k (PostUsers names admin) l n m = lively_by_rules s (users.add_users s.tables names admin now) _
-row_lively s may now draw k (PostUser user) l n m = lively_by_rules s (users.add_users s.tables (user ∷ []) false now) _
-row_lively s may now draw k (PatchUser user admin) l n m = lively_by_rules s (users.set_admin s.tables user admin) (λ (x : Hub). spec.good 200 (user_at may x user))
-row_lively s may now draw k (DeleteUser user) l n m = lively_by_rules s (users.delete_user s.tables user (has_live_server s.lives user)) _
-row_lively s may now draw k (PostActivity user last told) l n m = lively_by_rules s (servers.note_activity s.tables user now last told) _
-row_lively s may now draw k (PostServer server) l n m = start_lively s now draw server l n m
-row_lively s may now draw k (DeleteServer server remove) l n m = lively_or s (first_refusal (if_so (remove && is_default server.server) (Rule (codes "default server")) ∷ []))
-    (on_lease s server remove (lease_of s.lives server)) (stop_lively s server remove (lease_of s.lives server) l m refl)
-row_lively s may now draw k (PostGroup group names) l n m = lively_by_rules s (groups.add_group s.tables group names) _
-row_lively s may now draw k (DeleteGroup group) l n m = lively_by_rules s (groups.delete_group s.tables group) done
-row_lively s may now draw k (JoinGroup group names) l n m = lively_by_rules s (groups.join_group s.tables group names) _
-row_lively s may now draw k (LeaveGroup group names) l n m = lively_by_rules s (groups.leave_group s.tables group names) _
-row_lively s may now draw k (PostService service) l n m = lively_by_rules s (services.add_service s.tables service) _
-row_lively s may now draw k (DeleteService service) l n m = lively_by_rules s (services.delete_service s.tables service) done
-row_lively s may now draw k (PutRole role scopes us gs vs) l n m = lively_by_rules s (roles.put_role s.tables (role_of role scopes us gs vs)) _
-row_lively s may now draw k (DeleteRole role) l n m = lively_by_rules s (roles.delete_role s.tables role) _
-row_lively s may now draw k _ l n m = tt
+-- that the rows of a new token fit is shown elsewhere
+token_lively : (s : Hub) (now : ℕ) (draw : Option (List ℕ)) (inside : Inside) (ask : TokenAsk) → Lively s (post_token s now draw inside ask)
+token_lively s now None inside ask = tt
+token_lively s now (Some draw) inside ask =
+    let text = draw_text draw in
+    let over = expired_tokens s.tables now (Own.User ask.owner) in
+    lively_or s (first_refusal (token_rules s.tables over text inside ask)) (made (new_token s.tables now text ask) over text) tt
 
-token_lively : (s : Hub) (j : Judgement) (now : ℕ) (draw : Option (List ℕ)) (call : Call) (k : Option Token) → AreLeased s → AreNumbered s.tables → next_generation s.tables < 2 ^ 63 → Lively s (by_token s j now draw call k)
-token_lively s j now draw call None l n m = tt
-token_lively s j now draw call (Some k) l n m =
-    lively_or s (first_refusal (action_rules j (needs call))) (if_there s j.may now draw k call)
-    (lively_or s (first_refusal (if_so (not (is_there s.tables call)) NotFound ∷ [])) (row s j.may now draw k call) (row_lively s j.may now draw k call l n m))
+row_lively : (s : Hub) (may : Rights) (inside : Inside) (now : ℕ) (draw : Option (List ℕ)) (k : Token) (call : Call) → AreLeased s → AreNumbered s.tables → next_generation s.tables < 2 ^ 63 → Lively s (row s may inside now draw k call)
+row_lively s may inside now draw k (PostUsers names admin) l n m = lively_by_rules s (users.add_users s.tables names admin now) _
+row_lively s may inside now draw k (PostUser user) l n m = lively_by_rules s (users.add_users s.tables (user ∷ []) false now) _
+row_lively s may inside now draw k (PatchUser user admin) l n m = lively_by_rules s (users.set_admin s.tables user admin) (λ (x : Hub). spec.good 200 (user_at may x user))
+row_lively s may inside now draw k (DeleteUser user) l n m = lively_by_rules s (users.delete_user s.tables user (has_live_server s.lives user)) _
+row_lively s may inside now draw k (PostActivity user last told) l n m = lively_by_rules s (servers.note_activity s.tables user now last told) _
+row_lively s may inside now draw k (PostServer server) l n m = start_lively s now draw server l n m
+row_lively s may inside now draw k (DeleteServer server remove) l n m = lively_or s (first_refusal (if_so (remove && is_default server.server) (Rule (codes "default server")) ∷ []))
+    (on_lease s server remove (lease_of s.lives server)) (stop_lively s server remove (lease_of s.lives server) l m refl)
+row_lively s may inside now draw k (PostToken ask) l n m = token_lively s now draw inside ask
+row_lively s may inside now draw k (PostGroup group names) l n m = lively_by_rules s (groups.add_group s.tables group names) _
+row_lively s may inside now draw k (DeleteGroup group) l n m = lively_by_rules s (groups.delete_group s.tables group) done
+row_lively s may inside now draw k (JoinGroup group names) l n m = lively_by_rules s (groups.join_group s.tables group names) _
+row_lively s may inside now draw k (LeaveGroup group names) l n m = lively_by_rules s (groups.leave_group s.tables group names) _
+row_lively s may inside now draw k (PostService service) l n m = lively_by_rules s (services.add_service s.tables service) _
+row_lively s may inside now draw k (DeleteService service) l n m = lively_by_rules s (services.delete_service s.tables service) done
+row_lively s may inside now draw k (PutRole role scopes us gs vs) l n m = lively_by_rules s (roles.put_role s.tables (role_of role scopes us gs vs)) _
+row_lively s may inside now draw k (DeleteRole role) l n m = lively_by_rules s (roles.delete_role s.tables role) _
+row_lively s may inside now draw k _ l n m = tt
+
+frame_lively : (s : Hub) (j : Judgement) (now : ℕ) (draw : Option (List ℕ)) (call : Call) (k : Option Token) → AreLeased s → AreNumbered s.tables → next_generation s.tables < 2 ^ 63 → Lively s (by_token s j now draw call k)
+frame_lively s j now draw call None l n m = tt
+frame_lively s j now draw call (Some k) l n m =
+    lively_or s (first_refusal (action_rules j (needs call))) (if_there s j.may j.inside now draw k call)
+    (lively_or s (first_refusal (if_so (not (is_there s.tables call)) NotFound ∷ [])) (row s j.may j.inside now draw k call) (row_lively s j.may j.inside now draw k call l n m))
 
 call_lively : (s : Hub) (j : Judgement) (now : ℕ) (draw : Option (List ℕ)) (call : Call) (k : Option Token) (b : Bool) → AreLeased s → AreNumbered s.tables → next_generation s.tables < 2 ^ 63
     → Lively s (cond b (by_token s j now draw call k) get_version)
-call_lively s j now draw call k true l n m = token_lively s j now draw call k l n m
+call_lively s j now draw call k true l n m = frame_lively s j now draw call k l n m
 call_lively s j now draw call k false l n m = tt
 
 -- ---- room
@@ -180,12 +196,17 @@ calm_rows test (changes c g) h rows e = subst (λ (c : Change). CalmIn test c) (
 calm_rows test (works c w) h rows e = subst (λ (c : Change). CalmIn test c) (same_some c (Of.Rows rows) e) h
 
 pub may_be_done : (s : Hub) (now : ℕ) (draw : Option (List ℕ)) (asked : Asked) (r : Answer) → AreLeased s → AreNumbered s.tables → next_generation s.tables < 2 ^ 63 → Answers s now draw asked r → MayBeDone s (change_of r)
-may_be_done s now draw asked r l n m a =
-    let shown = answer_lively s now draw asked r l n m a in
-    let hashed = calm_answer puts_hashed none_hashed s now draw asked r a in
-    let lives = calm_answer touches_lives none_lives s now draw asked r a in
-    may_by s (change_of r) shown.0
-    (fits s (change_of r) (λ rows e. (calm_rows puts_hashed r hashed rows e, calm_rows touches_lives r lives rows e)) (lively_change s r shown.1))
+may_be_done s now draw asked r l n m a = may_by s (change_of r) shown.0 (by (issues asked.call) refl)
+  where
+    shown : HasRoom s r × Lively s r
+    shown = answer_lively s now draw asked r l n m a
+
+    by : (b : Bool) → issues asked.call ≡ b → (c : Change) → change_of r ≡ Some c → FitsIn s c
+    by true new c e = (answer_issued s now draw asked r n new a c e).0
+    by false old c e =
+        let hashed = calm_answer puts_hashed none_hashed s now draw asked r old a in
+        let lives = calm_answer touches_lives none_lives s now draw asked r old a in
+        fits s (change_of r) (λ rows e. (calm_rows puts_hashed r hashed rows e, calm_rows touches_lives r lives rows e)) (lively_change s r shown.1) c e
 
 numbered_by : (s : Hub) (ch : Option Change) → ((rows : List RowChange) → ch ≡ Some (Of.Rows rows) → list_any numbers rows ≡ false) → IsLively s ch → NumbersIn s.tables ch
 numbered_by s None calm lively = tt
@@ -193,10 +214,19 @@ numbered_by s (Some (Of.Rows rows)) calm lively = numbers_tokens rows s.tables (
 numbered_by s (Some (Of.Begin g server rows)) calm lively = lively.1
 numbered_by s (Some (Of.Life g event)) calm lively = numbers_tokens [] s.tables refl
 
+numbered_issue : (s : Hub) (ch : Option Change) → ((c : Change) → ch ≡ Some c → NumbersTokens (rows_of c) s.tables) → NumbersIn s.tables ch
+numbered_issue s None h = tt
+numbered_issue s (Some c) h = h c refl
+
 -- each token that an answer's change puts is new
 pub answer_numbers : (s : Hub) (now : ℕ) (draw : Option (List ℕ)) (asked : Asked) (r : Answer) → AreLeased s → AreNumbered s.tables → next_generation s.tables < 2 ^ 63 → Answers s now draw asked r → NumbersIn s.tables (change_of r)
-answer_numbers s now draw asked r l n m a =
-    numbered_by s (change_of r) (λ rows e. calm_rows numbers r (calm_answer numbers none_numbered s now draw asked r a) rows e) (lively_change s r (answer_lively s now draw asked r l n m a).1)
+answer_numbers s now draw asked r l n m a = by (issues asked.call) refl
+  where
+    by : (b : Bool) → issues asked.call ≡ b → NumbersIn s.tables (change_of r)
+    by true new = numbered_issue s (change_of r) (λ c e. (answer_issued s now draw asked r n new a c e).1)
+    by false old =
+        numbered_by s (change_of r) (λ rows e. calm_rows numbers r (calm_answer numbers none_numbered s now draw asked r old a) rows e)
+        (lively_change s r (answer_lively s now draw asked r l n m a).1)
 
 -- ---- work that is given can be done
 

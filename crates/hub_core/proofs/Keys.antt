@@ -55,12 +55,16 @@ module _ {X : Type 0} where
           let r = later h in
           (r.0, ap (λ b. cond b (Some e.1) (find nat_cmp r.0 es)) (apart e.0 r.0 es v (first (below_all nat_cmp e.0 es) (is_sorted nat_cmp es) s) r.1) ∙ r.1)
 
+  pub found_under : (m : FinMap nat_cmp X) (p : X → Bool) (v : X) → scan.find p (values m) ≡ Some v → (q : ℕ) × (get m q ≡ Some v)
+  found_under m p v h =
+      let r = found (entries m) (entries_sorted m) p v h in
+      (r.0, get-entries m r.0 ∙ r.1)
+
   -- under its own key, where each row stands under its own
   pub found_own : (key : X → ℕ) (m : FinMap nat_cmp X) (p : X → Bool) (v : X) → OwnKeys key m → scan.find p (values m) ≡ Some v → get m (key v) ≡ Some v
   found_own key m p v own h =
-      let r = found (entries m) (entries_sorted m) p v h in
-      let at : get m r.0 ≡ Some v = get-entries m r.0 ∙ r.1 in
-      ap (get m) (own r.0 v at) ∙ at
+      let r = found_under m p v h in
+      ap (get m) (own r.0 v r.1) ∙ r.1
 
 -- the token that a hash leads to stands under its id
 pub kept_at : (tokens : FinMap nat_cmp Token) (hash : List ℕ) (r : Option (Bor Token)) → OwnKeys (λ (row : Token). row.id) tokens

@@ -1,6 +1,8 @@
+pub mod OneRefusal
 pub mod Deciding
 pub mod Calm
 pub mod Lively
+pub mod Issued
 pub mod Done
 pub mod Numbered
 pub mod Stamped
@@ -13,3 +15,5 @@ pub mod Looking
 pub mod Statuses
 pub mod Booking
 pub mod Walked
+pub mod Removals
+pub mod Adopting

@@ -112,7 +112,7 @@ rests s server g next leased h = by (lease_of s.lives server) refl h
 
 -- ---- the rows of a start
 
-no_such : (t : State) → AreNumbered t → get t.tokens (next_token t) ≡ None
+pub no_such : (t : State) → AreNumbered t → get t.tokens (next_token t) ≡ None
 no_such t numbered = by (get t.tokens (next_token t)) refl
   where
     by : (o : Option Token) → get t.tokens (next_token t) ≡ o → o ≡ None
@@ -180,7 +180,7 @@ begin_numbers t now secret server target =
 
 -- ---- a start
 
-unheld : (o : Option Token) → is_some o ≡ false → o ≡ None
+pub unheld : (o : Option Token) → is_some o ≡ false → o ≡ None
 unheld None h = refl
 unheld (Some k) h = absurd (true_false h)
 

@@ -69,7 +69,11 @@ none_numbered = record {
   remove_grant = λ x. refl;
 }
 
--- nor does the end of a lease
+-- nor do the removal of a token, and the end of a lease
+pub token_removed : (x : ℕ) → numbers (Remove (RowKey.Token x)) ≡ false
+unfolding numbers
+token_removed x = refl
+
 pub lease_removed : (x : List ℕ) → numbers (Remove (RowKey.Lease x)) ≡ false
 unfolding numbers
 lease_removed x = refl
@@ -101,7 +105,7 @@ next_same (Put (Row.Next row)) t h = absurd (true_false h)
 next_same (Remove (RowKey.Next key)) t h = absurd (true_false h)
 next_same _ t h = refl
 
-nexts_same : (rows : List RowChange) (t : State) → list_any numbers rows ≡ false → (rows_done rows t).nexts ≡ t.nexts
+pub nexts_same : (rows : List RowChange) (t : State) → list_any numbers rows ≡ false → (rows_done rows t).nexts ≡ t.nexts
 nexts_same [] t h = refl
 nexts_same (r ∷ rows) t h =
     let parts = either (numbers r) (list_any numbers rows) h in
@@ -112,7 +116,7 @@ unfolding numbers
 is_numbered t t' (Put (Row.Token k)) h = absurd (true_false h)
 is_numbered t t' _ h = tt
 
-are_numbered : (t t' : State) (rows : List RowChange) → list_any numbers rows ≡ false → All (IsNumbered t t') rows
+pub are_numbered : (t t' : State) (rows : List RowChange) → list_any numbers rows ≡ false → All (IsNumbered t t') rows
 are_numbered t t' [] h = All-nil (IsNumbered t t')
 are_numbered t t' (r ∷ rows) h =
     let parts = either (numbers r) (list_any numbers rows) h in

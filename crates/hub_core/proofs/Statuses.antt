@@ -1,6 +1,7 @@
 -- What the rules answer is no 503: that status is for a keeper's refusal alone.
 use Rattle.std.proofs.Common.{◌≡◌, ◌==◌, ℕ, Bool, true, false, not, cond, [], ◌∷◌, List, Option, refl, sym, ap, ◌∙◌, subst, eq-eqb}
 use Rattle.std.specs.Prelude.{Some, None, IsSome}
+use Rattle.scope_meet.specs.declared.inside.Inside.{Inside}
 use Rattle.hub_rows.specs.declared.records.Token.{Token}
 use Rattle.hub_view.specs.Fields.{Rights}
 use Rattle.hub_machine.specs.State.{Hub}
@@ -10,11 +11,12 @@ use Rattle.hub_machine.specs.Replies.{Answer, refuses, refuses_with, gives, chan
 use Rattle.hub_machine.specs.Trails.{in_trail}
 use Rattle.hub_calls.specs.RoleCalls.{role_of}
 use Rattle.hub_calls.specs.UserCalls.{get_version}
-use Rattle.hub_calls.proofs.Statuses.{is_503}
+use Rattle.hub_machine.proofs.Statuses.{is_503}
 use Rattle.hub_calls.proofs.UserCalls as users
 use Rattle.hub_calls.proofs.ServerCalls as servers
 use Rattle.hub_calls.proofs.StartCalls as starts
 use Rattle.hub_calls.proofs.StopCalls as stops
+use Rattle.access_calls.proofs.TokenCalls as tokens
 use Rattle.hub_machine.specs.Draws.{draws}
 use Rattle.hub_calls.proofs.GroupCalls as groups
 use Rattle.hub_calls.proofs.ServiceCalls as services
@@ -28,27 +30,28 @@ use Rattle.hub_machine.specs.declared.refusal.Refusal.{Refusal}
 use Rattle.hub_machine.specs.declared.refusal.Refusal.TheVariants.{SeenPast, Needs, NotFound, TrailFull}
 use Rattle.hub_machine.specs.declared.call.Asked.{Asked}
 use Rattle.hub_machine.specs.declared.call.Call.{Call}
-use Rattle.hub_machine.specs.declared.call.Call.TheVariants.{PostUsers, PostUser, PatchUser, DeleteUser, PostActivity, PostServer, DeleteServer, PostGroup, DeleteGroup, JoinGroup, LeaveGroup, PostService, DeleteService, PutRole, DeleteRole}
+use Rattle.hub_machine.specs.declared.call.Call.TheVariants.{PostUsers, PostUser, PatchUser, DeleteUser, PostActivity, PostServer, DeleteServer, PostToken, PostGroup, DeleteGroup, JoinGroup, LeaveGroup, PostService, DeleteService, PutRole, DeleteRole}
 
 -- ---- the calls
 
-no_row : (s : Hub) (may : Rights) (now : ℕ) (draw : Option (List ℕ)) (k : Token) (call : Call) → (draws call ≡ true → IsSome draw) → is_503 (row s may now draw k call) ≡ false
-no_row s may now draw k (PostUsers names admin) h = users.post_users s may now names admin
-no_row s may now draw k (PostUser user) h = users.post_user s may now user
-no_row s may now draw k (PatchUser user admin) h = users.patch_user s may user admin
-no_row s may now draw k (DeleteUser user) h = users.delete_user s user
-no_row s may now draw k (PostActivity user last_activity told) h = servers.post_activity s now user last_activity told
-no_row s may now draw k (PostServer server) h = starts.post_server s now draw server (h refl)
-no_row s may now draw k (DeleteServer server remove) h = stops.delete_server s server remove
-no_row s may now draw k (PostGroup group names) h = groups.post_group s may group names
-no_row s may now draw k (DeleteGroup group) h = groups.delete_group s group
-no_row s may now draw k (JoinGroup group names) h = groups.join_group s may group names
-no_row s may now draw k (LeaveGroup group names) h = groups.leave_group s may group names
-no_row s may now draw k (PostService service) h = services.post_service s may service
-no_row s may now draw k (DeleteService service) h = services.delete_service s service
-no_row s may now draw k (PutRole role scopes us gs vs) h = roles.put_role s (role_of role scopes us gs vs)
-no_row s may now draw k (DeleteRole role) h = roles.delete_role s role
-no_row s may now draw k _ h = refl
+no_row : (s : Hub) (may : Rights) (inside : Inside) (now : ℕ) (draw : Option (List ℕ)) (k : Token) (call : Call) → (draws call ≡ true → IsSome draw) → is_503 (row s may inside now draw k call) ≡ false
+no_row s may inside now draw k (PostUsers names admin) h = users.post_users s may now names admin
+no_row s may inside now draw k (PostUser user) h = users.post_user s may now user
+no_row s may inside now draw k (PatchUser user admin) h = users.patch_user s may user admin
+no_row s may inside now draw k (DeleteUser user) h = users.delete_user s user
+no_row s may inside now draw k (PostActivity user last_activity told) h = servers.post_activity s now user last_activity told
+no_row s may inside now draw k (PostServer server) h = starts.post_server s now draw server (h refl)
+no_row s may inside now draw k (DeleteServer server remove) h = stops.delete_server s server remove
+no_row s may inside now draw k (PostToken ask) h = tokens.post_token s now draw inside ask (h refl)
+no_row s may inside now draw k (PostGroup group names) h = groups.post_group s may group names
+no_row s may inside now draw k (DeleteGroup group) h = groups.delete_group s group
+no_row s may inside now draw k (JoinGroup group names) h = groups.join_group s may group names
+no_row s may inside now draw k (LeaveGroup group names) h = groups.leave_group s may group names
+no_row s may inside now draw k (PostService service) h = services.post_service s may service
+no_row s may inside now draw k (DeleteService service) h = services.delete_service s service
+no_row s may inside now draw k (PutRole role scopes us gs vs) h = roles.put_role s (role_of role scopes us gs vs)
+no_row s may inside now draw k (DeleteRole role) h = roles.delete_role s role
+no_row s may inside now draw k _ h = refl
 
 -- ---- the frame
 
@@ -74,8 +77,8 @@ HasDraw call draw = draws call ≡ true → IsSome draw
 no_token : (s : Hub) (j : Judgement) (now : ℕ) (draw : Option (List ℕ)) (call : Call) (k : Option Token) → HasDraw call draw → is_503 (by_token s j now draw call k) ≡ false
 no_token s j now draw call None h = refl
 no_token s j now draw call (Some k) h =
-    no_action j (needs call) (if_there s j.may now draw k call)
-    (no_first (not (is_there s.tables call)) NotFound (row s j.may now draw k call) refl (no_row s j.may now draw k call h))
+    no_action j (needs call) (if_there s j.may j.inside now draw k call)
+    (no_first (not (is_there s.tables call)) NotFound (row s j.may j.inside now draw k call) refl (no_row s j.may j.inside now draw k call h))
 
 no_call : (s : Hub) (j : Judgement) (now : ℕ) (draw : Option (List ℕ)) (call : Call) (k : Option Token) (b : Bool) → HasDraw call draw → is_503 (cond b (by_token s j now draw call k) get_version) ≡ false
 no_call s j now draw call k true h = no_token s j now draw call k h

@@ -2,6 +2,7 @@
 use Rattle.std.specs.Prelude.{ℕ, Bool, false, not, nat_lt, List, [], ◌∷◌, Option, Some, None, if◌then◌else◌}
 use Rattle.hub_kit.specs.Hashes.{hash_text}
 use Rattle.hub_rows.specs.declared.records.Token.{Token}
+use Rattle.scope_meet.specs.declared.inside.Inside.{Inside}
 use Rattle.hub_tables.specs.Ends.{is_over}
 use Rattle.hub_tables.specs.Hashes.{row_with}
 use Rattle.hub_tables.specs.State.{State}
@@ -14,6 +15,7 @@ use Rattle.hub_calls.specs.UserCalls.{get_version, get_info, get_identity, get_u
 use Rattle.hub_calls.specs.ServerCalls.{post_activity}
 use Rattle.hub_calls.specs.Starts.{post_server}
 use Rattle.hub_calls.specs.Stops.{delete_server}
+use Rattle.access_calls.specs.TokenCalls.{get_tokens, post_token, get_token, delete_token}
 use Rattle.hub_calls.specs.GroupCalls.{get_groups, get_group, post_group, delete_group, join_group, leave_group}
 use Rattle.hub_calls.specs.ServiceCalls.{get_services, get_service, post_service, delete_service}
 use Rattle.hub_calls.specs.RoleCalls.{get_roles, get_role, role_of, put_role, delete_role}
@@ -23,7 +25,7 @@ use Rattle.hub_machine.specs.declared.refusal.Refusal.{Refusal}
 use Rattle.hub_machine.specs.declared.refusal.Refusal.TheVariants.{SeenPast, NoValidToken, Needs, NotFound}
 use Rattle.hub_machine.specs.declared.call.Asked.{Asked}
 use Rattle.hub_machine.specs.declared.call.Call.{Call}
-use Rattle.hub_machine.specs.declared.call.Call.TheVariants.{GetVersion, GetInfo, GetIdentity, GetUsers, PostUsers, GetUser, PostUser, PatchUser, DeleteUser, PostActivity, PostServer, DeleteServer, GetGroups, GetGroup, PostGroup, DeleteGroup, JoinGroup, LeaveGroup, GetServices, GetService, PostService, DeleteService, GetRoles, GetRole, PutRole, DeleteRole}
+use Rattle.hub_machine.specs.declared.call.Call.TheVariants.{GetVersion, GetInfo, GetIdentity, GetUsers, PostUsers, GetUser, PostUser, PatchUser, DeleteUser, PostActivity, PostServer, DeleteServer, GetTokens, PostToken, GetToken, DeleteToken, GetGroups, GetGroup, PostGroup, DeleteGroup, JoinGroup, LeaveGroup, GetServices, GetService, PostService, DeleteService, GetRoles, GetRole, PutRole, DeleteRole}
 
 -- what is decided over all scopes and objects, and not by looking into the tables (see Judged)
 pub record Judgement : Type 0 where
@@ -31,35 +33,41 @@ pub record Judgement : Type 0 where
   pub may : Rights
   -- whether the caller may do what the call needs on some object at all
   pub is_held : Bool
+  -- whether the owner of a token that the call asks for may do all that it asks
+  pub inside : Inside
 
 -- the rules of the call in their order, and its Ok: one definition for each call
-abbrev pub row : Hub → Rights → (now : ℕ) → (draw : Option (List ℕ)) → Token → Call → Answer
-row s may now draw k GetVersion = get_version
-row s may now draw k GetInfo = get_info s
-row s may now draw k (GetIdentity server) = get_identity s may k server
-row s may now draw k (GetUsers page) = get_users s may page
-row s may now draw k (PostUsers names admin) = post_users s may now names admin
-row s may now draw k (GetUser user) = get_user s may user
-row s may now draw k (PostUser user) = post_user s may now user
-row s may now draw k (PatchUser user admin) = patch_user s may user admin
-row s may now draw k (DeleteUser user) = delete_user s user
-row s may now draw k (PostActivity user last_activity servers) = post_activity s now user last_activity servers
-row s may now draw k (PostServer server) = post_server s now draw server
-row s may now draw k (DeleteServer server remove) = delete_server s server remove
-row s may now draw k (GetGroups page) = get_groups s may page
-row s may now draw k (GetGroup group) = get_group s may group
-row s may now draw k (PostGroup group users) = post_group s may group users
-row s may now draw k (DeleteGroup group) = delete_group s group
-row s may now draw k (JoinGroup group users) = join_group s may group users
-row s may now draw k (LeaveGroup group users) = leave_group s may group users
-row s may now draw k (GetServices page) = get_services s may page
-row s may now draw k (GetService service) = get_service s may service
-row s may now draw k (PostService service) = post_service s may service
-row s may now draw k (DeleteService service) = delete_service s service
-row s may now draw k (GetRoles page) = get_roles s page
-row s may now draw k (GetRole role) = get_role s role
-row s may now draw k (PutRole role scopes users groups services) = put_role s (role_of role scopes users groups services)
-row s may now draw k (DeleteRole role) = delete_role s role
+abbrev pub row : Hub → Rights → Inside → (now : ℕ) → (draw : Option (List ℕ)) → Token → Call → Answer
+row s may inside now draw k GetVersion = get_version
+row s may inside now draw k GetInfo = get_info s
+row s may inside now draw k (GetIdentity server) = get_identity s may k server
+row s may inside now draw k (GetUsers page) = get_users s may page
+row s may inside now draw k (PostUsers names admin) = post_users s may now names admin
+row s may inside now draw k (GetUser user) = get_user s may user
+row s may inside now draw k (PostUser user) = post_user s may now user
+row s may inside now draw k (PatchUser user admin) = patch_user s may user admin
+row s may inside now draw k (DeleteUser user) = delete_user s user
+row s may inside now draw k (PostActivity user last_activity servers) = post_activity s now user last_activity servers
+row s may inside now draw k (PostServer server) = post_server s now draw server
+row s may inside now draw k (DeleteServer server remove) = delete_server s server remove
+row s may inside now draw k (GetTokens user) = get_tokens s user
+row s may inside now draw k (PostToken ask) = post_token s now draw inside ask
+row s may inside now draw k (GetToken user id) = get_token s id
+row s may inside now draw k (DeleteToken user id) = delete_token s id
+row s may inside now draw k (GetGroups page) = get_groups s may page
+row s may inside now draw k (GetGroup group) = get_group s may group
+row s may inside now draw k (PostGroup group users) = post_group s may group users
+row s may inside now draw k (DeleteGroup group) = delete_group s group
+row s may inside now draw k (JoinGroup group users) = join_group s may group users
+row s may inside now draw k (LeaveGroup group users) = leave_group s may group users
+row s may inside now draw k (GetServices page) = get_services s may page
+row s may inside now draw k (GetService service) = get_service s may service
+row s may inside now draw k (PostService service) = post_service s may service
+row s may inside now draw k (DeleteService service) = delete_service s service
+row s may inside now draw k (GetRoles page) = get_roles s page
+row s may inside now draw k (GetRole role) = get_role s role
+row s may inside now draw k (PutRole role scopes users groups services) = put_role s (role_of role scopes users groups services)
+row s may inside now draw k (DeleteRole role) = delete_role s role
 
 -- ---- the frame
 
@@ -69,12 +77,12 @@ action_rules j GoodToken = []
 action_rules j (Held a) = if_so (not j.is_held) (Needs a) ∷ []
 action_rules j (On a x) = if_so (not j.is_held) (Needs a) ∷ if_so (not (j.may a x)) NotFound ∷ []
 
-abbrev pub if_there : Hub → Rights → ℕ → Option (List ℕ) → Token → Call → Answer
-if_there s may now draw k call = rules (if_so (not (is_there s.tables call)) NotFound ∷ []) (row s may now draw k call)
+abbrev pub if_there : Hub → Rights → Inside → ℕ → Option (List ℕ) → Token → Call → Answer
+if_there s may inside now draw k call = rules (if_so (not (is_there s.tables call)) NotFound ∷ []) (row s may inside now draw k call)
 
 abbrev pub by_token : Hub → Judgement → ℕ → Option (List ℕ) → Call → Option Token → Answer
 by_token s j now draw call None = refuses NoValidToken
-by_token s j now draw call (Some k) = rules (action_rules j (needs call)) (if_there s j.may now draw k call)
+by_token s j now draw call (Some k) = rules (action_rules j (needs call)) (if_there s j.may j.inside now draw k call)
 
 -- without a token there is the version alone
 abbrev pub by_call : Hub → Judgement → ℕ → Option (List ℕ) → Option Token → Call → Answer

@@ -12,3 +12,4 @@ pub mod Live
 pub mod Carrying
 pub mod Tied
 pub mod Opened
+pub mod Removed

@@ -1,15 +1,17 @@
 -- What each call needs of its token, and what has to be there.
-use Rattle.std.specs.Prelude.{Bool, true, false, ◌||◌}
-use Rattle.std.specs.FinMap.{contains_key}
+use Rattle.std.specs.Prelude.{ℕ, Bool, true, false, ◌||◌, List, Option, Some, None}
+use Rattle.std.specs.FinMap.{contains_key, get}
 use Rattle.scope_names.specs.declared.action.Action.TheVariants as A
+use Rattle.scope_filters.specs.declared.holder.Owner.TheVariants as Own
 use Rattle.scope_filters.specs.declared.object.Object.TheVariants as Ob
-use Rattle.hub_tables.specs.Lookups.{has_server}
+use Rattle.hub_rows.specs.declared.records.Token.{Token}
+use Rattle.hub_tables.specs.Lookups.{has_server, same_owner}
 use Rattle.hub_tables.specs.State.{State}
 use Rattle.admin_rules.specs.Roles.{is_fixed_role}
 use Rattle.hub_core.specs.declared.need.Need.{Need}
 use Rattle.hub_core.specs.declared.need.Need.TheVariants.{GoodToken, Held, On}
 use Rattle.hub_machine.specs.declared.call.Call.{Call}
-use Rattle.hub_machine.specs.declared.call.Call.TheVariants.{GetVersion, GetInfo, GetIdentity, GetUsers, PostUsers, GetUser, PostUser, PatchUser, DeleteUser, PostActivity, PostServer, DeleteServer, GetGroups, GetGroup, PostGroup, DeleteGroup, JoinGroup, LeaveGroup, GetServices, GetService, PostService, DeleteService, GetRoles, GetRole, PutRole, DeleteRole}
+use Rattle.hub_machine.specs.declared.call.Call.TheVariants.{GetVersion, GetInfo, GetIdentity, GetUsers, PostUsers, GetUser, PostUser, PatchUser, DeleteUser, PostActivity, PostServer, DeleteServer, GetTokens, PostToken, GetToken, DeleteToken, GetGroups, GetGroup, PostGroup, DeleteGroup, JoinGroup, LeaveGroup, GetServices, GetService, PostService, DeleteService, GetRoles, GetRole, PutRole, DeleteRole}
 
 abbrev pub needs : Call → Need
 needs GetVersion = GoodToken
@@ -24,6 +26,10 @@ needs (DeleteUser user) = On A.DeleteUsers (Ob.User user)
 needs (PostActivity user last_activity servers) = On A.UsersActivity (Ob.User user)
 needs (PostServer server) = On A.Servers (Ob.Server server)
 needs (DeleteServer server remove) = On A.DeleteServers (Ob.Server server)
+needs (GetTokens user) = On A.ReadTokens (Ob.User user)
+needs (PostToken ask) = On A.Tokens (Ob.User ask.owner)
+needs (GetToken user id) = On A.ReadTokens (Ob.User user)
+needs (DeleteToken user id) = On A.Tokens (Ob.User user)
 needs (GetGroups page) = Held A.ListGroups
 needs (GetGroup group) = On A.ReadGroupsName (Ob.Group group)
 needs (PostGroup group users) = On A.AdminGroups (Ob.Group group)
@@ -44,6 +50,14 @@ abbrev pub needs_token : Call → Bool
 needs_token GetVersion = false
 needs_token _ = true
 
+-- a token is kept under the id, and it is the user's
+abbrev pub is_token_of : (user : List ℕ) → Option Token → Bool
+is_token_of user None = false
+is_token_of user (Some token) = same_owner token.owner (Own.User user)
+
+abbrev pub has_token : State → (user : List ℕ) → (id : ℕ) → Bool
+has_token t user id = is_token_of user (get t.tokens id)
+
 -- what the call speaks of is there. A fixed role is refused before it is found not to be there
 abbrev pub is_there : State → Call → Bool
 is_there t (GetUser user) = contains_key t.users user
@@ -52,6 +66,10 @@ is_there t (DeleteUser user) = contains_key t.users user
 is_there t (PostActivity user last_activity servers) = contains_key t.users user
 is_there t (PostServer server) = contains_key t.users server.user
 is_there t (DeleteServer server remove) = has_server t server
+is_there t (GetTokens user) = contains_key t.users user
+is_there t (PostToken ask) = contains_key t.users ask.owner
+is_there t (GetToken user id) = has_token t user id
+is_there t (DeleteToken user id) = has_token t user id
 is_there t (GetGroup group) = contains_key t.groups group
 is_there t (DeleteGroup group) = contains_key t.groups group
 is_there t (JoinGroup group users) = contains_key t.groups group

@@ -4,6 +4,7 @@ ghost use Rattle.std.specs.Prelude.{◌≡◌, ◌↔◌, Some, None, true, fals
 ghost use Rattle.std.specs.FinMap as map;
 ghost use Rattle.hub_core.specs.Answer as spec;
 ghost use Rattle.hub_machine.specs.Answers.{answer_view};
+ghost use Rattle.hub_machine.specs.Trails.{in_trail};
 ghost use Rattle.hub_core.specs.History.{Answers};
 ghost use Rattle.hub_core.specs.Judged.{ByRights, decider};
 ghost use Rattle.hub_core.specs.Current.{IsCurrent, AreNumbered, Looked};
@@ -15,6 +16,7 @@ ghost use Rattle.hub_calls.specs.Rights.{may_of};
 
 use crate::caller::good_token;
 use crate::dispatch::row;
+use crate::holding::inside_of;
 use crate::needs::{action_refusal, is_held, is_there, needs, needs_token};
 use hub_calls::user_calls::get_version;
 use hub_kit::list::List;
@@ -26,6 +28,7 @@ use hub_machine::refusal::Refusal;
 use hub_rows::records::Token;
 use roles::cache::RightsCache;
 use scope_filters::grant::Grant;
+use scope_meet::inside::Inside;
 use scope_names::action::Action;
 use std::alloc::{AllocError, Global};
 
@@ -58,13 +61,14 @@ fn by_token(
     token: &Token,
     rights: &Grant,
     is_held: bool,
+    inside: Inside,
     call: &Call,
 ) -> Result<Answer, AllocError>
-    ensures { IfOk result (λ answer. answer_view answer ≡ spec.by_token hub.now (record { may = may_of hub.now rights.now; is_held = is_held }) now draw call.now (Some token.now)) }
+    ensures { IfOk result (λ answer. answer_view answer ≡ spec.by_token hub.now (record { may = may_of hub.now rights.now; is_held = is_held; inside = inside }) now draw call.now (Some token.now)) }
 {
     match action_refusal(hub, rights, is_held, needs(call)) {
         Some(refusal) => Ok(Answer::Refuses(refusal)),
-        None => if_there(alloc, hub, now, draw, token, rights, call),
+        None => if_there(alloc, hub, now, draw, token, rights, inside, call),
     }
 }
 
@@ -75,12 +79,13 @@ fn if_there(
     draw: Option<[u8; 16]>,
     token: &Token,
     rights: &Grant,
+    inside: Inside,
     call: &Call,
 ) -> Result<Answer, AllocError>
-    ensures { IfOk result (λ answer. answer_view answer ≡ spec.if_there hub.now (may_of hub.now rights.now) now draw token.now call.now) }
+    ensures { IfOk result (λ answer. answer_view answer ≡ spec.if_there hub.now (may_of hub.now rights.now) inside now draw token.now call.now) }
 {
     if is_there(hub, call) {
-        row(alloc, hub, now, draw, token, rights, call)
+        row(alloc, hub, now, draw, token, rights, inside, call)
     } else {
         Ok(Answer::Refuses(Refusal::NotFound))
     }
@@ -201,6 +206,26 @@ fn judged(
     ensures { IfOk result (λ a. ByRights hub.now now draw token.now call.now (answer_view a)) }
 {
     let is_held = is_held(grant, needs(call));
-    let answer = by_token(alloc, hub, now, draw, token, grant, is_held, call)?;
+    match inside_of(alloc, hub.tables(), call) {
+        Ok(inside) => with_room(alloc, hub, now, draw, token, grant, is_held, inside, call),
+        Err(error) => Err(error),
+    }
+}
+
+/// The answer for the token that a call brings, where the history has room for its change.
+fn with_room(
+    alloc: Global,
+    hub: &Machine,
+    now: Moment,
+    draw: Option<[u8; 16]>,
+    token: &Token,
+    rights: &Grant,
+    is_held: bool,
+    inside: Inside,
+    call: &Call,
+) -> Result<Answer, AllocError>
+    ensures { IfOk result (λ a. answer_view a ≡ in_trail hub.now (spec.by_token hub.now (record { may = may_of hub.now rights.now; is_held = is_held; inside = inside }) now draw call.now (Some token.now))) }
+{
+    let answer = by_token(alloc, hub, now, draw, token, rights, is_held, inside, call)?;
     hub.in_trail(alloc, answer)
 }

@@ -5,6 +5,7 @@ ghost use Rattle.hub_machine.specs.Answers.{answer_view};
 ghost use Rattle.hub_calls.specs.Rights.{may_of};
 ghost use Rattle.hub_calls.specs.RoleCalls as calls;
 
+use access_calls::token_calls::{delete_token, get_token, get_tokens, post_token};
 use hub_calls::group_calls::{
     delete_group, get_group, get_groups, join_group, leave_group, post_group,
 };
@@ -26,6 +27,7 @@ use hub_machine::machine::Machine;
 use hub_rows::records::Token;
 use scope_filters::grant::Grant;
 use scope_filters::scope::RawScope;
+use scope_meet::inside::Inside;
 use std::alloc::{AllocError, Global};
 
 /// What the rules of `PUT /roles/{role}` answer, for the role with these lists.
@@ -62,9 +64,10 @@ pub(crate) fn row(
     draw: Option<[u8; 16]>,
     token: &Token,
     rights: &Grant,
+    inside: Inside,
     call: &Call,
 ) -> Result<Answer, AllocError>
-    ensures { IfOk result (λ answer. answer_view answer ≡ spec.row hub.now (may_of hub.now rights.now) now draw token.now call.now) }
+    ensures { IfOk result (λ answer. answer_view answer ≡ spec.row hub.now (may_of hub.now rights.now) inside now draw token.now call.now) }
 {
     match call {
         Call::GetVersion => get_version(alloc),
@@ -85,6 +88,10 @@ pub(crate) fn row(
         } => post_activity(alloc, hub, now, user, *last_activity, servers.as_slice()),
         Call::PostServer { server } => post_server(alloc, hub, now, draw, server),
         Call::DeleteServer { server, remove } => delete_server(alloc, hub, server, *remove),
+        Call::GetTokens { user } => get_tokens(alloc, hub, user),
+        Call::PostToken { ask } => post_token(alloc, hub, now, draw, inside, ask),
+        Call::GetToken { id, .. } => get_token(alloc, hub, *id),
+        Call::DeleteToken { id, .. } => delete_token(alloc, hub, *id),
         Call::GetGroups { page } => get_groups(alloc, hub, rights, *page),
         Call::GetGroup { group } => get_group(alloc, hub, rights, group),
         Call::PostGroup { group, users } => post_group(alloc, hub, rights, group, users.as_slice()),

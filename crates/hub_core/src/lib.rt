@@ -9,6 +9,7 @@ pub mod book;
 mod caller;
 mod decide;
 mod dispatch;
+mod holding;
 mod laws;
 pub mod life_book;
 pub mod live;
@@ -17,4 +18,4 @@ mod needs;
 mod stamps;
 pub mod start;
 
-pub use laws::{a_call_has_one_answer, entries_lead_to_one_state};
+pub use laws::{a_call_has_one_answer, a_removed_token_stays_refused, entries_lead_to_one_state};

@@ -3,11 +3,13 @@ ghost use Rattle.std.specs.Prelude.{◌≡◌, Option, Some, None, true, false};
 ghost use Rattle.std.specs.FinMap as map;
 ghost use Rattle.hub_core.specs.Answer as spec;
 ghost use Rattle.hub_core.specs.Judged.{HasHeld};
+ghost use Rattle.scope_meet.specs.declared.inside.Inside.TheVariants.{Yes};
 ghost use Rattle.scope_names.specs.declared.action.Action.{Action};
 ghost use Rattle.hub_core.specs.Needs as need;
 ghost use Rattle.hub_machine.specs.Replies.{first_refusal};
 ghost use Rattle.hub_calls.specs.Rights.{may_of};
-ghost use Rattle.hub_tables.specs.Lookups.{has_server};
+ghost use Rattle.hub_tables.specs.Lookups.{has_server, same_owner};
+ghost use Rattle.scope_filters.specs.declared.holder.Owner.TheVariants as Own;
 
 use crate::need::Need;
 use admin_rules::roles::is_fixed_role;
@@ -16,6 +18,7 @@ use hub_machine::call::Call;
 use hub_machine::machine::Machine;
 use hub_machine::refusal::Refusal;
 use scope_filters::grant::Grant;
+use scope_filters::holder::Owner;
 use scope_filters::object::Object;
 use scope_meet::asks::{admits, holds_any};
 use scope_names::action::Action;
@@ -41,6 +44,12 @@ pub(crate) fn needs(call: &Call) -> Need
             Action::DeleteServers,
             Object::Server(*server),
         ),
+        Call::GetTokens { user } | Call::GetToken { user, .. } => Need::On(
+            Action::ReadTokens,
+            Object::User(*user),
+        ),
+        Call::PostToken { ask } => Need::On(Action::Tokens, Object::User(ask.owner)),
+        Call::DeleteToken { user, .. } => Need::On(Action::Tokens, Object::User(*user)),
         Call::GetGroups { .. } => Need::Held(Action::ListGroups),
         Call::GetGroup { group } => Need::On(Action::ReadGroupsName, Object::Group(*group)),
         Call::PostGroup { group, .. } => Need::On(Action::AdminGroups, Object::Group(*group)),
@@ -98,6 +107,25 @@ fn has_server(hub: &Machine, server: &ServerKey) -> bool
         && (server.server.as_bytes().is_empty() || hub.tables().server(server).is_some())
 }
 
+/// Whether a token is kept under the id, and it is the user's.
+fn has_token(hub: &Machine, user: &UserName, id: u64) -> bool
+    ensures { result ≡ need.has_token hub.now.tables user.now id }
+{
+    match hub.tables().token(id) {
+        None => false,
+        Some(token) => is_of_user(&token.owner, user),
+    }
+}
+
+fn is_of_user(owner: &Owner, user: &UserName) -> bool
+    ensures { result ≡ same_owner owner.now (Own.User user.now) }
+{
+    match owner {
+        Owner::User(name) => name == user,
+        Owner::Service(_) => false,
+    }
+}
+
 fn has_group(hub: &Machine, group: &GroupName) -> bool
     ensures { result ≡ map.contains_key hub.now.tables.groups group.now }
 {
@@ -122,11 +150,14 @@ pub(crate) fn is_there(hub: &Machine, call: &Call) -> bool
 {
     match call {
         Call::GetUser { user }
+        | Call::GetTokens { user }
         | Call::PatchUser { user, .. }
         | Call::DeleteUser { user }
         | Call::PostActivity { user, .. } => has_user(hub, user),
         Call::PostServer { server } => has_user(hub, &server.user),
         Call::DeleteServer { server, .. } => has_server(hub, server),
+        Call::PostToken { ask } => has_user(hub, &ask.owner),
+        Call::GetToken { user, id } | Call::DeleteToken { user, id } => has_token(hub, user, *id),
         Call::GetGroup { group }
         | Call::DeleteGroup { group }
         | Call::JoinGroup { group, .. }
@@ -145,7 +176,7 @@ pub(crate) fn action_refusal(
     is_held: bool,
     need: Need,
 ) -> Option<Refusal>
-    ensures { result ≡ first_refusal (spec.action_rules (record { may = may_of hub.now rights.now; is_held = is_held }) need) }
+    ensures { result ≡ first_refusal (spec.action_rules (record { may = may_of hub.now rights.now; is_held = is_held; inside = Yes }) need) }
 {
     match need {
         Need::GoodToken => None,

@@ -8,3 +8,4 @@ pub mod Pieces
 pub mod Owing
 pub mod EndRows
 pub mod Opening
+pub mod Statuses

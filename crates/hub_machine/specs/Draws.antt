@@ -1,9 +1,10 @@
 -- Which calls draw random bytes before their visit.
 use Rattle.std.specs.Prelude.{Bool, true, false}
 use Rattle.hub_machine.specs.declared.call.Call.{Call}
-use Rattle.hub_machine.specs.declared.call.Call.TheVariants.{PostServer}
+use Rattle.hub_machine.specs.declared.call.Call.TheVariants.{PostServer, PostToken}
 
--- a start draws the secret of the server's token
+-- a start draws the secret of the server's token, and a new token its text
 abbrev pub draws : Call → Bool
 draws (PostServer server) = true
+draws (PostToken ask) = true
 draws call = false

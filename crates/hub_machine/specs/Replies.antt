@@ -7,13 +7,14 @@ use Rattle.hub_machine.specs.declared.change.Change.{Change}
 use Rattle.hub_machine.specs.declared.change.Change.TheVariants.{Rows}
 use Rattle.hub_machine.specs.declared.work.Work.{Work}
 use Rattle.hub_machine.specs.declared.refusal.Refusal.{Refusal}
-use Rattle.hub_machine.specs.declared.refusal.Refusal.TheVariants.{SeenPast, NoValidToken, Needs, NotFound, Rule, Exists, AllLeased, Full, TrailFull, NoDraw, KeeperFault, SpawnerFault, ProxyFault, StoppedWhileStarting}
+use Rattle.hub_machine.specs.declared.refusal.Refusal.TheVariants.{SeenPast, NoValidToken, Needs, NotFound, NotHeld, Rule, Exists, AllLeased, Full, TrailFull, NoDraw, KeeperFault, SpawnerFault, ProxyFault, StoppedWhileStarting}
 
 abbrev pub status_of : Refusal → ℕ
 status_of (SeenPast seen length) = 412
 status_of NoValidToken = 403
 status_of (Needs action) = 403
 status_of NotFound = 404
+status_of (NotHeld scope) = 403
 status_of (Rule text) = 400
 status_of (Exists key) = 409
 status_of (AllLeased live pool) = 429
@@ -39,6 +40,7 @@ message_of (SeenPast seen length) = seen_message seen length
 message_of NoValidToken = codes "no valid token"
 message_of (Needs action) = codes "needs " ++ text_of action
 message_of NotFound = codes "not found"
+message_of (NotHeld scope) = codes "not held: " ++ scope
 message_of (Rule text) = text
 message_of (Exists key) = codes "exists: " ++ key
 message_of (AllLeased live pool) = leased_message live pool

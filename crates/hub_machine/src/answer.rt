@@ -1,6 +1,8 @@
 //! Answers, before they are carried out.
-ghost use Rattle.std.specs.Prelude.{◌≡◌, IfOk};
-ghost use Rattle.hub_view.specs.Body.{body_tokens};
+ghost use Rattle.std.specs.Prelude.{◌≡◌, List, length, IfOk};
+ghost use Rattle.hub_view.specs.Body.{body_tokens, bodies};
+ghost use Rattle.hub_view.specs.Json.{Json};
+ghost use Rattle.hub_view.specs.Pages.{in_page, paged_list};
 ghost use Rattle.hub_machine.specs.Answers.{answer_view, good_view, reply_view};
 ghost use Rattle.hub_machine.specs.Replies as spec;
 
@@ -10,7 +12,7 @@ use crate::reply::Reply;
 use crate::work::Work;
 use hub_kit::text::Text;
 use hub_rows::changes::RowChange;
-use hub_view::Body;
+use hub_view::{Body, Page, page_body};
 use std::alloc::{AllocError, Global};
 
 /// The Ok of a call.
@@ -51,6 +53,19 @@ pub fn gives(status: u16, body: Body) -> Answer
     ensures { answer_view result ≡ spec.gives (spec.good status (body_tokens body)) }
 {
     Answer::Gives(plain(status, body))
+}
+
+/// The answer with a page of a list that has so many objects, of which these stand in the page.
+pub fn listed(
+    alloc: Global,
+    page: Page,
+    total: usize,
+    part: Vec<Body>,
+    path: &str,
+) -> Result<Answer, AllocError>
+    ensures { IfOk result (λ answer. (shown : List Json) → bodies part.items ≡ in_page page shown → total ≡ length shown → answer_view answer ≡ spec.gives (spec.good 200 (paged_list path.now page shown))) }
+{
+    Ok(gives(200, page_body(alloc, path, page, total as u64, part)?))
 }
 
 /// The answer with a change of these rows, if there are any.

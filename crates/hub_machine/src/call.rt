@@ -5,9 +5,10 @@ use hub_kit::names::{GroupName, RoleName, ServerKey, ServerName, ServiceName, Us
 use hub_kit::text::Text;
 use hub_view::Page;
 use scope_filters::scope::RawScope;
+use token_store::issuing::TokenAsk;
 
 /// A call of JupyterHub's REST API, named by its method and what it is on. The fields are the path's names, the query's keys and
-/// the body's keys, in this order; of a list that can be paged it is the page.
+/// the body's keys, in this order; of a list that can be paged it is the page, and of a new token all that is asked.
 #[derive(Drop)]
 pub enum Call {
     /// `GET /`: the version. It needs no token.
@@ -59,6 +60,24 @@ pub enum Call {
     DeleteServer {
         server: ServerKey,
         remove: bool,
+    },
+    /// `GET /users/{user}/tokens`
+    GetTokens {
+        user: UserName,
+    },
+    /// `POST /users/{user}/tokens`. It draws.
+    PostToken {
+        ask: TokenAsk,
+    },
+    /// `GET /users/{user}/tokens/{id}`
+    GetToken {
+        user: UserName,
+        id: u64,
+    },
+    /// `DELETE /users/{user}/tokens/{id}`
+    DeleteToken {
+        user: UserName,
+        id: u64,
     },
     /// `GET /groups`
     GetGroups {

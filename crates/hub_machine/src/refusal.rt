@@ -19,6 +19,8 @@ pub enum Refusal {
     Needs(Action),
     /// The action isn't allowed on the object, or the object isn't there: 404.
     NotFound,
+    /// The scope that a token asks for and its owner doesn't hold, as its text: 403.
+    NotHeld(Text),
     /// A rule of the call, in its own words: 400.
     Rule(Text),
     /// What the call would make is there: 409.
@@ -47,7 +49,7 @@ impl Refusal {
     {
         match self {
             Refusal::SeenPast { .. } => 412,
-            Refusal::NoValidToken | Refusal::Needs(_) => 403,
+            Refusal::NoValidToken | Refusal::Needs(_) | Refusal::NotHeld(_) => 403,
             Refusal::NotFound => 404,
             Refusal::Rule(_) => 400,
             Refusal::Exists(_) | Refusal::StoppedWhileStarting => 409,
@@ -66,6 +68,7 @@ impl Refusal {
             Refusal::NoValidToken => Text::from_str(alloc, "no valid token"),
             Refusal::Needs(action) => joined(alloc, "needs ", action_text(action)),
             Refusal::NotFound => Text::from_str(alloc, "not found"),
+            Refusal::NotHeld(scope) => joined(alloc, "not held: ", scope.as_str()),
             Refusal::Rule(text) => text.copy(alloc),
             Refusal::Exists(key) => joined(alloc, "exists: ", key.as_str()),
             Refusal::AllLeased { live, pool } => leased_message(alloc, *live, *pool),
@@ -86,6 +89,13 @@ impl Refusal {
         let message = self.message(alloc)?;
         hub_view::message_body(alloc, self.status(), message.as_str())
     }
+}
+
+/// A rule's refusal in words, which stand in two parts.
+pub fn worded(alloc: Global, front: &str, back: &str) -> Result<Refusal, AllocError>
+    ensures { IfOk result (λ r. r ≡ Refusal.Rule (front.now ++ back.now)) }
+{
+    Ok(Refusal::Rule(joined(alloc, front, back)?))
 }
 
 /// Two texts as one.

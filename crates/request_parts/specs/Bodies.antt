@@ -1,9 +1,10 @@
 -- What a body says: it is one JSON object (RFC 8259), of whose equal keys the last counts. The empty body says what {} says.
 use Rattle.std.specs.Prelude.{ℕ, Bool, List, [], ◌∷◌, Option, Some, None, option_and_then, option_map, if◌then◌else◌}
+use Rattle.std.specs.Option.{is_some}
 use Rattle.std.specs.Str.{is_utf8}
 use Rattle.serde_json.specs.Data.{Data, null, boolean, number, string, array, object, Items, no_items, item, no_members}
 use Rattle.serde_json.specs.Read.{read}
-use Rattle.serde_json.specs.Find.{get, as_bool, as_str, as_array}
+use Rattle.serde_json.specs.Find.{get, as_bool, as_null, as_number, as_str, as_array, as_u64}
 
 infixl 10 ◌>>=◌
 abbrev pub ◌>>=◌ : {A B : Type 0} → Option A → (A → Option B) → Option B
@@ -42,6 +43,20 @@ truth_of default (Some value) = as_bool value
 -- the same with a default for the absent key
 unfoldable pub truth_or : Bool → List ℕ → Data → Option Bool
 truth_or default key body = truth_of default (get key body)
+
+-- ---- numbers
+
+-- the number of a `u64` that a value is, or null for none
+abbrev pub number_of : Data → Option (Option ℕ)
+number_of value = if is_some (as_null value) then Some None else option_map Some (as_number value >>= as_u64)
+
+abbrev pub number_or_none : Option Data → Option (Option ℕ)
+number_or_none None = Some None
+number_or_none (Some value) = number_of value
+
+-- the number at a key, which may be absent or null: none where anything else stands there
+unfoldable pub number_at : List ℕ → Data → Option (Option ℕ)
+number_at key body = number_or_none (get key body)
 
 -- ---- lists of texts
 

@@ -24,9 +24,13 @@ as_u64 (Number n) = Some n
 as_u64 Past = None
 as_u64 Other = None
 
+-- the number of a `u64` that a text is in decimal digits
+abbrev pub decimal_of : List ℕ → Option ℕ
+decimal_of text = as_u64 (number_in text)
+
 abbrev pub number_or : ℕ → Option (List ℕ) → Option ℕ
 number_or default None = Some default
-number_or default (Some text) = as_u64 (number_in text)
+number_or default (Some text) = decimal_of text
 
 -- the decimal number that is the first value of a key, or a default where the key is absent
 unfoldable pub query_number : List ℕ → ℕ → List ℕ → Option ℕ

@@ -63,6 +63,26 @@ pub fn truth_or(body: &Value, key: &str, default: bool) -> Option<bool>
     }
 }
 
+/// The number of a `u64` at a key, which may be absent or null, or nothing where anything else stands there.
+#[tactic(auto, unfolding(crate::specs::Bodies::number_at))]
+pub fn number_at(body: &Value, key: &str) -> Option<Option<u64>>
+    ensures { result ≡ spec.number_at key.now (view body.now) }
+{
+    match body.get(key) {
+        None => Some(None),
+        Some(value) => number_of(value),
+    }
+}
+
+fn number_of(value: &Value) -> Option<Option<u64>>
+    ensures { result ≡ spec.number_of (view value.now) }
+{
+    if value.is_null() {
+        return Some(None);
+    }
+    value.as_u64().map(Some)
+}
+
 /// The list at a key, each of whose items is a text of the form that is read. An absent list is empty, and there is nothing
 /// where anything else stands at the key.
 #[tactic(auto, unfolding(crate::specs::Bodies::list_at))]

@@ -1,7 +1,10 @@
-//! What a text can be: a name of some kind, a moment, or the text itself.
+//! What a text can be: a name of some kind, a moment, a number, or the text itself.
 ghost use Rattle.std.specs.Prelude.{◌≡◌, ℕ, List, Option, Some, IfOk};
 ghost use Rattle.request_parts.specs.Names.{moment_of, name_of, server_of};
+ghost use Rattle.request_parts.specs.Queries.{decimal_of};
 
+use crate::query::as_u64;
+use http_wire::decimal::number_in;
 use hub_kit::moment::Moment;
 use hub_kit::moments::read_moment;
 use hub_kit::names::{
@@ -66,6 +69,14 @@ impl FromText for Moment {
     fn from_text(alloc: Global, text: &str) -> Result<Option<Self>, AllocError> {
         let text = Text::from_str(alloc, text)?;
         Ok(read_moment(&text).ok())
+    }
+}
+
+impl FromText for u64 {
+    ghost reads = { decimal_of };
+
+    fn from_text(_: Global, text: &str) -> Result<Option<Self>, AllocError> {
+        Ok(as_u64(number_in(text.as_bytes())))
     }
 }
 

@@ -56,7 +56,7 @@ pub fn query_number(
     }
 }
 
-fn as_u64(number: Decimal) -> Option<u64>
+pub(crate) fn as_u64(number: Decimal) -> Option<u64>
     ensures { result ≡ spec.as_u64 number }
 {
     match number {

@@ -1,5 +1,5 @@
 //! What a book tells of its live servers.
-ghost use Rattle.std.specs.Prelude.{◌≡◌, IfOk};
+ghost use Rattle.std.specs.Prelude.{◌≡◌, ◌<◌, ◌^◌, All, IfOk};
 ghost use Rattle.std.specs.Option.{option_copied};
 ghost use Rattle.hub_core.specs.Live.{AreAdopting, AreReady};
 ghost use Rattle.hub_core.specs.Live as spec;
@@ -45,9 +45,14 @@ impl<K: Keeper, T: Trail<Entry = Change>> Book<K, T> {
 
     /// The servers that are being adopted, in the order of their targets.
     pub fn adopting(&self, alloc: Global) -> Result<Vec<LiveServer>, AllocError>
-        ensures { IfOk result (λ servers. AreAdopting self.now.hub.lives servers.items) }
+        ensures listed { IfOk result (λ servers. AreAdopting self.now.hub.lives servers.items) }
+        // their generations have serials for their routes
+        ensures small { IfOk result (λ servers. All (λ s. s.generation < 2 ^ 63) servers.items) }
     {
         let _ = &self.trail;
+        // that a live generation is below the next one
+        self.machine.are_leased();
+        let _generation = self.machine.next_generation();
         let mut servers = adopting_servers(alloc, self.machine.lives())?;
         servers.sort_unstable_by(|a, b| a.target.cmp(&b.target));
         Ok(servers)

@@ -1,4 +1,4 @@
-use Rattle.std.proofs.Common.{◌≡◌, ◌∙◌, ap, ◌++◌, append_assoc, codes, ℕ, List}
+use Rattle.std.proofs.Common.{◌∙◌, ap, ◌++◌, append_assoc, codes, ℕ, List}
 use Rattle.hub_kit.specs.Hashes.{hash_text}
 use Rattle.hub_calls.proofs.starts.client.Goals as goal
 
