@@ -1,7 +1,2 @@
 pub mod Additions
 pub mod Distinct
-pub mod PathsOf
-pub mod Walks
-pub mod Fits
-pub mod Routes
-pub mod RoutesFit

@@ -1,5 +1,5 @@
 -- The bodies of the calls.
-use Rattle.std.specs.Prelude.{ℕ, Bool, true, false, not, ◌&&◌, nat_le, List, [], ◌∷◌, length, codes, bytes_eq, Option, Some, Result, Ok, Err, ok_or}
+use Rattle.std.specs.Prelude.{ℕ, Bool, true, false, not, ◌&&◌, nat_le, List, [], ◌∷◌, length, codes, bytes_eq, Option, Some, None, Result, Ok, Err, ok_or}
 use Rattle.std.specs.List.{list_any}
 use Rattle.serde_json.specs.Data.{Data}
 use Rattle.http_wire.specs.declared.request.Request.{Request}
@@ -7,7 +7,7 @@ use Rattle.scope_filters.specs.declared.scope.RawScope.{RawScope}
 use Rattle.request_parts.specs.Steps.{◌>>=◌}
 use Rattle.request_parts.specs.Names.{name_of, moment_of}
 use Rattle.request_parts.specs.Activity.{activity_at}
-use Rattle.request_parts.specs.Bodies.{body_object, truth_at, truth_or, list_at, optional_at}
+use Rattle.request_parts.specs.Bodies.{body_object, number_at, truth_at, truth_or, list_at, optional_at}
 use Rattle.request_parts.specs.Scopes.{scopes_read}
 use Rattle.request_parts.specs.declared.scopes.ScopeFault.{ScopeFault}
 use Rattle.hub_api.specs.declared.refusal.ApiRefusal.{ApiRefusal}
@@ -60,6 +60,26 @@ distinct_names key body = do
 -- a moment, which may be absent
 unfoldable pub moment : List ℕ → Data → Result (Option ℕ) ApiRefusal
 moment key body = ok_or (optional_at moment_of key body) BadBody
+
+-- a text of at most 256 bytes, or the empty one
+abbrev pub note_of : Option (List ℕ) → Result (List ℕ) ApiRefusal
+note_of None = Ok []
+note_of (Some text) = if_of_form (nat_le (length text) 256) text
+
+unfoldable pub note : List ℕ → Data → Result (List ℕ) ApiRefusal
+note key body = do
+  text ← ok_or (optional_at Some key body) BadBody
+  note_of text
+
+-- 1 to 4,294,967,295 seconds, or no end
+abbrev pub seconds_of : Option ℕ → Result (Option ℕ) ApiRefusal
+seconds_of None = Ok None
+seconds_of (Some n) = if_of_form (nat_le 1 n && nat_le n 4294967295) (Some n)
+
+unfoldable pub seconds : List ℕ → Data → Result (Option ℕ) ApiRefusal
+seconds key body = do
+  number ← ok_or (number_at key body) BadBody
+  seconds_of number
 
 -- of each of some servers its name, and when it was last active, if that is told
 unfoldable pub activity : List ℕ → Data → Result (List (List ℕ × Option ℕ)) ApiRefusal

@@ -6,11 +6,11 @@ use Rattle.hub_machine.specs.declared.call.Call.{Call}
 use Rattle.hub_machine.specs.declared.call.Call.TheVariants.{GetVersion, GetInfo}
 use Rattle.request_parts.specs.Steps.{◌>>=◌}
 use Rattle.hub_api.specs.Readings as calls
-use Rattle.hub_api.specs.Paths.{path_of}
+use Rattle.hub_paths.specs.Paths.{path_of}
 use Rattle.hub_api.specs.declared.method.Method.{Method}
 use Rattle.hub_api.specs.declared.method.Method.TheVariants.{Get, Post, Put, Patch, Delete, Other}
-use Rattle.hub_api.specs.declared.paths.Path.{Path}
-use Rattle.hub_api.specs.declared.paths.Path.TheVariants.{Bare, Version, Info, Identity, Users, User, Activity, DefaultServer, NamedServer, Groups, Group, Members, Services, Service, Roles, Role}
+use Rattle.hub_paths.specs.declared.paths.Path.{Path}
+use Rattle.hub_paths.specs.declared.paths.Path.TheVariants.{Bare, Version, Info, Identity, Users, User, Activity, DefaultServer, NamedServer, Tokens, Token, Groups, Group, Members, Services, Service, Roles, Role}
 use Rattle.hub_api.specs.declared.refusal.ApiRefusal.{ApiRefusal}
 use Rattle.hub_api.specs.declared.refusal.ApiRefusal.TheVariants.{NoPath, NoMethod}
 
@@ -62,6 +62,16 @@ named_server Post q = calls.post_named_server q
 named_server Delete q = calls.delete_named_server q
 named_server method q = Err NoMethod
 
+abbrev pub tokens : Method → Request → Result Call ApiRefusal
+tokens Get q = calls.get_tokens q
+tokens Post q = calls.post_token q
+tokens method q = Err NoMethod
+
+abbrev pub token : Method → Request → Result Call ApiRefusal
+token Get q = calls.get_token q
+token Delete q = calls.delete_token q
+token method q = Err NoMethod
+
 abbrev pub groups : Method → Request → Result Call ApiRefusal
 groups Get q = calls.get_groups q
 groups method q = Err NoMethod
@@ -108,6 +118,8 @@ at_path User method q = user method q
 at_path Activity method q = activity method q
 at_path DefaultServer method q = default_server method q
 at_path NamedServer method q = named_server method q
+at_path Tokens method q = tokens method q
+at_path Token method q = token method q
 at_path Groups method q = groups method q
 at_path Group method q = group method q
 at_path Members method q = members method q

@@ -3,8 +3,8 @@ use Rattle.std.specs.Prelude.{ℕ, List, Option, Result, ok_or}
 use Rattle.http_wire.specs.declared.request.Request.{Request}
 use Rattle.request_parts.specs.Names.{name_of}
 use Rattle.request_parts.specs.Paths.{segment_number, read_in_path}
-use Rattle.hub_api.specs.Paths.{text_of}
-use Rattle.hub_api.specs.declared.paths.Path.{Path}
+use Rattle.hub_paths.specs.Paths.{text_of}
+use Rattle.hub_paths.specs.declared.paths.Path.{Path}
 use Rattle.hub_api.specs.declared.refusal.ApiRefusal.{ApiRefusal}
 use Rattle.hub_api.specs.declared.refusal.ApiRefusal.TheVariants.{BadName}
 

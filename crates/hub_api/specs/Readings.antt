@@ -1,15 +1,16 @@
 -- The calls, each as a function of the request that asks it: the names of its path, then its query, then its body, then its scopes.
-use Rattle.std.specs.Prelude.{ℕ, Bool, true, false, List, [], codes, Result, Ok}
+use Rattle.std.specs.Prelude.{ℕ, Bool, List, [], codes, Result, Ok}
 use Rattle.http_wire.specs.declared.request.Request.{Request}
 use Rattle.hub_machine.specs.declared.call.Call.{Call}
-use Rattle.hub_machine.specs.declared.call.Call.TheVariants.{GetIdentity, GetUsers, PostUsers, GetUser, PostUser, PatchUser, DeleteUser, PostActivity, PostServer, DeleteServer, GetGroups, GetGroup, PostGroup, DeleteGroup, JoinGroup, LeaveGroup, GetServices, GetService, PostService, DeleteService, GetRoles, GetRole, PutRole, DeleteRole}
+use Rattle.hub_machine.specs.declared.call.Call.TheVariants.{GetIdentity, GetUsers, PostUsers, GetUser, PostUser, PatchUser, DeleteUser, PostActivity, PostServer, DeleteServer, GetTokens, PostToken, GetToken, DeleteToken, GetGroups, GetGroup, PostGroup, DeleteGroup, JoinGroup, LeaveGroup, GetServices, GetService, PostService, DeleteService, GetRoles, GetRole, PutRole, DeleteRole}
 use Rattle.request_parts.specs.Steps.{◌>>=◌}
 use Rattle.hub_kit.specs.declared.names.ServerKey.{ServerKey}
 use Rattle.request_parts.specs.Names.{server_of as named_server}
+use Rattle.request_parts.specs.Queries.{decimal_of}
 use Rattle.hub_api.specs.Names.{name_at, read_at}
 use Rattle.hub_api.specs.Queries.{page_of, server_of}
-use Rattle.hub_api.specs.declared.paths.Path.TheVariants.{User, Activity, DefaultServer, NamedServer, Group, Members, Service, Role}
-use Rattle.hub_api.specs.Bodies.{body_of, needed_truth, truth, names, some_names, distinct_names, moment, activity, scope_texts, scopes}
+use Rattle.hub_paths.specs.declared.paths.Path.TheVariants.{User, Activity, DefaultServer, NamedServer, Tokens, Token, Group, Members, Service, Role}
+use Rattle.hub_api.specs.Bodies.{body_of, needed_truth, truth, names, some_names, distinct_names, moment, activity, scope_texts, scopes, note, seconds}
 use Rattle.hub_api.specs.declared.refusal.ApiRefusal.{ApiRefusal}
 
 -- GET /user
@@ -117,6 +118,47 @@ delete_named_server q = do
   server ← named_server_at q
   remove ← remove_of q
   Ok (DeleteServer server remove)
+
+-- ---- tokens
+
+abbrev pub owner_at : Request → Result (List ℕ) ApiRefusal
+owner_at q = name_at Tokens (codes "{user}") q
+
+-- GET /users/{user}/tokens
+abbrev pub get_tokens : Request → Result Call ApiRefusal
+get_tokens q = do
+  user ← owner_at q
+  Ok (GetTokens user)
+
+-- POST /users/{user}/tokens: its texts of scopes are read once the whole body is of its form
+unfoldable pub post_token : Request → Result Call ApiRefusal
+post_token q = do
+  owner ← owner_at q
+  body ← body_of q
+  texts ← scope_texts body
+  words ← note (codes "note") body
+  life ← seconds (codes "expires_in") body
+  asked ← scopes texts
+  Ok (PostToken (record { owner = owner; scopes = asked; note = words; expires_in = life }))
+
+-- the user and the id that the path names
+unfoldable pub token_at : Request → Result (List ℕ × ℕ) ApiRefusal
+token_at q = do
+  user ← name_at Token (codes "{user}") q
+  id ← read_at decimal_of Token (codes "{id}") q
+  Ok (user, id)
+
+-- GET /users/{user}/tokens/{id}
+abbrev pub get_token : Request → Result Call ApiRefusal
+get_token q = do
+  named ← token_at q
+  Ok (GetToken named.0 named.1)
+
+-- DELETE /users/{user}/tokens/{id}
+abbrev pub delete_token : Request → Result Call ApiRefusal
+delete_token q = do
+  named ← token_at q
+  Ok (DeleteToken named.0 named.1)
 
 -- ---- groups
 

@@ -7,16 +7,16 @@ ghost use Rattle.hub_api.specs.Names.{read_at};
 ghost use Rattle.hub_api.specs.Queries as spec_queries;
 ghost use Rattle.hub_api.specs.Bodies as spec;
 
-use crate::paths::Path;
 use crate::refusal::ApiRefusal;
 use http_wire::request::Request;
 use hub_kit::list::List;
 use hub_kit::moment::Moment;
 use hub_kit::names::{ServerKey, ServerName, UserName, read_key};
 use hub_kit::text::Text;
+use hub_paths::Path;
 use hub_view::Page;
 use request_parts::activity::activity_at;
-use request_parts::body::{body_object, list_at, optional_at, truth_at, truth_or};
+use request_parts::body::{body_object, list_at, number_at, optional_at, truth_at, truth_or};
 use request_parts::from_text::FromText;
 use request_parts::path::{read_in_path, segment_number};
 use request_parts::query::{query_number, query_value};
@@ -125,6 +125,58 @@ pub(crate) fn moment(alloc: Global, body: &Value, key: &str) -> Result<Option<Mo
     match optional_at(alloc, body, key)? {
         Some(moment) => Ok(moment),
         None => Err(ApiRefusal::BadBody),
+    }
+}
+
+/// A text of the body of at most 256 bytes, which is empty where its key is absent.
+#[tactic(auto, unfolding(crate::specs::Bodies::note))]
+pub(crate) fn note(alloc: Global, body: &Value, key: &str) -> Result<Text, ApiRefusal>
+    ensures { Gives result (spec.note key.now (view body.now)) }
+{
+    match optional_at(alloc, body, key)? {
+        Some(text) => note_of(alloc, text),
+        None => Err(ApiRefusal::BadBody),
+    }
+}
+
+fn note_of(alloc: Global, text: Option<Text>) -> Result<Text, ApiRefusal>
+    ensures { result ≡ spec.note_of text }
+{
+    match text {
+        None => Ok(Text::new(alloc)),
+        Some(text) => {
+            if text.as_bytes().len() <= 256 {
+                Ok(text)
+            } else {
+                Err(ApiRefusal::BadBody)
+            }
+        }
+    }
+}
+
+/// 1 to 4,294,967,295 seconds of the body, or no end where their key is absent or null.
+#[tactic(auto, unfolding(crate::specs::Bodies::seconds))]
+pub(crate) fn seconds(body: &Value, key: &str) -> Result<Option<u32>, ApiRefusal>
+    ensures { result ≡ spec.seconds key.now (view body.now) }
+{
+    match number_at(body, key) {
+        Some(number) => seconds_of(number),
+        None => Err(ApiRefusal::BadBody),
+    }
+}
+
+fn seconds_of(number: Option<u64>) -> Result<Option<u32>, ApiRefusal>
+    ensures { result ≡ spec.seconds_of number }
+{
+    match number {
+        None => Ok(None),
+        Some(n) => {
+            if 1 <= n && n <= 4_294_967_295 {
+                Ok(Some(n as u32))
+            } else {
+                Err(ApiRefusal::BadBody)
+            }
+        }
     }
 }
 

@@ -1,6 +1,6 @@
 //! The call that a request asks.
 ghost use Rattle.std.specs.Prelude.{◌≡◌, false};
-ghost use Rattle.hub_api.specs.Paths.{IsRouter};
+ghost use Rattle.hub_paths.specs.Paths.{IsRouter};
 ghost use Rattle.hub_api.specs.Refusals.{Gives};
 ghost use Rattle.hub_api.specs.Calls as spec;
 ghost use Rattle.hub_api.specs.Readings as calls;
@@ -9,14 +9,15 @@ ghost use Rattle.hub_machine.specs.Draws.{draws};
 use crate::groups::{group, groups, members};
 use crate::method::{Method, method_of};
 use crate::parts::server_of;
-use crate::paths::{ApiRouter, Path, path_of};
 use crate::refusal::ApiRefusal;
 use crate::roles::{role, roles};
 use crate::servers::{default_server, named_server};
 use crate::services::{service, services};
+use crate::tokens::{token, tokens};
 use crate::users::{activity, user, users};
 use http_wire::request::Request;
 use hub_machine::call::{Asked, Call};
+use hub_paths::{ApiRouter, Path, path_of};
 use std::alloc::Global;
 
 /// `/`, by its methods.
@@ -70,6 +71,8 @@ fn at_path(alloc: Global, path: Path, method: Method, request: &Request) -> Resu
         Path::Activity => activity(alloc, method, request),
         Path::DefaultServer => default_server(alloc, method, request),
         Path::NamedServer => named_server(alloc, method, request),
+        Path::Tokens => tokens(alloc, method, request),
+        Path::Token => token(alloc, method, request),
         Path::Groups => groups(alloc, method, request),
         Path::Group => group(alloc, method, request),
         Path::Members => members(alloc, method, request),
@@ -117,7 +120,7 @@ pub fn draws(call: &Call) -> bool
     ensures { result ≡ draws call.now }
 {
     match call {
-        Call::PostServer { .. } => true,
+        Call::PostServer { .. } | Call::PostToken { .. } => true,
         _ => false,
     }
 }

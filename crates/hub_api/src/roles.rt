@@ -9,12 +9,12 @@ ghost use Rattle.hub_api.specs.Calls as paths;
 
 use crate::method::Method;
 use crate::parts::{body_of, list, name_at, page_of, scope_texts, scopes};
-use crate::paths::Path;
 use crate::refusal::ApiRefusal;
 use http_wire::request::Request;
 use hub_kit::list::List;
 use hub_kit::names::{GroupName, RoleName, ServiceName, UserName};
 use hub_machine::call::Call;
+use hub_paths::Path;
 use serde_json::Value;
 use std::alloc::Global;
 

@@ -6,11 +6,11 @@ ghost use Rattle.hub_api.specs.Calls as paths;
 
 use crate::method::Method;
 use crate::parts::{body_of, name_at, truth};
-use crate::paths::Path;
 use crate::refusal::ApiRefusal;
 use http_wire::request::Request;
 use hub_kit::names::{ServerKey, ServerName, UserName, read_server};
 use hub_machine::call::Call;
+use hub_paths::Path;
 use std::alloc::Global;
 
 /// `/users/{user}/server`, by its methods.

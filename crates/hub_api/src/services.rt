@@ -5,11 +5,11 @@ ghost use Rattle.hub_api.specs.Calls as paths;
 
 use crate::method::Method;
 use crate::parts::{name_at, page_of};
-use crate::paths::Path;
 use crate::refusal::ApiRefusal;
 use http_wire::request::Request;
 use hub_kit::names::ServiceName;
 use hub_machine::call::Call;
+use hub_paths::Path;
 use std::alloc::Global;
 
 /// `/services`, by its methods.

@@ -7,11 +7,11 @@ use crate::method::Method;
 use crate::parts::{
     activity_of, body_of, distinct_names, moment, name_at, needed_truth, page_of, truth,
 };
-use crate::paths::Path;
 use crate::refusal::ApiRefusal;
 use http_wire::request::Request;
 use hub_kit::names::UserName;
 use hub_machine::call::Call;
+use hub_paths::Path;
 use std::alloc::Global;
 
 /// `/users`, by its methods.

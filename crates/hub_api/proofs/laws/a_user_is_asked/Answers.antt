@@ -4,12 +4,12 @@ use Rattle.request_parts.proofs.OnLiterals.{no_query}
 use Rattle.request_parts.specs.Queries.{query_value}
 use Rattle.request_parts.specs.Steps.{◌>>=◌}
 use Rattle.hub_api.specs.Calls.{asked, at_path, call_of, call_read, method_of}
-use Rattle.hub_api.specs.Paths.{path_of}
+use Rattle.hub_paths.specs.Paths.{path_of}
 use Rattle.hub_api.specs.Queries.{server_in, server_of}
 use Rattle.hub_api.specs.Readings.{get_identity}
-use Rattle.hub_api.specs.declared.paths.Path.{Path}
-use Rattle.hub_api.specs.declared.paths.Path.TheVariants.{Identity}
-use Rattle.hub_api.proofs.PathsOf.{identity_path}
+use Rattle.hub_paths.specs.declared.paths.Path.{Path}
+use Rattle.hub_paths.specs.declared.paths.Path.TheVariants.{Identity}
+use Rattle.hub_paths.proofs.PathsOf.{identity_path}
 use Rattle.hub_api.proofs.laws.a_user_is_asked.Goals as goal
 
 pub returns : goal.returns

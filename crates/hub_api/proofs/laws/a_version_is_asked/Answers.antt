@@ -1,10 +1,10 @@
 use Rattle.std.proofs.Common.{ap, ◌∙◌, Option, List, ℕ, Ok}
 use Rattle.request_parts.specs.Steps.{◌>>=◌}
 use Rattle.hub_api.specs.Calls.{asked, at_path, call_of, call_read, method_of}
-use Rattle.hub_api.specs.Paths.{path_of}
-use Rattle.hub_api.specs.declared.paths.Path.{Path}
-use Rattle.hub_api.specs.declared.paths.Path.TheVariants.{Version}
-use Rattle.hub_api.proofs.PathsOf.{version_path}
+use Rattle.hub_paths.specs.Paths.{path_of}
+use Rattle.hub_paths.specs.declared.paths.Path.{Path}
+use Rattle.hub_paths.specs.declared.paths.Path.TheVariants.{Version}
+use Rattle.hub_paths.proofs.PathsOf.{version_path}
 use Rattle.hub_api.proofs.laws.a_version_is_asked.Goals as goal
 
 pub returns : goal.returns

@@ -4,12 +4,12 @@ use Rattle.request_parts.specs.Bodies.{body_object, list_at}
 use Rattle.request_parts.specs.Steps.{◌>>=◌}
 use Rattle.hub_api.specs.Bodies.{body_of, distinct_names, list, some_names, truth}
 use Rattle.hub_api.specs.Calls.{asked, at_path, call_of, call_read, method_of}
-use Rattle.hub_api.specs.Paths.{path_of}
+use Rattle.hub_paths.specs.Paths.{path_of}
 use Rattle.hub_api.specs.Readings.{post_users}
 use Rattle.hub_api.specs.declared.refusal.ApiRefusal.TheVariants.{BadBody}
-use Rattle.hub_api.specs.declared.paths.Path.{Path}
-use Rattle.hub_api.specs.declared.paths.Path.TheVariants.{Users}
-use Rattle.hub_api.proofs.PathsOf.{users_path}
+use Rattle.hub_paths.specs.declared.paths.Path.{Path}
+use Rattle.hub_paths.specs.declared.paths.Path.TheVariants.{Users}
+use Rattle.hub_paths.proofs.PathsOf.{users_path}
 use Rattle.hub_api.proofs.laws.users_are_needed.Goals as goal
 
 pub returns : goal.returns

@@ -2,8 +2,8 @@ use Rattle.std.proofs.Common.{ap, sym, ◌∙◌, Option, Result, Ok}
 use Rattle.hub_machine.specs.declared.call.Call.{Call}
 use Rattle.request_parts.specs.Steps.{◌>>=◌}
 use Rattle.hub_api.specs.Calls.{asked, call_of, call_read}
-use Rattle.hub_api.specs.Paths.{path_of}
-use Rattle.hub_api.specs.declared.paths.Path.{Path}
+use Rattle.hub_paths.specs.Paths.{path_of}
+use Rattle.hub_paths.specs.declared.paths.Path.{Path}
 use Rattle.hub_api.specs.declared.refusal.ApiRefusal.{ApiRefusal}
 use Rattle.hub_api.proofs.reading.read_call.Goals as goal
 

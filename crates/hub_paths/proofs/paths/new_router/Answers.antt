@@ -1,10 +1,10 @@
 use Rattle.std.proofs.Common.{◌≡◌, [], refl, subst, sym, ◌∙◌, ap, drop, arith}
 use Rattle.std.specs.Prelude.{fold}
 use Rattle.std.proofs.lemmas.List.{drop_all}
-use Rattle.hub_api.specs.Paths.{IsRouter}
-use Rattle.hub_api.proofs.Routes.{hub_routes, with_path}
-use Rattle.hub_api.proofs.RoutesFit.{hub-router}
-use Rattle.hub_api.proofs.paths.new_router.Goals as goal
+use Rattle.hub_paths.specs.Paths.{IsRouter}
+use Rattle.hub_paths.proofs.Routes.{hub_routes, with_path}
+use Rattle.hub_paths.proofs.RoutesFit.{hub-router}
+use Rattle.hub_paths.proofs.paths.new_router.Goals as goal
 
 pub loop-path-init : goal.loop-path-init
 unfolding hub_routes

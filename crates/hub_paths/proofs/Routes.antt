@@ -5,8 +5,8 @@ use Rattle.matchit.specs.Order.{placed}
 use Rattle.matchit.specs.Route.{Scan, parse_route}
 use Rattle.matchit.specs.Router.{RouteOf, route_from}
 use Rattle.matchit.specs.declared.error.InsertError.{InsertError}
-use Rattle.hub_api.specs.Paths.{text_of, every_path}
-use Rattle.hub_api.specs.declared.paths.Path.{Path}
+use Rattle.hub_paths.specs.Paths.{text_of, every_path}
+use Rattle.hub_paths.specs.declared.paths.Path.{Path}
 
 -- a route at its place among the routes of a router
 abbrev pub with_route : Result Scan InsertError → Path → RowsOf (RouteOf Path) → RowsOf (RouteOf Path)

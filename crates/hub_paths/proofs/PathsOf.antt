@@ -1,8 +1,7 @@
--- Which paths some texts are, and where a name stands in one.
+-- Which paths some texts are.
 use Rattle.std.proofs.Common.{◌≡◌, codes, Some, None, refl}
-use Rattle.request_parts.specs.Paths.{segment_number}
-use Rattle.hub_api.specs.Paths.{every_path, path_of, text_of}
-use Rattle.hub_api.specs.declared.paths.Path.TheVariants.{Version, Identity, Users, User}
+use Rattle.hub_paths.specs.Paths.{every_path, path_of}
+use Rattle.hub_paths.specs.declared.paths.Path.TheVariants.{Version, Identity, Users, User}
 
 pub version_path : path_of (codes "/hub/api/") ≡ Some Version
 unfolding path_of every_path
@@ -23,6 +22,3 @@ user_path = refl
 pub no_name_path : path_of (codes "/hub/api/users/") ≡ None
 unfolding path_of every_path
 no_name_path = refl
-
-pub user_number : segment_number (codes "{user}") (text_of User) ≡ 4
-user_number = refl

@@ -5,8 +5,8 @@ use Rattle.std.specs.Cmp.Lexicographic.{pointwise}
 use Rattle.matchit.specs.Rows.{RowsOf}
 use Rattle.matchit.specs.Router.{RouteOf}
 use Rattle.matchit.specs.Seek.{first}
-use Rattle.hub_api.specs.declared.paths.Path.{Path}
-use Rattle.hub_api.specs.declared.paths.Path.TheVariants.{Bare, Version, Info, Identity, Users, User, Activity, DefaultServer, NamedServer, Groups, Group, Members, Services, Service, Roles, Role}
+use Rattle.hub_paths.specs.declared.paths.Path.{Path}
+use Rattle.hub_paths.specs.declared.paths.Path.TheVariants.{Bare, Version, Info, Identity, Users, User, Activity, DefaultServer, NamedServer, Tokens, Token, Groups, Group, Members, Services, Service, Roles, Role}
 
 -- the text of each path; a name between braces stands for one segment of a byte or more
 abbrev pub text_of : Path → List ℕ
@@ -19,6 +19,8 @@ text_of User = codes "/hub/api/users/{user}"
 text_of Activity = codes "/hub/api/users/{user}/activity"
 text_of DefaultServer = codes "/hub/api/users/{user}/server"
 text_of NamedServer = codes "/hub/api/users/{user}/servers/{server}"
+text_of Tokens = codes "/hub/api/users/{user}/tokens"
+text_of Token = codes "/hub/api/users/{user}/tokens/{id}"
 text_of Groups = codes "/hub/api/groups"
 text_of Group = codes "/hub/api/groups/{group}"
 text_of Members = codes "/hub/api/groups/{group}/users"
@@ -29,7 +31,7 @@ text_of Role = codes "/hub/api/roles/{role}"
 
 -- the paths of the calls that are built. No text fits two of them, so their order says nothing
 unfoldable pub every_path : List Path
-every_path = Members ∷ Group ∷ Groups ∷ Info ∷ Role ∷ Roles ∷ Service ∷ Services ∷ Activity ∷ NamedServer ∷ DefaultServer ∷ User ∷ Users ∷ Identity ∷ Version ∷ Bare ∷ []
+every_path = Members ∷ Group ∷ Groups ∷ Info ∷ Role ∷ Roles ∷ Service ∷ Services ∷ Activity ∷ NamedServer ∷ DefaultServer ∷ Token ∷ Tokens ∷ User ∷ Users ∷ Identity ∷ Version ∷ Bare ∷ []
 
 -- what stands between the slashes of a text
 abbrev pub segments : List ℕ → List (List ℕ)

@@ -1,19 +1,18 @@
 -- The routes of all paths give for each text the path that it is.
-use Rattle.std.proofs.Common.{◌≡◌, ℕ, List, [], ◌∷◌, ◌++◌, Option, Some, true, cond, refl, sym, ap, ◌∙◌, codes, subst, map}
+use Rattle.std.proofs.Common.{◌≡◌, ℕ, List, [], ◌∷◌, ◌++◌, Some, true, cond, refl, sym, ap, ◌∙◌, codes, subst, map}
 use Rattle.std.specs.Prelude.{option_map, Result, Ok, Err, Bool, false}
 use Rattle.std.specs.List.{find}
 use Rattle.matchit.specs.Rows.{RowsOf}
-use Rattle.matchit.specs.Seek.{first}
 use Rattle.matchit.specs.Route.{Scan, scan_start, parse_route}
 use Rattle.matchit.specs.Router.{RouteOf, route_from}
 use Rattle.matchit.specs.declared.error.InsertError.{InsertError}
 use Rattle.matchit.proofs.OnLiterals.{matchit_on_literals}
-use Rattle.hub_api.specs.Paths.{IsRouter, every_path, fits, path_of, segments, text_of}
-use Rattle.hub_api.specs.declared.paths.Path.{Path}
-use Rattle.hub_api.specs.declared.paths.Path.TheVariants.{Bare, Version, Info, Identity, Users, User, Activity, DefaultServer, NamedServer, Groups, Group, Members, Services, Service, Roles, Role}
-use Rattle.hub_api.proofs.Routes.{hub_routes}
-use Rattle.hub_api.proofs.Walks.{Agrees, after, agrees-branch, agrees-end, agrees-none, agrees-param, agrees-prefix, at_slash, found, matches}
-use Rattle.hub_api.proofs.Fits.{are_parts, fits-pattern, pattern_of}
+use Rattle.hub_paths.specs.Paths.{IsRouter, every_path, fits, path_of, segments, text_of}
+use Rattle.hub_paths.specs.declared.paths.Path.{Path}
+use Rattle.hub_paths.specs.declared.paths.Path.TheVariants.{Bare, Version, Info, Identity, Users, User, Activity, DefaultServer, NamedServer, Tokens, Token, Groups, Group, Members, Services, Service, Roles, Role}
+use Rattle.hub_paths.proofs.Routes.{hub_routes}
+use Rattle.hub_paths.proofs.Walks.{Agrees, after, agrees-branch, agrees-end, agrees-none, agrees-param, agrees-prefix, at_slash, found, matches}
+use Rattle.hub_paths.proofs.Fits.{are_parts, fits-pattern, pattern_of}
 
 abbrev scanned : Result Scan InsertError → Scan
 scanned (Ok s) = s
@@ -45,8 +44,12 @@ of_groups = collection (after (codes "users") (leaf Members)) Group Groups
 abbrev of_server : RowsOf (RouteOf Path)
 of_server = after (codes "s/") (after (256 ∷ []) (at_slash [] (Some (route NamedServer)))) ++ leaf DefaultServer
 
+-- one token behind all of them
+abbrev of_tokens : RowsOf (RouteOf Path)
+of_tokens = collection [] Token Tokens
+
 abbrev of_user : RowsOf (RouteOf Path)
-of_user = after (codes "activity") (leaf Activity) ++ after (codes "server") of_server
+of_user = after (codes "activity") (leaf Activity) ++ (after (codes "server") of_server ++ after (codes "tokens") of_tokens)
 
 abbrev of_users : RowsOf (RouteOf Path)
 of_users = after (codes "s") (collection of_user User Users) ++ leaf Identity
@@ -77,10 +80,15 @@ agrees-of_server =
     agrees-branch (codes "s/") (after (256 ∷ []) (at_slash [] (Some (route NamedServer)))) (leaf DefaultServer) (refl, refl, refl, refl)
     (agrees-param [] (Some (route NamedServer)) agrees-none) (agrees-end (route DefaultServer))
 
+agrees-of_tokens : Agrees of_tokens
+agrees-of_tokens = agrees-collection [] Token Tokens agrees-none
+
 agrees-of_user : Agrees of_user
 agrees-of_user =
-    agrees-branch (codes "activity") (leaf Activity) (after (codes "server") of_server) (refl, refl, refl, refl)
-    (agrees-end (route Activity)) (agrees-prefix (codes "server") of_server refl agrees-of_server)
+    agrees-branch (codes "activity") (leaf Activity) (after (codes "server") of_server ++ after (codes "tokens") of_tokens) (refl, refl, refl, refl)
+    (agrees-end (route Activity))
+    (agrees-branch (codes "server") of_server (after (codes "tokens") of_tokens) (refl, refl, refl, refl) agrees-of_server
+    (agrees-prefix (codes "tokens") of_tokens refl agrees-of_tokens))
 
 agrees-of_users : Agrees of_users
 agrees-of_users =
@@ -125,6 +133,8 @@ plain-parts User = refl
 plain-parts Activity = refl
 plain-parts DefaultServer = refl
 plain-parts NamedServer = refl
+plain-parts Tokens = refl
+plain-parts Token = refl
 plain-parts Groups = refl
 plain-parts Group = refl
 plain-parts Members = refl
@@ -144,6 +154,8 @@ pattern-parts User = refl
 pattern-parts Activity = refl
 pattern-parts DefaultServer = refl
 pattern-parts NamedServer = refl
+pattern-parts Tokens = refl
+pattern-parts Token = refl
 pattern-parts Groups = refl
 pattern-parts Group = refl
 pattern-parts Members = refl

@@ -1,12 +1,11 @@
 -- A pattern that a text matches byte by byte, and a path whose parts fit its segments.
-use Rattle.std.proofs.Common.{◌≡◌, ℕ, ◌+◌, List, [], ◌∷◌, ◌++◌, length, Bool, true, false, cond, refl, sym, ap, ◌∙◌, arith, nat_eq, ◌==◌, ◌&&◌, codes, subst}
+use Rattle.std.proofs.Common.{◌≡◌, ℕ, List, [], ◌∷◌, ◌++◌, length, Bool, true, false, cond, refl, sym, ap, ◌∙◌, arith, nat_eq, ◌==◌, ◌&&◌, codes, subst}
 use Rattle.std.specs.Prelude.{nat_lt}
-use Rattle.std.specs.List.{onto_first, starts_with}
+use Rattle.std.specs.List.{starts_with}
 use Rattle.std.specs.Cmp.Lexicographic.{pointwise}
-use Rattle.std.proofs.lemmas.Bool.{false≢true}
 use Rattle.std.proofs.lemmas.Bool.Decides.{nat_tests}
-use Rattle.hub_api.specs.Paths.{segments, fits_part, fits}
-use Rattle.hub_api.proofs.Walks.{matches, from_slash, and-left, and-right}
+use Rattle.hub_paths.specs.Paths.{segments, fits_part, fits}
+use Rattle.hub_paths.proofs.Walks.{matches, from_slash, and-left, and-right}
 
 -- the first segment passes one test, and those after it another
 abbrev on_segments : (List ℕ → Bool) → (List (List ℕ) → Bool) → List (List ℕ) → Bool

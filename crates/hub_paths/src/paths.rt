@@ -1,7 +1,7 @@
 //! The paths of the calls, found by `matchit`.
 ghost use Rattle.std.specs.Prelude.{◌≡◌, IfOk};
-ghost use Rattle.hub_api.specs.Paths.{IsRouter, every_path};
-ghost use Rattle.hub_api.specs.Paths as spec;
+ghost use Rattle.hub_paths.specs.Paths.{IsRouter, every_path};
+ghost use Rattle.hub_paths.specs.Paths as spec;
 
 use matchit::Router;
 use std::alloc::{AllocError, Global};
@@ -19,6 +19,8 @@ pub enum Path {
     Activity,
     DefaultServer,
     NamedServer,
+    Tokens,
+    Token,
     Groups,
     Group,
     Members,
@@ -30,7 +32,7 @@ pub enum Path {
 
 impl Path {
     /// Its text. A name between braces stands for one segment of a byte or more.
-    pub(crate) fn text(self) -> &'static str
+    pub fn text(self) -> &'static str
         ensures { result.now ≡ spec.text_of self }
     {
         match self {
@@ -43,6 +45,8 @@ impl Path {
             Path::Activity => "/hub/api/users/{user}/activity",
             Path::DefaultServer => "/hub/api/users/{user}/server",
             Path::NamedServer => "/hub/api/users/{user}/servers/{server}",
+            Path::Tokens => "/hub/api/users/{user}/tokens",
+            Path::Token => "/hub/api/users/{user}/tokens/{id}",
             Path::Groups => "/hub/api/groups",
             Path::Group => "/hub/api/groups/{group}",
             Path::Members => "/hub/api/groups/{group}/users",
@@ -55,7 +59,7 @@ impl Path {
 }
 
 /// All paths, in the order of a router's rows.
-static PATHS: [Path; 16] = [
+static PATHS: [Path; 18] = [
     Path::Members,
     Path::Group,
     Path::Groups,
@@ -67,6 +71,8 @@ static PATHS: [Path; 16] = [
     Path::Activity,
     Path::NamedServer,
     Path::DefaultServer,
+    Path::Token,
+    Path::Tokens,
     Path::User,
     Path::Users,
     Path::Identity,
@@ -99,7 +105,7 @@ pub fn new_router(alloc: Global) -> Result<ApiRouter, AllocError>
 }
 
 /// The path that a text is. Nothing is decoded before.
-pub(crate) fn path_of(router: &ApiRouter, text: &str) -> Option<Path>
+pub fn path_of(router: &ApiRouter, text: &str) -> Option<Path>
     requires { IsRouter router.now }
     ensures { result ≡ spec.path_of text.now }
 {

@@ -1,0 +1,5 @@
+pub mod PathsOf
+pub mod Walks
+pub mod Fits
+pub mod Routes
+pub mod RoutesFit
