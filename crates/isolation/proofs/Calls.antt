@@ -18,7 +18,7 @@ use Rattle.hub_rows.specs.declared.records.Token.{Token}
 use Rattle.hub_rows.specs.declared.records.User.{User}
 use Rattle.hub_tables.specs.Own.{AreOwn}
 use Rattle.hub_tables.proofs.RowsAt.{own_users, own_groups, own_services}
-use Rattle.hub_view.specs.Json.{Json, whole, pairs, line}
+use Rattle.hub_view.specs.Json.{Json, items, whole, pairs, line}
 use Rattle.hub_view.specs.Fields as view
 use Rattle.hub_view.specs.Pages.{paged_list}
 use Rattle.hub_view.specs.declared.pages.Page.{Page}
@@ -30,20 +30,22 @@ use Rattle.hub_machine.specs.declared.refusal.Refusal.{Refusal}
 use Rattle.hub_machine.specs.declared.refusal.Refusal.TheVariants.{Needs, NotFound, NoValidToken, SeenPast}
 use Rattle.hub_machine.specs.declared.call.Asked.{Asked}
 use Rattle.hub_machine.specs.declared.call.Call.{Call}
-use Rattle.hub_machine.specs.declared.call.Call.TheVariants.{GetVersion, GetInfo, GetIdentity, GetUsers, GetUser, GetGroups, GetGroup, GetServices, GetService, GetRoles, GetRole}
+use Rattle.hub_machine.specs.declared.call.Call.TheVariants.{GetVersion, GetInfo, GetIdentity, GetUsers, GetUser, GetTokens, GetToken, GetGroups, GetGroup, GetServices, GetService, GetRoles, GetRole}
 use Rattle.hub_calls.specs.Facts.{body_of_user, body_of_group, body_of_role, user_body, group_body, service_body, users_shown, groups_shown, services_shown}
 use Rattle.hub_calls.specs.UserCalls.{get_version, get_info, identity, identity_of_user}
-use Rattle.hub_core.specs.Needs.{needs, needs_token}
+use Rattle.access_calls.specs.TokenCalls.{token_at}
+use Rattle.hub_core.specs.Needs.{has_token, needs_token}
 use Rattle.hub_tables.specs.Ends.{is_over}
+use Rattle.scope_meet.specs.declared.inside.Inside.TheVariants.{Yes}
 use Rattle.hub_core.specs.Answer.{Judgement, answer, by_call, caller, good_token, if_good, is_past, named}
 use Rattle.hub_core.specs.Judged.{Judged, JudgesToken, JudgesCaller, HeldOf}
 use Rattle.hub_core.specs.History.{Answers}
-use Rattle.hub_core.specs.declared.need.Need.{Need}
-use Rattle.hub_core.specs.declared.need.Need.TheVariants.{GoodToken, Held, On}
+use Rattle.hub_core.specs.declared.need.Need.TheVariants.{Held}
 use Rattle.isolation.specs.Sight.{SameUser, SameGroup, SameService, InBoth, SeesSame}
 use Rattle.isolation.specs.Isolation.{is_get, token_of, Finds, apart}
 use Rattle.isolation.proofs.Bodies.{Says, user_same, identity_same, group_same, same_service_members}
 use Rattle.isolation.proofs.Lists.{same_list, in_both}
+use Rattle.isolation.proofs.Tokens.{same_token, same_tokens}
 
 same_truth : (b c : Bool) → (IsTrue b → IsTrue c) → (IsTrue c → IsTrue b) → b ≡ c
 same_truth true true f g = refl
@@ -54,8 +56,8 @@ same_truth false false f g = refl
 module _ (k : Token) (s t : Hub) (seen : SeesSame k s t) where
   -- ---- the judgements are one
 
-  same_rights : (need need' : Need) (j j' : Judgement) → JudgesToken s.tables k need j → JudgesToken t.tables k need' j' → j.may ≡ j'.may
-  same_rights need need' j j' judged judged' = λ i a x. same_truth (j.may a x) (j'.may a x)
+  same_rights : (call : Call) (j j' : Judgement) → JudgesToken s.tables k call j → JudgesToken t.tables k call j' → j.may ≡ j'.may
+  same_rights call j j' judged judged' = λ i a x. same_truth (j.may a x) (j'.may a x)
       (λ h. (judged'.may a x).1 ((seen.allowed a x).0 ((judged.may a x).0 h)))
       (λ h. (judged.may a x).1 ((seen.allowed a x).1 ((judged'.may a x).0 h))) i
 
@@ -64,20 +66,17 @@ module _ (k : Token) (s t : Hub) (seen : SeesSame k s t) where
       (λ x. h'.1 (let o = h.0 x in (o.0, o.1, (seen.allowed a o.0).0 o.2)))
       (λ x. h.1 (let o = h'.0 x in (o.0, o.1, (seen.allowed a o.0).1 o.2)))
 
-  same_on : (a : Action) (x : Object) (j j' : Judgement) → JudgesToken s.tables k (On a x) j → JudgesToken t.tables k (On a x) j' → j ≡ j'
-  same_on a x j j' judged judged' =
-      let may = same_rights (On a x) (On a x) j j' judged judged' in
-      let held = same_held a j.is_held j'.is_held judged.held judged'.held in
-      λ i. record { may = may i; is_held = held i }
+  -- of a call that needs this action, and makes no token
+  same_judgement : (call : Call) (a : Action) (j j' : Judgement) → JudgesToken s.tables k call j → JudgesToken t.tables k call j'
+      → HeldOf s.tables k j.is_held (Held a) → HeldOf t.tables k j'.is_held (Held a) → j.inside ≡ Yes → j'.inside ≡ Yes → j ≡ j'
+  same_judgement call a j j' judged judged' h h' all all' =
+      let may = same_rights call j j' judged judged' in
+      let held = same_held a j.is_held j'.is_held h h' in
+      let inside = all ∙ sym all' in
+      λ i. record { may = may i; is_held = held i; inside = inside i }
 
-  same_some : (a : Action) (j j' : Judgement) → JudgesToken s.tables k (Held a) j → JudgesToken t.tables k (Held a) j' → j ≡ j'
-  same_some a j j' judged judged' =
-      let may = same_rights (Held a) (Held a) j j' judged judged' in
-      let held = same_held a j.is_held j'.is_held judged.held judged'.held in
-      λ i. record { may = may i; is_held = held i }
-
-  says : (need : Need) (j : Judgement) → JudgesToken s.tables k need j → Says s k j.may
-  says need j judged a x e = (judged.may a x).0 e
+  says : (call : Call) (j : Judgement) → JudgesToken s.tables k call j → Says s k j.may
+  says call j judged a x e = (judged.may a x).0 e
 
   -- ---- refusals come in both
 
@@ -100,6 +99,12 @@ module _ (k : Token) (s t : Hub) (seen : SeesSame k s t) where
   same_found false false x y e h = refl
   same_found true false x y e h = absurd (cc)
   same_found false true x y e h = absurd (cc)
+
+  same_either : (b c : Bool) (x y : Json) → cond b (Some x) None ≡ cond c (Some y) None → in_trail s (found b x) ≡ in_trail t (found c y)
+  same_either true true x y e = let same : x ≡ y = cc in ap (λ j. gives (good 200 j)) same
+  same_either false false x y e = refl
+  same_either true false x y e = absurd (cc)
+  same_either false true x y e = absurd (cc)
 
   -- ---- each call
 
@@ -185,6 +190,17 @@ module _ (k : Token) (s t : Hub) (seen : SeesSame k s t) where
         same_found (contains_key s.tables.roles r) (contains_key t.tables.roles r) _ _ (ap (λ roles. contains_key roles r) same)
         (λ there. ap (λ roles. body_of_role (get roles r)) same))
 
+    all_tokens : (user : List ℕ) → Same (GetTokens user)
+    all_tokens u can = on_object j.is_held (j.may A.ReadTokens (Ob.User u)) (Needs A.ReadTokens) _ _ (λ m.
+        let same = seen.tokens u (can A.ReadTokens (Ob.User u) m) in
+        same_found (contains_key s.tables.users u) (contains_key t.tables.users u) _ _ same.there
+        (λ there. ap (λ (bodies : List Json). pairs ((codes "api_tokens", items bodies) ∷ [])) (same_tokens s t own own' u same.each)))
+
+    one_token : (user : List ℕ) (id : ℕ) → Same (GetToken user id)
+    one_token u id can = on_object j.is_held (j.may A.ReadTokens (Ob.User u)) (Needs A.ReadTokens) _ _ (λ m.
+        let same = seen.tokens u (can A.ReadTokens (Ob.User u) m) in
+        same_either (has_token s.tables u id) (has_token t.tables u id) (token_at s id) (token_at t id) (same_token s t own own' u id (same.each id)))
+
     all_users : (page : Page) → Same (GetUsers page)
     all_users page can = where_held j.is_held (Needs A.ListUsers) _ _
         (ap (λ shown. gives (good 200 (paged_list (codes "/users") page shown))) (same_users own own' j.may can))
@@ -215,20 +231,22 @@ module _ (k : Token) (s t : Hub) (seen : SeesSame k s t) where
     on_one : (call : Call) → j ≡ j' → Says s k j.may → Same own own' now draw draw' j call → replies now draw s j call ≡ replies now draw' t j' call
     on_one call one can same = same can ∙ ap (λ x. replies now draw' t x call) one
 
-    by_get : (call : Call) → IsTrue (is_get call) → JudgesCaller s.tables (needs call) j (decides call) → JudgesCaller t.tables (needs call) j' (decides call)
+    by_get : (call : Call) → IsTrue (is_get call) → JudgesCaller s.tables call j (decides call) → JudgesCaller t.tables call j' (decides call)
         → replies now draw s j call ≡ replies now draw' t j' call
     by_get GetVersion get a b = refl
-    by_get GetInfo get a b = on_one GetInfo (same_on A.ReadHub Ob.Hub j j' a b) (says (On A.ReadHub Ob.Hub) j a) (info own own' now draw draw' j)
+    by_get GetInfo get a b = on_one GetInfo (same_judgement GetInfo A.ReadHub j j' a b a.held b.held a.inside b.inside) (says GetInfo j a) (info own own' now draw draw' j)
     by_get (GetIdentity server) get a b =
-        who own own' now draw draw' j server (says GoodToken j a) ∙ ap (λ (may : view.Rights). gives (good 200 (identity may t k server k.owner))) (same_rights GoodToken GoodToken j j' a b)
-    by_get (GetUsers page) get a b = on_one (GetUsers page) (same_some A.ListUsers j j' a b) (says (Held A.ListUsers) j a) (all_users own own' now draw draw' j page)
-    by_get (GetUser user) get a b = on_one (GetUser user) (same_on A.ReadUsersName (Ob.User user) j j' a b) (says (On A.ReadUsersName (Ob.User user)) j a) (one_user own own' now draw draw' j user)
-    by_get (GetGroups page) get a b = on_one (GetGroups page) (same_some A.ListGroups j j' a b) (says (Held A.ListGroups) j a) (all_groups own own' now draw draw' j page)
-    by_get (GetGroup group) get a b = on_one (GetGroup group) (same_on A.ReadGroupsName (Ob.Group group) j j' a b) (says (On A.ReadGroupsName (Ob.Group group)) j a) (one_group own own' now draw draw' j group)
-    by_get (GetServices page) get a b = on_one (GetServices page) (same_some A.ListServices j j' a b) (says (Held A.ListServices) j a) (all_services own own' now draw draw' j page)
-    by_get (GetService service) get a b = on_one (GetService service) (same_on A.ReadServicesName (Ob.Service service) j j' a b) (says (On A.ReadServicesName (Ob.Service service)) j a) (one_service own own' now draw draw' j service)
-    by_get (GetRoles page) get a b = on_one (GetRoles page) (same_on A.AdminRoles Ob.Hub j j' a b) (says (On A.AdminRoles Ob.Hub) j a) (all_roles own own' now draw draw' j page)
-    by_get (GetRole role) get a b = on_one (GetRole role) (same_on A.AdminRoles Ob.Hub j j' a b) (says (On A.AdminRoles Ob.Hub) j a) (one_role own own' now draw draw' j role)
+        who own own' now draw draw' j server (says (GetIdentity server) j a) ∙ ap (λ (may : view.Rights). gives (good 200 (identity may t k server k.owner))) (same_rights (GetIdentity server) j j' a b)
+    by_get (GetUsers page) get a b = on_one (GetUsers page) (same_judgement (GetUsers page) A.ListUsers j j' a b a.held b.held a.inside b.inside) (says (GetUsers page) j a) (all_users own own' now draw draw' j page)
+    by_get (GetUser user) get a b = on_one (GetUser user) (same_judgement (GetUser user) A.ReadUsersName j j' a b a.held b.held a.inside b.inside) (says (GetUser user) j a) (one_user own own' now draw draw' j user)
+    by_get (GetTokens user) get a b = on_one (GetTokens user) (same_judgement (GetTokens user) A.ReadTokens j j' a b a.held b.held a.inside b.inside) (says (GetTokens user) j a) (all_tokens own own' now draw draw' j user)
+    by_get (GetToken user id) get a b = on_one (GetToken user id) (same_judgement (GetToken user id) A.ReadTokens j j' a b a.held b.held a.inside b.inside) (says (GetToken user id) j a) (one_token own own' now draw draw' j user id)
+    by_get (GetGroups page) get a b = on_one (GetGroups page) (same_judgement (GetGroups page) A.ListGroups j j' a b a.held b.held a.inside b.inside) (says (GetGroups page) j a) (all_groups own own' now draw draw' j page)
+    by_get (GetGroup group) get a b = on_one (GetGroup group) (same_judgement (GetGroup group) A.ReadGroupsName j j' a b a.held b.held a.inside b.inside) (says (GetGroup group) j a) (one_group own own' now draw draw' j group)
+    by_get (GetServices page) get a b = on_one (GetServices page) (same_judgement (GetServices page) A.ListServices j j' a b a.held b.held a.inside b.inside) (says (GetServices page) j a) (all_services own own' now draw draw' j page)
+    by_get (GetService service) get a b = on_one (GetService service) (same_judgement (GetService service) A.ReadServicesName j j' a b a.held b.held a.inside b.inside) (says (GetService service) j a) (one_service own own' now draw draw' j service)
+    by_get (GetRoles page) get a b = on_one (GetRoles page) (same_judgement (GetRoles page) A.AdminRoles j j' a b a.held b.held a.inside b.inside) (says (GetRoles page) j a) (all_roles own own' now draw draw' j page)
+    by_get (GetRole role) get a b = on_one (GetRole role) (same_judgement (GetRole role) A.AdminRoles j j' a b a.held b.held a.inside b.inside) (says (GetRole role) j a) (one_role own own' now draw draw' j role)
     by_get _ get a b = absurd (cc)
 
 -- ---- the frame
@@ -248,9 +266,9 @@ answers_by h now draw j asked reached =
 
 -- who decides, with the frame's first tests out of the way
 judged_by : (h : Hub) (now : ℕ) (j : Judgement) (asked : Asked) (c : Option Token) → is_past h.length asked.seen ≡ false → caller h now asked ≡ c
-    → Judged h now asked j → JudgesCaller h.tables (needs asked.call) j (cond (needs_token asked.call) c None)
+    → Judged h now asked j → JudgesCaller h.tables asked.call j (cond (needs_token asked.call) c None)
 judged_by h now j asked c reached is judged =
-    let by : Bool → Option Token → Type 0 = λ b x. JudgesCaller h.tables (needs asked.call) j (cond b None (cond (needs_token asked.call) x None)) in
+    let by : Bool → Option Token → Type 0 = λ b x. JudgesCaller h.tables asked.call j (cond b None (cond (needs_token asked.call) x None)) in
     subst (by false) is (subst (λ b. by b (caller h now asked)) reached judged)
 
 -- without a good token a call gets the same in all states

@@ -1,4 +1,5 @@
 pub mod Picked
+pub mod Tokens
 pub mod Bodies
 pub mod Lists
 pub mod Calls

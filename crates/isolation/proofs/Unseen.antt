@@ -1,7 +1,8 @@
 -- What a token may not see may change.
 use Rattle.std.proofs.Common.{◌≡◌, ℕ, List, [], ◌∷◌, ◌++◌, cond, Option, Some, None, inl, refl, sym, ap, subst}
 use Rattle.std.specs.List.{flat_map}
-use Rattle.std.specs.FinMap.{FinMap, get, len}
+use Rattle.std.specs.Ordering.{nat_cmp}
+use Rattle.std.specs.FinMap.{FinMap, get, contains_key, len}
 use Rattle.hub_kit.specs.KeyOrder.{name_cmp, key_cmp}
 use Rattle.hub_kit.specs.declared.names.ServerKey.{ServerKey}
 use Rattle.scope_names.specs.declared.action.Action.{Action}
@@ -20,14 +21,15 @@ use Rattle.hub_rows.specs.declared.records.User.{User}
 use Rattle.hub_tables.specs.Lookups.{is_admin_row, roles_naming_group}
 use Rattle.roles.specs.Rights.{scopes_held, roles_held, shares_received, admin_scopes, bare, context}
 use Rattle.hub_machine.specs.State.{Hub, Lives}
-use Rattle.isolation.specs.Sight.{May, AsksUser, server, server_seen, SameUser, SameGroup, InBoth, SeesSame, with_users, with_servers, OtherRows, with_others}
+use Rattle.isolation.specs.Sight.{May, AsksUser, server, server_seen, token_seen, SameUser, SameGroup, InBoth, SeesSame, with_users, with_servers, with_tokens, OtherRows, with_others}
 
 -- an object is as it is
 group_itself : (k : Token) (s t : Hub) (g : List ℕ) → roles_naming_group s.tables g ≡ roles_naming_group t.tables g → (o : Option Group) → InBoth (SameGroup k s t g) o o
 group_itself k s t g is None = tt
 group_itself k s t g is (Some x) = record { users = λ m. refl; roles = λ m. is }
 
-module _ (s : Hub) (k : Token) (rows : FinMap name_cmp User) (kept : (u : List ℕ) → AsksUser s k u → get rows u ≡ get s.tables.users u) where
+module _ (s : Hub) (k : Token) (rows : FinMap name_cmp User) (kept : (u : List ℕ) → AsksUser s k u → get rows u ≡ get s.tables.users u)
+    (there : (u : List ℕ) → May s k A.ReadTokens (Ob.User u) → contains_key s.tables.users u ≡ contains_key rows u) where
   abbrev t : Hub
   t = with_users s rows
 
@@ -60,6 +62,7 @@ module _ (s : Hub) (k : Token) (rows : FinMap name_cmp User) (kept : (u : List �
     groups = λ g asks. group_itself k s t g refl (get s.tables.groups g);
     services = λ v asks. record { there = refl; roles = λ m. refl };
     roles = λ m r. refl;
+    tokens = λ u m. record { there = there u m; each = λ id. refl };
   }
 
 -- the same fields of a user, but for the servers
@@ -80,6 +83,26 @@ unseen_servers s k rows lives seen leases = record {
   groups = λ g asks. group_itself k s (with_servers s rows lives) g refl (get s.tables.groups g);
   services = λ v asks. record { there = refl; roles = λ m. refl };
   roles = λ m r. refl;
+  tokens = λ u m. record { there = refl; each = λ id. refl };
+}
+
+-- the same fields of a user, whatever the tokens
+user_of_tokens : (k : Token) (s : Hub) (rows : FinMap nat_cmp Token) (u : List ℕ) (o : Option User) → InBoth (SameUser k s (with_tokens s rows) u) o o
+user_of_tokens k s rows u None = tt
+user_of_tokens k s rows u (Some x) = record { admin = λ m. refl; created = λ m. refl; last_activity = λ m. refl; groups = λ m. refl; roles = λ m. refl; servers = λ name m. refl }
+
+pub unseen_tokens : (s : Hub) (k : Token) (rows : FinMap nat_cmp Token)
+    → ((u : List ℕ) (id : ℕ) → May s k A.ReadTokens (Ob.User u) → token_seen s u id ≡ token_seen (with_tokens s rows) u id)
+    → SeesSame k s (with_tokens s rows)
+unseen_tokens s k rows seen = record {
+  allowed = λ a x. (λ m. m, λ m. m);
+  pool = λ m. refl;
+  leases = λ m. refl;
+  users = λ u asks. user_of_tokens k s rows u (get s.tables.users u);
+  groups = λ g asks. group_itself k s (with_tokens s rows) g refl (get s.tables.groups g);
+  services = λ v asks. record { there = refl; roles = λ m. refl };
+  roles = λ m r. refl;
+  tokens = λ u m. record { there = refl; each = λ id. seen u id m };
 }
 
 user_itself : (k : Token) (s : Hub) (rows : OtherRows) (u : List ℕ) (o : Option User) → InBoth (SameUser k s (with_others s rows) u) o o
@@ -95,4 +118,5 @@ unseen_others s k rows = record {
   groups = λ g asks. group_itself k s (with_others s rows) g refl (get s.tables.groups g);
   services = λ v asks. record { there = refl; roles = λ m. refl };
   roles = λ m r. refl;
+  tokens = λ u m. record { there = refl; each = λ id. refl };
 }

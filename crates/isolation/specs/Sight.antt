@@ -9,6 +9,7 @@ use Rattle.scope_names.specs.declared.action.Action.TheVariants as A
 use Rattle.scope_filters.specs.declared.object.Object.{Object}
 use Rattle.scope_filters.specs.declared.object.Object.TheVariants as Ob
 use Rattle.scope_filters.specs.declared.holder.Owner.TheVariants as Own
+use Rattle.scope_filters.specs.declared.scope.RawScope.{RawScope}
 use Rattle.server_life.specs.declared.life.Life.{Life}
 use Rattle.hub_rows.specs.declared.records.Group.{Group}
 use Rattle.hub_rows.specs.declared.records.Lease.{Lease}
@@ -19,7 +20,7 @@ use Rattle.hub_rows.specs.declared.records.ServerRow.{ServerRow}
 use Rattle.hub_rows.specs.declared.records.ShareCode.{ShareCode}
 use Rattle.hub_rows.specs.declared.records.Token.{Token}
 use Rattle.hub_rows.specs.declared.records.User.{User}
-use Rattle.hub_tables.specs.Lookups.{groups_of, roles_naming_group, roles_naming_service}
+use Rattle.hub_tables.specs.Lookups.{groups_of, roles_naming_group, roles_naming_service, same_owner}
 use Rattle.roles.specs.Rights.{IsAllowed}
 use Rattle.hub_view.specs.Json.{Json}
 use Rattle.hub_view.specs.Servers.{is_live, is_ready, pending}
@@ -64,6 +65,28 @@ server_seen s q = seen_row (life_of s.lives q) (get s.tables.servers q)
 abbrev pub server : (user name : List ℕ) → ServerKey
 server user name = record { user = user; server = name }
 
+-- ---- tokens of a user: neither its hash is shown of one, nor the server that it was issued for
+
+pub record TokenSeen : Type 0 where
+  pub client : Option (List ℕ)
+  pub created : ℕ
+  pub expires_at : Option ℕ
+  pub note : List ℕ
+  pub scopes : List RawScope
+
+abbrev pub seen_token : (user : List ℕ) → Option Token → Option TokenSeen
+seen_token user None = None
+seen_token user (Some x) = if same_owner x.owner (Own.User user) then Some (record {
+  client = x.client;
+  created = x.created;
+  expires_at = x.expires_at;
+  note = x.note;
+  scopes = x.scopes;
+}) else None
+
+abbrev pub token_seen : Hub → (user : List ℕ) → (id : ℕ) → Option TokenSeen
+token_seen s user id = seen_token user (get s.tables.tokens id)
+
 -- ---- the same is seen of an object in two states: each field that is shown
 
 pub record SameUser (k : Token) (s t : Hub) (u : List ℕ) (x y : User) : Type 0 where
@@ -82,6 +105,10 @@ pub record SameService (k : Token) (s t : Hub) (v : List ℕ) : Type 0 where
   pub there : contains_key s.tables.services v ≡ contains_key t.tables.services v
   pub roles : May s k A.ReadRolesServices (Ob.Service v) → roles_naming_service s.tables v ≡ roles_naming_service t.tables v
 
+pub record SameTokens (s t : Hub) (u : List ℕ) : Type 0 where
+  pub there : contains_key s.tables.users u ≡ contains_key t.tables.users u
+  pub each : (id : ℕ) → token_seen s u id ≡ token_seen t u id
+
 -- there in both states, or in neither
 abbrev pub InBoth : {X : Type 0} → (X → X → Type 0) → Option X → Option X → Type 0
 InBoth Same None None = Unit {0}
@@ -98,6 +125,7 @@ pub record SeesSame (k : Token) (s t : Hub) : Type 0 where
   pub groups : (g : List ℕ) → AsksGroup s k g → InBoth (SameGroup k s t g) (get s.tables.groups g) (get t.tables.groups g)
   pub services : (v : List ℕ) → AsksService s k v → SameService k s t v
   pub roles : May s k A.AdminRoles Ob.Hub → (r : List ℕ) → get s.tables.roles r ≡ get t.tables.roles r
+  pub tokens : (u : List ℕ) → May s k A.ReadTokens (Ob.User u) → SameTokens s t u
 
 -- ---- states with other rows
 
@@ -107,9 +135,11 @@ with_users s rows = record s { tables = record s.tables { users = rows } }
 abbrev pub with_servers : Hub → FinMap key_cmp ServerRow → Lives → Hub
 with_servers s rows lives = record s { tables = record s.tables { servers = rows }; lives = lives }
 
+abbrev pub with_tokens : Hub → FinMap nat_cmp Token → Hub
+with_tokens s rows = record s { tables = record s.tables { tokens = rows } }
+
 -- of the kinds that no right and no body of a built GET depends on
 pub record OtherRows : Type 0 where
-  pub tokens : FinMap nat_cmp Token
   pub leases : FinMap name_cmp Lease
   pub codes : FinMap nat_cmp ShareCode
   pub clients : FinMap name_cmp OAuthClient
@@ -119,7 +149,6 @@ pub record OtherRows : Type 0 where
 abbrev pub with_others : Hub → OtherRows → Hub
 with_others s rows = record s {
   tables = record s.tables {
-    tokens = rows.tokens;
     leases = rows.leases;
     codes = rows.codes;
     clients = rows.clients;
