@@ -4,5 +4,6 @@ pub mod CountLemmas
 pub mod EndLemmas
 pub mod FaultLemmas
 pub mod RanLemmas
+pub mod RemovedLemmas
 pub mod StopLemmas
 pub mod TurnsLemmas

@@ -1,6 +1,6 @@
 //! One connection from its first request to its end.
 ghost use Rattle.std.specs.Prelude.{◌≡◌, ◌≤◌, ℕ, [], Some, Ok, Err};
-ghost use Rattle.hub_api.specs.Paths.{IsRouter};
+ghost use Rattle.hub_paths.specs.Paths.{IsRouter};
 ghost use Rattle.hub_core.specs.declared.start.Start.{Start};
 ghost use Rattle.hub_devices.specs.Faults.{Rises};
 ghost use Rattle.hub_run.specs.Connections.{ConnectionEnds};
@@ -13,7 +13,7 @@ use desk::{Desk, Pass};
 use http_wire::buffer::WireBuffer;
 use http_wire::error::SessionFault;
 use http_wire::writes::write_all;
-use hub_api::{ApiRouter, new_router, no_memory};
+use hub_api::no_memory;
 use hub_core::book::Book;
 use hub_devices::clock::Clock;
 use hub_devices::random::Random;
@@ -22,6 +22,7 @@ use hub_devices::sink::Sink;
 use hub_devices::source::Source;
 use hub_devices::spawner::Spawner;
 use hub_machine::change::Change;
+use hub_paths::{ApiRouter, new_router};
 use keeper::keeper::Keeper;
 use keeper::trail::Trail;
 use std::alloc::Global;

@@ -1,11 +1,17 @@
 //! What the contract of a connection comes to.
-ghost use Rattle.std.specs.Prelude.{◌≡◌, ◌<◌, ◌+◌, ◌-◌, ◌^◌, ◌⊎◌, ◌++◌, ◌∷◌, ℕ, true, false, List, Option};
+ghost use Rattle.std.specs.Prelude.{◌≡◌, ◌<◌, ◌+◌, ◌-◌, ◌^◌, ◌⊎◌, ◌++◌, ◌∷◌, ℕ, true, false, List, Option, Some, Ok};
 ghost use Rattle.http_wire.specs.Request.{IsRequestText};
 ghost use Rattle.http_wire.specs.declared.request.Request.{Request};
+ghost use Rattle.hub_api.specs.Calls.{call_read};
+ghost use Rattle.hub_core.specs.Needs.{needs_token};
+ghost use Rattle.hub_core.specs.Removed.{IsRemoved};
 ghost use Rattle.hub_core.specs.declared.start.Start.{Start};
 ghost use Rattle.hub_devices.specs.Faults.{Rises};
 ghost use Rattle.hub_machine.specs.Replies.{Answer, Reply};
+ghost use Rattle.hub_machine.specs.declared.call.Asked.{Asked};
+ghost use Rattle.hub_machine.specs.declared.change.Change.{Change};
 ghost use Rattle.hub_run.specs.Complete.{IsOf, IsDue, IsDone, IsUndone, IsServed, IsSetOut, IsOfFault, is_work};
+ghost use Rattle.hub_run.specs.Removed.{Knows, StandsIn, IsTurnedAway};
 ghost use Rattle.hub_run.specs.Turns.{Turn, Turns, TurnAt, View, Visit, Visits, Errand, Works, Moves, IsAnswered, IsSent, IsWorked, undrawn};
 
 use http_wire::laws::next_request_is_one;
@@ -56,3 +62,15 @@ pub fn a_503_is_counted()
 pub fn only_work_makes_calls()
     ensures { (x y : View) (turn : Turn) → Moves x turn y → is_work turn ≡ false → (y.spawner ≡ x.spawner) × (y.routes ≡ x.routes) }
 {}
+
+/// Revocation. A token was removed by an entry that the pass has seen, or that stands before the revision that the request names, and no later
+/// entry up to the visit put its hash again: then a call that needs a token and brings this text gets from its visit 403 `no valid token`, 412
+/// or 507, and has no entry. A history that is told is taken for granted.
+pub fn a_removed_token_is_turned_away()
+    ensures { (start : Start) (x y : View) (left : Option (List ℕ)) (bytes more rest : List ℕ) (request : Request) (asked : Asked) (text : List ℕ)
+        (gone later : List Change) → start.tells ≡ true → IsRequestText request bytes → call_read request ≡ Ok asked → asked.token ≡ Some text
+        → needs_token asked.call ≡ true → IsRemoved start.machine text gone later → Knows x asked gone
+        → (turn : Turn) → TurnAt start left (bytes ++ more) turn rest → Moves x turn y → StandsIn (gone ++ later) turn → IsTurnedAway asked turn }
+{
+    next_request_is_one()
+}

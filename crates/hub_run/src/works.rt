@@ -25,7 +25,7 @@ use std::alloc::{AllocError, Global};
 use std::sync::Wait;
 
 /// The path of a server's route: `/user/U` for the default server, else `/user/U/S`.
-fn route_path(alloc: Global, key: &ServerKey) -> Result<Text, AllocError>
+pub fn route_path(alloc: Global, key: &ServerKey) -> Result<Text, AllocError>
     ensures { IfOk result (λ path. path ≡ spec.route_path key.now) }
 {
     let mut path = Text::from_str(alloc, "/user/")?;
