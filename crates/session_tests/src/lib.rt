@@ -15,6 +15,8 @@ mod of_servers;
 #[cfg(test)]
 mod of_sessions;
 #[cfg(test)]
+mod of_tokens;
+#[cfg(test)]
 mod of_two_passes;
 #[cfg(test)]
 mod repeated;
