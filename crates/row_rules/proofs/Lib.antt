@@ -1,0 +1,4 @@
+pub mod Passing
+pub mod Marks
+pub mod Hashed
+pub mod Built

@@ -1,0 +1,90 @@
+//! Rows, put into tables. A token or a share code can be put where neither its id nor its hash is taken.
+ghost use Rattle.std.specs.Prelude.{◌≡◌, not, ◌||◌, fold, IsTrue, IfOk, OnOk};
+ghost use Rattle.hub_rows.specs.declared.records.ShareCode.{ShareCode};
+ghost use Rattle.hub_tables.specs.Changes.{with_row, FitsKey};
+ghost use Rattle.hub_tables.specs.Hashes.{FitsCode};
+ghost use Rattle.row_rules.specs.Judged as spec;
+ghost use Rattle.row_rules.specs.Judged.{IsBare, IsPut, with_other};
+
+use hub_kit::text::Text;
+use hub_rows::changes::RowChange;
+use hub_rows::rows::Row;
+use hub_tables::tables::Tables;
+use std::alloc::{AllocError, Global};
+use table_changes::change;
+
+/// Puts the rows that come before the first whose id or hash is taken, and tells how many they are.
+pub(crate) fn put_new(alloc: Global, tables: &mut Tables, rows: &[Row]) -> Result<usize, AllocError>
+    requires { IsBare tables.old }
+    ensures { IfOk result (λ fit. IsPut tables.old rows.now fit tables.new) }
+{
+    for (i, row) in rows.iter().enumerate() {
+        if !is_free(tables, row) {
+            return Ok(i);
+        }
+        put_copy(alloc, tables, row)?;
+    }
+    Ok(rows.len())
+}
+
+/// Puts the rows that aren't found by a hash.
+pub(crate) fn put_others(alloc: Global, tables: &mut Tables, rows: &[Row]) -> Result<(), AllocError>
+    ensures { OnOk result (tables.new ≡ fold (λ t row. with_other row t) tables.old rows.now) }
+{
+    for row in rows {
+        put_other(alloc, tables, row)?;
+    }
+    Ok(())
+}
+
+fn put_other(alloc: Global, tables: &mut Tables, row: &Row) -> Result<(), AllocError>
+    ensures { OnOk result (tables.new ≡ with_other row.now tables.old) }
+{
+    if is_hashed(row) {
+        return Ok(());
+    }
+    put_copy(alloc, tables, row)
+}
+
+fn put_copy(alloc: Global, tables: &mut Tables, row: &Row) -> Result<(), AllocError>
+    requires { FitsKey tables.old row.now }
+    ensures { OnOk result (tables.new ≡ with_row row.now tables.old) }
+{
+    change(tables, RowChange::Put(row.copy(alloc)?))
+}
+
+/// Whether a row is found by a hash.
+fn is_hashed(row: &Row) -> bool
+    ensures { result ≡ spec.is_hashed row.now }
+{
+    matches!(row, Row::Token(_) | Row::ShareCode(_))
+}
+
+/// Whether a row may be put: no other has its id or its hash.
+fn is_free(tables: &Tables, row: &Row) -> bool
+    ensures value { result ≡ spec.is_free tables.now row.now }
+    ensures fits { IsTrue result → FitsKey tables.now row.now }
+{
+    match row {
+        Row::Token(token) => tables.token_is_new(token.id, &token.hash),
+        Row::ShareCode(code) => code_is_new(tables, code.id, &code.hash),
+        _ => true,
+    }
+}
+
+/// Whether neither the id nor the hash of a share code is kept.
+fn code_is_new(tables: &Tables, id: u64, hash: &Text) -> bool
+    ensures value { result ≡ spec.are_free (λ row. row.hash) tables.now.codes id hash.now }
+    ensures fits { IsTrue result → (row : ShareCode) → row.id ≡ id → row.hash ≡ hash.now → FitsCode tables.now.codes row }
+{
+    neither(
+        tables.code(id).is_some(),
+        tables.code_of_hash(hash).is_some(),
+    )
+}
+
+fn neither(one: bool, other: bool) -> bool
+    ensures { result ≡ not (one || other) }
+{
+    !one && !other
+}
