@@ -1,2 +1,3 @@
+mod Picked
 mod Twice
 mod Walked

@@ -46,6 +46,11 @@ by_rules [] given = Ok given
 by_rules (None ∷ rules) given = by_rules rules given
 by_rules (Some refusal ∷ rules) given = Err refusal
 
+-- a rule's refusal, or else what comes after it
+abbrev pub after_rule : {X : Type 0} → Option ShareError → Result X ShareError → Result X ShareError
+after_rule None later = later
+after_rule (Some refusal) later = Err refusal
+
 abbrev pub if_so : Bool → ShareError → Option ShareError
 if_so test refusal = if test then Some refusal else None
 

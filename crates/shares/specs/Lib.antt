@@ -1,3 +1,4 @@
 pub mod Allowed
 pub mod Codes
 pub mod Granting
+pub mod Lists

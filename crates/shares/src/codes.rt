@@ -1,6 +1,7 @@
 //! Share codes.
-ghost use Rattle.std.specs.Prelude.{◌≡◌, ◌∷◌, ◌++◌, [], nat_lt, IfOk, OnOk};
+ghost use Rattle.std.specs.Prelude.{◌≡◌, ◌∷◌, ◌++◌, [], codes, nat_lt, IfOk, OnOk};
 ghost use Rattle.std.specs.Option.{option_copied, option_or};
+ghost use Rattle.hub_tables.specs.Lookups.{next_of};
 ghost use Rattle.shares.specs.declared.allowed.ShareError.TheVariants.{LifeTooShort};
 ghost use Rattle.shares.specs.Allowed.{if_refused_scope, if_so, Checks, Tells};
 ghost use Rattle.shares.specs.Codes.{accept_code, accepted, expired_among, expired_codes, made_code, make_code};
@@ -69,6 +70,17 @@ fn made_code(
         scopes: List::from_vec(or_access(alloc, server, scopes)?),
         server: *server,
     })
+}
+
+/// The id of the next code: ids begin with 1, and none is given out twice.
+pub fn next_code(alloc: Global, tables: &Tables) -> Result<u64, AllocError>
+    ensures { IfOk result (λ id. id ≡ next_of tables.now (codes "code")) }
+{
+    let name = Text::from_str(alloc, "code")?;
+    match tables.next_of(&name) {
+        Some(row) => Ok(row.next),
+        None => Ok(1),
+    }
 }
 
 /// The share that the code of a text grants a user; others may accept it too. `CodeUnknown` comes where no kept code has the text's hash,

@@ -1,12 +1,11 @@
 //! Shares that are granted and revoked.
-ghost use Rattle.std.specs.Prelude.{◌≡◌, ℕ, List, Option, Some, not, IfOk};
+ghost use Rattle.std.specs.Prelude.{◌≡◌, ℕ, List, Option, Some, IfOk};
 ghost use Rattle.scope_filters.specs.declared.scope.RawScope.{RawScope};
 ghost use Rattle.hub_rows.specs.declared.keys.ShareKey.{ShareKey};
 ghost use Rattle.hub_rows.specs.declared.records.Share.{Share};
-ghost use Rattle.std.specs.Option.{option_copied, option_or};
-ghost use Rattle.shares.specs.declared.allowed.ShareError.TheVariants.{NoRecipient};
-ghost use Rattle.shares.specs.Allowed.{if_refused_scope, if_so, Checks, Tells};
-ghost use Rattle.shares.specs.Granting.{grant_share, granted, granted_share, is_kept, left, revoke_share, share_of};
+ghost use Rattle.std.specs.Option.{option_copied};
+ghost use Rattle.shares.specs.Allowed.{Tells};
+ghost use Rattle.shares.specs.Granting.{checked, grant_share, granted, granted_share, is_kept, left, recipient_of, revoke_share, share_of};
 
 use crate::allowed::{ShareError, check_scopes, or_access};
 use hub_kit::moment::Moment;
@@ -19,53 +18,60 @@ use scope_filters::scope::RawScope;
 use std::alloc::{AllocError, Global};
 
 /// What the share of a server with someone is once these scopes are granted: a new one, or the kept one with these too, created when it
-/// was. No scopes are the access to that server. The refusals in their order: `ScopeNotAllowed`, `NoRecipient`.
+/// was. No scopes are the access to that server. The refusals in their order: `ScopeNotAllowed`, and `NoRecipient` where nobody is named
+/// or somebody who isn't kept.
 pub fn grant_share(
     alloc: Global,
     tables: &Tables,
     server: &ServerKey,
-    to: &Recipient,
+    to: Option<Recipient>,
     scopes: &[RawScope],
     now: Moment,
 ) -> Result<Share, ShareError>
-    ensures { Tells (grant_share tables.now server.now to.now scopes.now now) result }
+    ensures { Tells (grant_share tables.now server.now to scopes.now now) result }
 {
-    check_grant(tables, server, to, scopes)?;
-    Ok(granted_share(alloc, tables, server, to, scopes, now)?)
+    let to = check_grant(tables, server, to, scopes)?;
+    Ok(granted_share(alloc, tables, server, &to, scopes, now)?)
 }
 
-/// What the share of a server with someone is without these scopes, if any is left: no scopes are all of them. The refusals in their
-/// order: `ScopeNotAllowed`, `NoRecipient`.
+/// What the share of a server with someone is without these scopes, if any is left: no scopes are all of them. The refusals are those of
+/// `grant_share`.
 pub fn revoke_share(
     alloc: Global,
     tables: &Tables,
     server: &ServerKey,
-    to: &Recipient,
+    to: Option<Recipient>,
     scopes: &[RawScope],
 ) -> Result<Option<Share>, ShareError>
-    ensures { Tells (revoke_share tables.now server.now to.now scopes.now) result }
+    ensures { Tells (revoke_share tables.now server.now to scopes.now) result }
 {
-    check_grant(tables, server, to, scopes)?;
-    match tables.share(server, to) {
+    let to = check_grant(tables, server, to, scopes)?;
+    match tables.share(server, &to) {
         None => Ok(None),
         Some(kept) => Ok(remains(alloc, scopes, kept)?),
     }
 }
 
-/// Refuses scopes that a share may not carry, and a recipient who isn't kept.
+/// The recipient of a grant or a revocation, unless a scope may not be shared.
 fn check_grant(
     tables: &Tables,
     server: &ServerKey,
-    to: &Recipient,
+    to: Option<Recipient>,
     scopes: &[RawScope],
-) -> Result<(), ShareError>
-    ensures { Checks (option_or (if_refused_scope server.now scopes.now) (if_so (not (is_kept tables.now to.now)) NoRecipient)) result }
+) -> Result<Recipient, ShareError>
+    ensures { result ≡ checked tables.now server.now to scopes.now }
 {
     check_scopes(server, scopes)?;
-    if is_kept(tables, to) {
-        Ok(())
-    } else {
-        Err(ShareError::NoRecipient)
+    recipient_of(tables, to)
+}
+
+/// The recipient who is named, and kept.
+fn recipient_of(tables: &Tables, to: Option<Recipient>) -> Result<Recipient, ShareError>
+    ensures { result ≡ recipient_of tables.now to }
+{
+    match to {
+        Some(to) if is_kept(tables, &to) => Ok(to),
+        _ => Err(ShareError::NoRecipient),
     }
 }
 

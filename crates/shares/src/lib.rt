@@ -5,3 +5,4 @@
 pub mod allowed;
 pub mod codes;
 pub mod granting;
+pub mod lists;
