@@ -1,1 +1,4 @@
+pub mod CodeCalls
+pub mod ShareCalls
 pub mod TokenCalls
+mod Ruling

@@ -1,1 +1,3 @@
+pub mod CodeCalls
+pub mod ShareCalls
 pub mod TokenCalls

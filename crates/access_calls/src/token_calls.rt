@@ -1,15 +1,14 @@
 //! The calls on the tokens of users.
-ghost use Rattle.std.specs.Prelude.{◌≡◌, ◌<◌, ◌-◌, ◌^◌, ◌++◌, List, map as over, IfOk, OnOk};
+ghost use Rattle.std.specs.Prelude.{◌≡◌, ◌<◌, ◌-◌, ◌^◌, ◌++◌, map as over, IfOk, OnOk};
 ghost use Rattle.scope_meet.specs.FilterTexts.{written};
 ghost use Rattle.hub_view.specs.Body.{body_tokens, bodies};
-ghost use Rattle.hub_view.specs.Json as json;
-ghost use Rattle.hub_rows.specs.declared.changes.RowChange.{RowChange};
 ghost use Rattle.hub_rows.specs.declared.changes.RowChange.TheVariants.{Remove};
 ghost use Rattle.hub_rows.specs.declared.rows.RowKey.TheVariants as RowKey;
 ghost use Rattle.hub_machine.specs.Answers.{answer_view};
 ghost use Rattle.hub_machine.specs.Replies as replies;
 ghost use Rattle.access_calls.specs.TokenCalls as spec;
 
+use crate::answers::told;
 use hub_kit::hashes::{hash_of, token_text};
 use hub_kit::moment::Moment;
 use hub_kit::names::UserName;
@@ -240,24 +239,7 @@ fn made(alloc: Global, token: Token, over: &[u64], text: &Text) -> Result<Answer
 {
     let body = new_token_body(alloc, &token, text.as_str());
     let rows = token_rows(alloc, token, over);
-    told(rows, body)
-}
-
-/// The answer of a new row with this body, where there was memory for both.
-fn told(
-    rows: Result<Vec<RowChange>, AllocError>,
-    body: Result<Body, AllocError>,
-) -> Result<Answer, AllocError>
-    ensures { IfOk result (λ a. (made : List RowChange) (shown : json.Json) → IfOk rows (λ r. r.items ≡ made) → IfOk body (λ b. body_tokens b ≡ shown)
-        → answer_view a ≡ replies.rows_then made (replies.good 201 shown)) }
-{
-    match rows {
-        Ok(rows) => match body {
-            Ok(body) => Ok(rows_then(rows, plain(201, body))),
-            Err(error) => Err(error),
-        },
-        Err(error) => Err(error),
-    }
+    told(rows, 201, body)
 }
 
 /// The rows of a new token.

@@ -1,11 +1,12 @@
--- No row that an answer changes is one that a test finds, where the test finds none of the kinds of rows that answers change, unless the call issues a token.
+-- No row that an answer changes is one that a test finds, where the test finds none of the kinds of rows that answers change, unless the call issues a token or a share code.
 use Rattle.std.proofs.Common.{◌≡◌, ℕ, Bool, true, false, ◌||◌, ◌&&◌, not, cond, codes, List, [], ◌∷◌, ◌++◌, map, filter, length, Option, refl, sym, subst}
-use Rattle.std.specs.Prelude.{Some, None, Ok, Err}
+use Rattle.std.specs.Prelude.{Some, None, Result, Ok, Err}
 use Rattle.std.specs.List.{flat_map, list_any}
 use Rattle.std.specs.FinMap.{get, contains_key, len, values}
 use Rattle.hub_kit.specs.KeyOrder.{name_cmp}
 use Rattle.hub_kit.specs.declared.names.ServerKey.{ServerKey}
 use Rattle.keyed_rows.specs.Sorted.{in_order, with_keys, without_keys}
+use Rattle.hub_rows.specs.declared.keys.Recipient.{Recipient}
 use Rattle.hub_rows.specs.declared.keys.ShareKey.{ShareKey}
 use Rattle.hub_rows.specs.declared.changes.RowChange.{RowChange}
 use Rattle.hub_rows.specs.declared.changes.RowChange.TheVariants.{Put, Remove}
@@ -39,13 +40,22 @@ use Rattle.admin_rules.specs.Servers as servers
 use Rattle.admin_rules.specs.Services as services
 use Rattle.admin_rules.specs.Roles as roles
 use Rattle.admin_rules.specs.Purges.{changes_of, has_member, without_member, is_held_by_user, without_user, is_token_of_user, is_server_of_user, is_share_of_user, is_code_of_user, is_called, clients_of_user, is_grant_of_user, user_rows, is_held_by_group, without_group, is_share_to_group, group_rows, is_held_by_service, without_service, is_token_of_service, is_client, client_of_service, service_rows, is_share_of_server, is_code_of_server, server_rows}
+use Rattle.shares.specs.Codes as rules_on_codes
+use Rattle.shares.specs.Granting.{grant_share, revoke_share}
+use Rattle.shares.specs.Lists.{shares_of}
+use Rattle.shares.specs.declared.allowed.ShareError.{ShareError}
+use Rattle.shares.specs.declared.lists.SharesOf.TheVariants.{Server}
+use Rattle.scope_filters.specs.declared.scope.RawScope.{RawScope}
 use Rattle.scope_meet.specs.declared.inside.Inside.{Inside}
 use Rattle.hub_view.specs.Fields.{Rights}
+use Rattle.hub_view.specs.Records.{share_body}
 use Rattle.hub_machine.specs.State.{Hub, has_live_server, free_target, lease_of, life_of, next_generation}
 use Rattle.hub_lives.specs.declared.lives.Leased.{Leased}
 use Rattle.hub_machine.specs.Replies.{Answer, refuses, refuses_with, gives, changes, works, Good, good, rows_then, or_refusal, first_refusal, if_so}
 use Rattle.hub_machine.specs.Trails.{in_trail}
 use Rattle.hub_machine.specs.Apply.{LifeStep, is_past_trail}
+use Rattle.access_calls.specs.CodeCalls as on_codes
+use Rattle.access_calls.specs.ShareCalls as on_shares
 use Rattle.hub_calls.specs.Calling.{after_rows, by_rules, done}
 use Rattle.hub_calls.specs.Facts.{user_at}
 use Rattle.hub_calls.specs.RoleCalls.{role_of}
@@ -58,14 +68,15 @@ use Rattle.hub_core.specs.History.{Answers}
 use Rattle.hub_machine.specs.declared.change.Change.{Change}
 use Rattle.hub_machine.specs.declared.change.Change.TheVariants.{Rows}
 use Rattle.hub_machine.specs.declared.refusal.Refusal.{Refusal}
-use Rattle.hub_machine.specs.declared.refusal.Refusal.TheVariants.{SeenPast, NotFound, TrailFull, Rule as NotSo}
+use Rattle.hub_machine.specs.declared.refusal.Refusal.TheVariants.{SeenPast, NotFound, TrailFull, Full as TooMany, Rule as NotSo}
 use Rattle.hub_machine.specs.declared.call.Asked.{Asked}
 use Rattle.hub_machine.specs.declared.call.Call.{Call}
-use Rattle.hub_machine.specs.declared.call.Call.TheVariants.{PostUsers, PostUser, PatchUser, DeleteUser, PostActivity, PostServer, DeleteServer, PostToken, DeleteToken, PostGroup, DeleteGroup, JoinGroup, LeaveGroup, PostService, DeleteService, PutRole, DeleteRole}
+use Rattle.hub_machine.specs.declared.call.Call.TheVariants.{PostUsers, PostUser, PatchUser, DeleteUser, PostActivity, PostServer, DeleteServer, PostToken, DeleteToken, AcceptCode, PostShare, PatchShare, DeleteShares, PostCode, DeleteCodes, PostGroup, DeleteGroup, JoinGroup, LeaveGroup, PostService, DeleteService, PutRole, DeleteRole}
 
--- the call issues a token
+-- the call issues a token or a share code
 abbrev pub issues : Call → Bool
 issues (PostToken ask) = true
+issues (PostCode server scopes expires_in) = true
 issues call = false
 
 not_old : true ≡ false → ⊥
@@ -83,6 +94,7 @@ pub record IsCalm (test : RowChange → Bool) : Type 0 where
   pub remove_role : (x : List ℕ) → test (Remove (RowKey.Role x)) ≡ false
   pub remove_token : (x : ℕ) → test (Remove (RowKey.Token x)) ≡ false
   pub put_server : (x : ServerRow) → test (Put (Row.ServerRow x)) ≡ false
+  pub put_share : (x : Share) → test (Put (Row.Share x)) ≡ false
   pub remove_server : (x : ServerKey) → test (Remove (RowKey.ServerRow x)) ≡ false
   pub remove_share : (x : ShareKey) → test (Remove (RowKey.Share x)) ≡ false
   pub remove_code : (x : ℕ) → test (Remove (RowKey.ShareCode x)) ≡ false
@@ -328,7 +340,44 @@ module _ (test : RowChange → Bool) (calm : IsCalm test) where
   stopping s server remove None = resting s server remove
   stopping s server remove (Some held) = stopped server held.0 held.1 (life_after held.1.life held.0 AskStop)
 
-  -- ---- each call that issues no token
+  -- ---- shares and share codes
+
+  calm_told : {X : Type 0} (given : Result X ShareError) (answer : X → Answer) → ((x : X) → Calm test (answer x)) → Calm test (on_shares.by_rules given answer)
+  calm_told (Ok x) answer h = h x
+  calm_told (Err e) answer h = tt
+
+  share_put : (share : Share) (kept : Option Share) → AreCalm (on_shares.share_put share kept)
+  share_put share kept = calm_by_unless (on_shares.is_as_before share kept) (Put (Row.Share share) ∷ []) (one _ (calm.put_share share))
+
+  put_share : (s : Hub) (share : Share) → Calm test (on_shares.put_share s share)
+  put_share s share =
+      let rows : List RowChange = on_shares.share_put share (get s.tables.shares share.key) in
+      calm_by_or (first_refusal (if_so (on_shares.is_without_room s.tables share) (TooMany 8 s.tables.limits.shares) ∷ [])) (rows_then rows (good 200 (share_body share)))
+      (calm_by_then rows (good 200 (share_body share)) (share_put share (get s.tables.shares share.key)))
+
+  left_rows : (left kept : Option Share) → AreCalm (on_shares.left_rows left kept)
+  left_rows None None = refl
+  left_rows (Some share) None = refl
+  left_rows None (Some kept) = one (Remove (RowKey.Share kept.key)) (calm.remove_share kept.key)
+  left_rows (Some share) (Some kept) = share_put share (Some kept)
+
+  patched : (s : Hub) (server : ServerKey) (to : Option Recipient) (scopes : List RawScope) → Calm test (on_shares.patch_share s server to scopes)
+  patched s server to scopes =
+      let kept = on_shares.share_with s.tables server to in
+      calm_told (revoke_share s.tables server to scopes) (on_shares.left_share kept)
+      (λ left. calm_by_then (on_shares.left_rows left kept) (good 200 (on_shares.left_body left)) (left_rows left kept))
+
+  unshared : (s : Hub) (server : ServerKey) → Calm test (on_shares.delete_shares s server)
+  unshared s server =
+      let keys = shares_of s.tables (Server server) in
+      calm_by_then (on_shares.removals keys) (good 204 []) (calm-map (λ key. Remove (RowKey.Share key)) (λ key. calm.remove_share key) keys)
+
+  withdrawn : (s : Hub) (server : ServerKey) (id : Option ℕ) → Calm test (on_codes.delete_codes s server id)
+  withdrawn s server id =
+      let ids = on_codes.named_codes s.tables server id in
+      calm_by_then (on_codes.removals ids) (good 204 []) (calm-map (λ id. Remove (RowKey.ShareCode id)) (λ id. calm.remove_code id) ids)
+
+  -- ---- each call that issues no token and no share code
 
   calm_by_row : (s : Hub) (may : Rights) (inside : Inside) (now : ℕ) (draw : Option (List ℕ)) (k : Token) (call : Call) → issues call ≡ false → Calm test (row s may inside now draw k call)
   calm_by_row s may inside now draw k (PostUsers names admin) old = calm_by_rules s (users.add_users s.tables names admin now) _ (new_users s.tables names admin now)
@@ -344,6 +393,12 @@ module _ (test : RowChange → Bool) (calm : IsCalm test) where
       (stopping s server remove (lease_of s.lives server))
   calm_by_row s may inside now draw k (PostToken ask) old = absurd (not_old old)
   calm_by_row s may inside now draw k (DeleteToken user id) old = one (Remove (RowKey.Token id)) (calm.remove_token id)
+  calm_by_row s may inside now draw k (AcceptCode user code) old = calm_told (rules_on_codes.accept_code s.tables user code now) (on_shares.put_share s) (put_share s)
+  calm_by_row s may inside now draw k (PostShare server to scopes) old = calm_told (grant_share s.tables server to scopes now) (on_shares.put_share s) (put_share s)
+  calm_by_row s may inside now draw k (PatchShare server to scopes) old = patched s server to scopes
+  calm_by_row s may inside now draw k (DeleteShares server) old = unshared s server
+  calm_by_row s may inside now draw k (PostCode server scopes expires_in) old = absurd (not_old old)
+  calm_by_row s may inside now draw k (DeleteCodes server id) old = withdrawn s server id
   calm_by_row s may inside now draw k (PostGroup group names) old = calm_by_rules s (groups.add_group s.tables group names) _
       (λ rows e. calm_by_ruled (rules.if_so (contains_key s.tables.groups group) (Exists group) ∷ groups.if_unknown_user s.tables names ∷ rules.if_full 2 s.tables.limits.groups (len s.tables.groups) 1 ∷ []) (Put (Row.Group (record { name = group; users = in_order name_cmp names })) ∷ []) rows (one _ (calm.put_group _)) e)
   calm_by_row s may inside now draw k (DeleteGroup group) old = calm_by_rules s (groups.delete_group s.tables group) done

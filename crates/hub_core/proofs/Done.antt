@@ -1,11 +1,18 @@
 -- The change of an answer may be done: the history has room for it, and it fits. And it numbers its tokens.
 use Rattle.std.proofs.Common.{◌≡◌, ◌<◌, ◌^◌, ℕ, Bool, true, false, ◌&&◌, not, cond, List, [], ◌∷◌, Option, refl, sym, ◌∙◌, ap, subst, inl, inr, codes}
 use Rattle.std.specs.Prelude.{Some, None, Result, Ok, Err, IfOk}
+use Rattle.std.specs.FinMap.{get}
 use Rattle.std.specs.List.{list_any}
 use Rattle.hub_rows.specs.declared.changes.RowChange.{RowChange}
+use Rattle.hub_rows.specs.declared.records.Share.{Share}
 use Rattle.hub_rows.specs.declared.records.Token.{Token}
 use Rattle.hub_tables.specs.Changes.{puts_hashed}
-use Rattle.hub_tables.specs.Lookups.{is_default}
+use Rattle.hub_tables.specs.Lookups.{is_default, next_of}
+use Rattle.shares.specs.Codes.{accept_code, expired_codes, make_code}
+use Rattle.shares.specs.Granting.{grant_share, revoke_share}
+use Rattle.shares.specs.Lists.{shares_of}
+use Rattle.shares.specs.declared.allowed.ShareError.{ShareError}
+use Rattle.shares.specs.declared.lists.SharesOf.TheVariants.{Server}
 use Rattle.admin_rules.proofs.Plain.{plain_fit}
 use Rattle.admin_rules.specs.Users as users
 use Rattle.admin_rules.specs.Groups as groups
@@ -13,10 +20,11 @@ use Rattle.admin_rules.specs.Services as services
 use Rattle.admin_rules.specs.Roles as roles
 use Rattle.admin_rules.specs.Servers as servers
 use Rattle.hub_view.specs.Fields.{Rights}
+use Rattle.hub_view.specs.Records.{share_body}
 use Rattle.hub_machine.specs.State.{Hub, AreLeased, has_live_server, lease_of, next_generation}
 use Rattle.hub_machine.specs.Apply.{is_past_trail, rows_of}
 use Rattle.hub_machine.specs.Carry.{FitsIn, touches_lives}
-use Rattle.hub_machine.specs.Replies.{Answer, refuses, refuses_with, gives, changes, works, or_refusal, first_refusal, if_so}
+use Rattle.hub_machine.specs.Replies.{Answer, refuses, refuses_with, gives, changes, works, or_refusal, first_refusal, if_so, rows_then}
 use Rattle.hub_machine.specs.Replies as spec
 use Rattle.hub_machine.specs.Replies.{outcome_of, refusal_reply}
 use Rattle.hub_machine.specs.Answers.{outcome_view}
@@ -28,10 +36,14 @@ use Rattle.hub_machine.specs.declared.work.Work.{Work}
 use Rattle.hub_calls.specs.Calling.{done}
 use Rattle.hub_calls.specs.Facts.{user_at}
 use Rattle.hub_calls.specs.RoleCalls.{role_of}
+use Rattle.access_calls.specs.CodeCalls as on_codes
+use Rattle.access_calls.specs.ShareCalls as on_shares
 use Rattle.access_calls.specs.TokenCalls.{made, new_token, post_token, token_rules}
 use Rattle.hub_calls.specs.UserCalls.{get_version}
 use Rattle.hub_kit.specs.Hashes.{draw_text}
+use Rattle.hub_kit.specs.declared.names.ServerKey.{ServerKey}
 use Rattle.scope_filters.specs.declared.holder.Owner.TheVariants as Own
+use Rattle.scope_filters.specs.declared.scope.RawScope.{RawScope}
 use Rattle.scope_meet.specs.declared.inside.Inside.{Inside}
 use Rattle.token_store.specs.Finding.{expired_tokens}
 use Rattle.token_store.specs.declared.issuing.TokenAsk.{TokenAsk}
@@ -43,16 +55,16 @@ use Rattle.hub_core.specs.History.{Answers, change_of}
 use Rattle.hub_core.specs.Carrying.{Carrier, Carried, MayBeDone, long_after}
 use Rattle.hub_core.proofs.Calm.{IsCalm, Calm, CalmIn, calm_answer, issues}
 use Rattle.hub_core.proofs.Issued.{answer_issued}
-use Rattle.hub_core.proofs.Lively.{IsLively, Lively, lively_change, lively_or, lively_by_rules, start_lively, stop_lively}
+use Rattle.hub_core.proofs.Lively.{IsLively, Lively, lively_change, lively_or, lively_then, lively_by_rules, start_lively, stop_lively}
 use Rattle.hub_core.proofs.Places.{says_of}
 use Rattle.hub_core.proofs.Numbered.{NumbersIn, NumbersTokens, none_numbered, numbers, numbers_tokens}
 use Rattle.hub_machine.specs.declared.change.Change.{Change}
 use Rattle.hub_machine.specs.declared.change.Change.TheVariants as Of
 use Rattle.hub_machine.specs.declared.refusal.Refusal.{Refusal}
-use Rattle.hub_machine.specs.declared.refusal.Refusal.TheVariants.{Rule, SeenPast, NotFound, TrailFull, KeeperFault}
+use Rattle.hub_machine.specs.declared.refusal.Refusal.TheVariants.{Full, Rule, SeenPast, NotFound, TrailFull, KeeperFault}
 use Rattle.hub_machine.specs.declared.call.Asked.{Asked}
 use Rattle.hub_machine.specs.declared.call.Call.{Call}
-use Rattle.hub_machine.specs.declared.call.Call.TheVariants.{PostUsers, PostUser, PatchUser, DeleteUser, PostActivity, PostServer, DeleteServer, PostToken, PostGroup, DeleteGroup, JoinGroup, LeaveGroup, PostService, DeleteService, PutRole, DeleteRole}
+use Rattle.hub_machine.specs.declared.call.Call.TheVariants.{PostUsers, PostUser, PatchUser, DeleteUser, PostActivity, PostServer, DeleteServer, PostToken, AcceptCode, PostShare, PatchShare, DeleteShares, PostCode, DeleteCodes, PostGroup, DeleteGroup, JoinGroup, LeaveGroup, PostService, DeleteService, PutRole, DeleteRole}
 
 -- ---- no row of an answer's change is found by a hash, and none is of the live servers, unless it starts a server
 
@@ -68,6 +80,7 @@ none_hashed = record {
   remove_role = λ x. refl;
   remove_token = λ x. refl;
   put_server = λ x. refl;
+  put_share = λ x. refl;
   remove_server = λ x. refl;
   remove_share = λ x. refl;
   remove_code = λ x. refl;
@@ -87,6 +100,7 @@ none_lives = record {
   remove_role = λ x. refl;
   remove_token = λ x. refl;
   put_server = λ x. refl;
+  put_share = λ x. refl;
   remove_server = λ x. refl;
   remove_share = λ x. refl;
   remove_code = λ x. refl;
@@ -104,6 +118,27 @@ token_lively s now (Some draw) inside ask =
     let over = expired_tokens s.tables now (Own.User ask.owner) in
     lively_or s (first_refusal (token_rules s.tables over text inside ask)) (made (new_token s.tables now text ask) over text) tt
 
+-- ---- shares and share codes
+
+told_lively : {X : Type 0} (s : Hub) (given : Result X ShareError) (answer : X → Answer) → ((x : X) → Lively s (answer x)) → Lively s (on_shares.by_rules given answer)
+told_lively s (Ok x) answer h = h x
+told_lively s (Err e) answer h = tt
+
+put_lively : (s : Hub) (share : Share) → Lively s (on_shares.put_share s share)
+put_lively s share =
+    let rows = on_shares.share_put share (get s.tables.shares share.key) in
+    lively_or s (first_refusal (if_so (on_shares.is_without_room s.tables share) (Full 8 s.tables.limits.shares) ∷ [])) (rows_then rows (spec.good 200 (share_body share)))
+    (lively_then s rows (spec.good 200 (share_body share)))
+
+-- that the rows of a new code fit is shown elsewhere
+code_lively : (s : Hub) (now : ℕ) (draw : Option (List ℕ)) (server : ServerKey) (scopes : List RawScope) (life : ℕ) → Lively s (on_codes.post_code s now draw server scopes life)
+code_lively s now None server scopes life = tt
+code_lively s now (Some draw) server scopes life =
+    let text = draw_text draw in
+    let over = expired_codes s.tables now server in
+    told_lively s (make_code server scopes life text (next_of s.tables (codes "code")) now) (on_codes.put_code s over text)
+    (λ code. lively_or s (first_refusal (on_codes.code_rules s.tables over code)) (on_codes.made code over text) tt)
+
 row_lively : (s : Hub) (may : Rights) (inside : Inside) (now : ℕ) (draw : Option (List ℕ)) (k : Token) (call : Call) → AreLeased s → AreNumbered s.tables → next_generation s.tables < 2 ^ 63 → Lively s (row s may inside now draw k call)
 row_lively s may inside now draw k (PostUsers names admin) l n m = lively_by_rules s (users.add_users s.tables names admin now) _
 row_lively s may inside now draw k (PostUser user) l n m = lively_by_rules s (users.add_users s.tables (user ∷ []) false now) _
@@ -114,6 +149,14 @@ row_lively s may inside now draw k (PostServer server) l n m = start_lively s no
 row_lively s may inside now draw k (DeleteServer server remove) l n m = lively_or s (first_refusal (if_so (remove && is_default server.server) (Rule (codes "default server")) ∷ []))
     (on_lease s server remove (lease_of s.lives server)) (stop_lively s server remove (lease_of s.lives server) l m refl)
 row_lively s may inside now draw k (PostToken ask) l n m = token_lively s now draw inside ask
+row_lively s may inside now draw k (AcceptCode user code) l n m = told_lively s (accept_code s.tables user code now) (on_shares.put_share s) (put_lively s)
+row_lively s may inside now draw k (PostShare server to scopes) l n m = told_lively s (grant_share s.tables server to scopes now) (on_shares.put_share s) (put_lively s)
+row_lively s may inside now draw k (PatchShare server to scopes) l n m =
+    let kept = on_shares.share_with s.tables server to in
+    told_lively s (revoke_share s.tables server to scopes) (on_shares.left_share kept) (λ left. lively_then s (on_shares.left_rows left kept) (spec.good 200 (on_shares.left_body left)))
+row_lively s may inside now draw k (DeleteShares server) l n m = lively_then s (on_shares.removals (shares_of s.tables (Server server))) (spec.good 204 [])
+row_lively s may inside now draw k (PostCode server scopes expires_in) l n m = code_lively s now draw server scopes expires_in
+row_lively s may inside now draw k (DeleteCodes server id) l n m = lively_then s (on_codes.removals (on_codes.named_codes s.tables server id)) (spec.good 204 [])
 row_lively s may inside now draw k (PostGroup group names) l n m = lively_by_rules s (groups.add_group s.tables group names) _
 row_lively s may inside now draw k (DeleteGroup group) l n m = lively_by_rules s (groups.delete_group s.tables group) done
 row_lively s may inside now draw k (JoinGroup group names) l n m = lively_by_rules s (groups.join_group s.tables group names) _

@@ -43,7 +43,7 @@ use Rattle.hub_opening.specs.Opening.{next_token}
 use Rattle.hub_calls.specs.Calling.{by_rules, after_rows, done}
 use Rattle.hub_calls.specs.Starts.{begin_rows, server_token, on_target, may_start, on_begin, post_server}
 use Rattle.hub_calls.specs.Stops.{goes_on, on_stop, at_rest, on_lease}
-use Rattle.hub_core.specs.Current.{AreNumbered}
+use Rattle.hub_core.specs.Current.{AreNumbered, next_code}
 use Rattle.hub_core.specs.Works.{IsSound}
 use Rattle.hub_core.specs.History.{change_of}
 use Rattle.hub_core.proofs.Numbered.{IsNumbered, NumbersTokens, either}
@@ -71,7 +71,7 @@ pub lively_or : (s : Hub) (o : Option Refusal) (r : Answer) → Lively s r → L
 lively_or s None r h = h
 lively_or s (Some x) r h = tt
 
-lively_then : (s : Hub) (rows : List RowChange) (g : Good) → Lively s (rows_then rows g)
+pub lively_then : (s : Hub) (rows : List RowChange) (g : Good) → Lively s (rows_then rows g)
 lively_then s [] g = tt
 lively_then s (r ∷ rest) g = tt
 
@@ -117,7 +117,7 @@ no_such t numbered = by (get t.tokens (next_token t)) refl
   where
     by : (o : Option Token) → get t.tokens (next_token t) ≡ o → o ≡ None
     by None e = refl
-    by (Some k) e = let below : next_token t < next_token t = numbered (next_token t) k e in absurd (omega (arith, below))
+    by (Some k) e = let below : next_token t < next_token t = numbered.tokens (next_token t) k e in absurd (omega (arith, below))
 
 begin_fits : (t : State) (now : ℕ) (secret : List ℕ) (server : ServerKey) (target : List ℕ) → AreNumbered t → token_of_hash t (hash_text secret) ≡ None
     → FitAll (begin_rows t now secret server target) t
@@ -147,13 +147,26 @@ next_begun t now secret server target =
     ap number_of (get-insert nat_list_cmp_total nexts token row token
     ∙ ap (λ o. cond (is_eq o) (Some row) (get nexts token)) (tied_itself nat_list_cmp_total token))
 
+-- and no share code
+code_begun : (t : State) (now : ℕ) (secret : List ℕ) (server : ServerKey) (target : List ℕ) → next_code (change_done (begin_rows t now secret server target) t) ≡ next_code t
+code_begun t now secret server target =
+    let generation = codes "generation" in
+    let token = codes "token" in
+    let code = codes "code" in
+    let before : Next = record { name = generation; next = next_generation t + 1 } in
+    let row : Next = record { name = token; next = next_token t + 1 } in
+    let nexts = insert t.nexts generation before in
+    ap number_of (get-insert nat_list_cmp_total nexts token row code ∙ get-insert nat_list_cmp_total t.nexts generation before code)
+
 abbrev puts_token : RowChange → Bool
 puts_token (Put (Row.Token k)) = true
+puts_token (Put (Row.ShareCode c)) = true
 puts_token _ = false
 
--- rows that put no token number none
+-- rows that put no token and no share code number none
 without_token : (t t' : State) (r : RowChange) → puts_token r ≡ false → IsNumbered t t' r
 without_token t t' (Put (Row.Token k)) h = absurd (true_false h)
+without_token t t' (Put (Row.ShareCode c)) h = absurd (true_false h)
 without_token t t' _ h = tt
 
 without_tokens : (t t' : State) (rows : List RowChange) → list_any puts_token rows ≡ false → All (IsNumbered t t') rows
@@ -173,14 +186,16 @@ begin_numbers t now secret server target =
     let next : next_token t' ≡ next_token t + 1 = next_begun t now secret server target in
     let more : next_token t < next_token t' = omega (arith, next) in
     let same : next_token t ≤ next_token t = omega arith in
+    let stays : next_code t' ≡ next_code t = code_begun t now secret server target in
     record {
       each = All-cons (IsNumbered t t') (Put (Row.Token (server_token t now secret server))) (rest_of rows) (same, more) (without_tokens t t' (rest_of rows) refl);
       rises = omega (arith, next);
+      codes_rise = omega (arith, stays);
     }
 
 -- ---- a start
 
-pub unheld : (o : Option Token) → is_some o ≡ false → o ≡ None
+pub unheld : {X : Type 0} (o : Option X) → is_some o ≡ false → o ≡ None
 unheld None h = refl
 unheld (Some k) h = absurd (true_false h)
 

@@ -29,7 +29,7 @@ current_looked : (c n : Cache) (t : State) (stamp : ℕ) (k : Token) (grant : Ri
     → IsGrantOf t (IsAllowed t k) grant → IsAfter c k.id stamp (found c k.id stamp) grant n → IsCurrent n t stamp
 current_looked c n t stamp k grant all numbered at exact after = looked_all (IsRightIn t stamp) c n k.id stamp grant after all (record {
   older = let same : stamp ≤ stamp = omega arith in same;
-  numbered = numbered k.id k at;
+  numbered = numbered.tokens k.id k at;
   right = λ e other there. subst (λ (x : Token). IsGrantOf t (IsAllowed t x) grant) (same_some k other (sym at ∙ there)) exact;
 })
 

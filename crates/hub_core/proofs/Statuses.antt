@@ -16,6 +16,8 @@ use Rattle.hub_calls.proofs.UserCalls as users
 use Rattle.hub_calls.proofs.ServerCalls as servers
 use Rattle.hub_calls.proofs.StartCalls as starts
 use Rattle.hub_calls.proofs.StopCalls as stops
+use Rattle.access_calls.proofs.CodeCalls as codes
+use Rattle.access_calls.proofs.ShareCalls as shares
 use Rattle.access_calls.proofs.TokenCalls as tokens
 use Rattle.hub_machine.specs.Draws.{draws}
 use Rattle.hub_calls.proofs.GroupCalls as groups
@@ -30,7 +32,7 @@ use Rattle.hub_machine.specs.declared.refusal.Refusal.{Refusal}
 use Rattle.hub_machine.specs.declared.refusal.Refusal.TheVariants.{SeenPast, Needs, NotFound, TrailFull}
 use Rattle.hub_machine.specs.declared.call.Asked.{Asked}
 use Rattle.hub_machine.specs.declared.call.Call.{Call}
-use Rattle.hub_machine.specs.declared.call.Call.TheVariants.{PostUsers, PostUser, PatchUser, DeleteUser, PostActivity, PostServer, DeleteServer, PostToken, PostGroup, DeleteGroup, JoinGroup, LeaveGroup, PostService, DeleteService, PutRole, DeleteRole}
+use Rattle.hub_machine.specs.declared.call.Call.TheVariants.{PostUsers, PostUser, PatchUser, DeleteUser, PostActivity, PostServer, DeleteServer, PostToken, AcceptCode, PostShare, PatchShare, DeleteShares, PostCode, DeleteCodes, PostGroup, DeleteGroup, JoinGroup, LeaveGroup, PostService, DeleteService, PutRole, DeleteRole}
 
 -- ---- the calls
 
@@ -43,6 +45,12 @@ no_row s may inside now draw k (PostActivity user last_activity told) h = server
 no_row s may inside now draw k (PostServer server) h = starts.post_server s now draw server (h refl)
 no_row s may inside now draw k (DeleteServer server remove) h = stops.delete_server s server remove
 no_row s may inside now draw k (PostToken ask) h = tokens.post_token s now draw inside ask (h refl)
+no_row s may inside now draw k (AcceptCode user code) h = codes.accept_code s now user code
+no_row s may inside now draw k (PostShare server to scopes) h = shares.post_share s now server to scopes
+no_row s may inside now draw k (PatchShare server to scopes) h = shares.patch_share s server to scopes
+no_row s may inside now draw k (DeleteShares server) h = shares.delete_shares s server
+no_row s may inside now draw k (PostCode server scopes expires_in) h = codes.post_code s now draw server scopes expires_in (h refl)
+no_row s may inside now draw k (DeleteCodes server id) h = codes.delete_codes s server id
 no_row s may inside now draw k (PostGroup group names) h = groups.post_group s may group names
 no_row s may inside now draw k (DeleteGroup group) h = groups.delete_group s group
 no_row s may inside now draw k (JoinGroup group names) h = groups.join_group s may group names

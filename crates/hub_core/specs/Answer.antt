@@ -16,6 +16,8 @@ use Rattle.hub_calls.specs.ServerCalls.{post_activity}
 use Rattle.hub_calls.specs.Starts.{post_server}
 use Rattle.hub_calls.specs.Stops.{delete_server}
 use Rattle.access_calls.specs.TokenCalls.{get_tokens, post_token, get_token, delete_token}
+use Rattle.access_calls.specs.ShareCalls.{get_shares, post_share, patch_share, delete_shares}
+use Rattle.access_calls.specs.CodeCalls.{accept_code, get_codes, post_code, delete_codes}
 use Rattle.hub_calls.specs.GroupCalls.{get_groups, get_group, post_group, delete_group, join_group, leave_group}
 use Rattle.hub_calls.specs.ServiceCalls.{get_services, get_service, post_service, delete_service}
 use Rattle.hub_calls.specs.RoleCalls.{get_roles, get_role, role_of, put_role, delete_role}
@@ -25,7 +27,7 @@ use Rattle.hub_machine.specs.declared.refusal.Refusal.{Refusal}
 use Rattle.hub_machine.specs.declared.refusal.Refusal.TheVariants.{SeenPast, NoValidToken, Needs, NotFound}
 use Rattle.hub_machine.specs.declared.call.Asked.{Asked}
 use Rattle.hub_machine.specs.declared.call.Call.{Call}
-use Rattle.hub_machine.specs.declared.call.Call.TheVariants.{GetVersion, GetInfo, GetIdentity, GetUsers, PostUsers, GetUser, PostUser, PatchUser, DeleteUser, PostActivity, PostServer, DeleteServer, GetTokens, PostToken, GetToken, DeleteToken, GetGroups, GetGroup, PostGroup, DeleteGroup, JoinGroup, LeaveGroup, GetServices, GetService, PostService, DeleteService, GetRoles, GetRole, PutRole, DeleteRole}
+use Rattle.hub_machine.specs.declared.call.Call.TheVariants.{GetVersion, GetInfo, GetIdentity, GetUsers, PostUsers, GetUser, PostUser, PatchUser, DeleteUser, PostActivity, PostServer, DeleteServer, GetTokens, PostToken, GetToken, DeleteToken, GetShares, AcceptCode, PostShare, PatchShare, DeleteShares, GetCodes, PostCode, DeleteCodes, GetGroups, GetGroup, PostGroup, DeleteGroup, JoinGroup, LeaveGroup, GetServices, GetService, PostService, DeleteService, GetRoles, GetRole, PutRole, DeleteRole}
 
 -- what is decided over all scopes and objects, and not by looking into the tables (see Judged)
 pub record Judgement : Type 0 where
@@ -54,6 +56,14 @@ row s may inside now draw k (GetTokens user) = get_tokens s user
 row s may inside now draw k (PostToken ask) = post_token s now draw inside ask
 row s may inside now draw k (GetToken user id) = get_token s id
 row s may inside now draw k (DeleteToken user id) = delete_token s id
+row s may inside now draw k (GetShares whose page) = get_shares s whose page
+row s may inside now draw k (AcceptCode user code) = accept_code s now user code
+row s may inside now draw k (PostShare server to scopes) = post_share s now server to scopes
+row s may inside now draw k (PatchShare server to scopes) = patch_share s server to scopes
+row s may inside now draw k (DeleteShares server) = delete_shares s server
+row s may inside now draw k (GetCodes whose page) = get_codes s whose page
+row s may inside now draw k (PostCode server scopes expires_in) = post_code s now draw server scopes expires_in
+row s may inside now draw k (DeleteCodes server id) = delete_codes s server id
 row s may inside now draw k (GetGroups page) = get_groups s may page
 row s may inside now draw k (GetGroup group) = get_group s may group
 row s may inside now draw k (PostGroup group users) = post_group s may group users

@@ -1,8 +1,10 @@
 -- The book's cache of rights: what is true of it in a state, and what a visit leaves of it.
-use Rattle.std.specs.Prelude.{◌≡◌, ℕ, ◌<◌, ◌≤◌, ◌⊎◌, Option, Some, None, Result, Ok, Err}
+use Rattle.std.specs.Prelude.{◌≡◌, ℕ, ◌<◌, ◌≤◌, ◌⊎◌, codes, Option, Some, None, Result, Ok, Err}
 use Rattle.std.specs.FinMap.{get}
 use Rattle.scope_filters.specs.Grants.{Rights}
+use Rattle.hub_rows.specs.declared.records.ShareCode.{ShareCode}
 use Rattle.hub_rows.specs.declared.records.Token.{Token}
+use Rattle.hub_tables.specs.Lookups.{next_of}
 use Rattle.hub_tables.specs.State.{State}
 use Rattle.roles.specs.declared.cache.KeptGrant.{KeptGrant}
 use Rattle.roles.specs.Looks.{Cache, IsAfter, OfAll, found}
@@ -23,9 +25,13 @@ IsCurrent c t stamp = OfAll (IsRightIn t stamp) c
 
 -- ---- what keeps it so
 
--- each kept token has a number below the next
-abbrev pub AreNumbered : State → Type 0
-AreNumbered t = (id : ℕ) (k : Token) → get t.tokens id ≡ Some k → id < next_token t
+abbrev pub next_code : State → ℕ
+next_code t = next_of t (codes "code")
+
+-- each kept token has a number below the next, and each kept share code below the next of codes
+pub record AreNumbered (t : State) : Type 0 where
+  pub tokens : (id : ℕ) (k : Token) → get t.tokens id ≡ Some k → id < next_token t
+  pub codes : (id : ℕ) (c : ShareCode) → get t.codes id ≡ Some c → id < next_code t
 
 -- what is true of every book's cache: its entries are of now, so will they be after a change, and the stamp has room
 pub record IsStamped (c : Cache) (t : State) (stamp length : ℕ) : Type 0 where

@@ -1,17 +1,34 @@
 -- What each call needs of its token, and what has to be there.
-use Rattle.std.specs.Prelude.{ℕ, Bool, true, false, ◌||◌, List, Option, Some, None}
+use Rattle.std.specs.Prelude.{ℕ, Bool, true, false, ◌||◌, ◌&&◌, List, Option, Some, None}
 use Rattle.std.specs.FinMap.{contains_key, get}
 use Rattle.scope_names.specs.declared.action.Action.TheVariants as A
 use Rattle.scope_filters.specs.declared.holder.Owner.TheVariants as Own
 use Rattle.scope_filters.specs.declared.object.Object.TheVariants as Ob
+use Rattle.hub_kit.specs.declared.names.ServerKey.{ServerKey}
+use Rattle.hub_rows.specs.declared.records.ShareCode.{ShareCode}
 use Rattle.hub_rows.specs.declared.records.Token.{Token}
 use Rattle.hub_tables.specs.Lookups.{has_server, same_owner}
 use Rattle.hub_tables.specs.State.{State}
+use Rattle.shares.specs.Lists.{is_code_of}
+use Rattle.shares.specs.declared.lists.CodesOf.{CodesOf}
+use Rattle.shares.specs.declared.lists.CodesOf.TheVariants as Codes
+use Rattle.shares.specs.declared.lists.SharesOf.{SharesOf}
+use Rattle.shares.specs.declared.lists.SharesOf.TheVariants as Shares
 use Rattle.admin_rules.specs.Roles.{is_fixed_role}
 use Rattle.hub_core.specs.declared.need.Need.{Need}
 use Rattle.hub_core.specs.declared.need.Need.TheVariants.{GoodToken, Held, On}
 use Rattle.hub_machine.specs.declared.call.Call.{Call}
-use Rattle.hub_machine.specs.declared.call.Call.TheVariants.{GetVersion, GetInfo, GetIdentity, GetUsers, PostUsers, GetUser, PostUser, PatchUser, DeleteUser, PostActivity, PostServer, DeleteServer, GetTokens, PostToken, GetToken, DeleteToken, GetGroups, GetGroup, PostGroup, DeleteGroup, JoinGroup, LeaveGroup, GetServices, GetService, PostService, DeleteService, GetRoles, GetRole, PutRole, DeleteRole}
+use Rattle.hub_machine.specs.declared.call.Call.TheVariants.{GetVersion, GetInfo, GetIdentity, GetUsers, PostUsers, GetUser, PostUser, PatchUser, DeleteUser, PostActivity, PostServer, DeleteServer, GetTokens, PostToken, GetToken, DeleteToken, GetShares, AcceptCode, PostShare, PatchShare, DeleteShares, GetCodes, PostCode, DeleteCodes, GetGroups, GetGroup, PostGroup, DeleteGroup, JoinGroup, LeaveGroup, GetServices, GetService, PostService, DeleteService, GetRoles, GetRole, PutRole, DeleteRole}
+
+-- shares that a user received, those that a user gave, and those of a server
+abbrev pub needs_shares : SharesOf → Need
+needs_shares (Shares.Recipient user) = On A.ReadUsersShares (Ob.User user)
+needs_shares (Shares.Owner user) = On A.ReadShares (Ob.User user)
+needs_shares (Shares.Server server) = On A.ReadShares (Ob.Server server)
+
+abbrev pub needs_codes : CodesOf → Need
+needs_codes (Codes.Owner user) = On A.ReadShares (Ob.User user)
+needs_codes (Codes.Server server) = On A.ReadShares (Ob.Server server)
 
 abbrev pub needs : Call → Need
 needs GetVersion = GoodToken
@@ -30,6 +47,14 @@ needs (GetTokens user) = On A.ReadTokens (Ob.User user)
 needs (PostToken ask) = On A.Tokens (Ob.User ask.owner)
 needs (GetToken user id) = On A.ReadTokens (Ob.User user)
 needs (DeleteToken user id) = On A.Tokens (Ob.User user)
+needs (GetShares whose page) = needs_shares whose
+needs (AcceptCode user code) = On A.UsersShares (Ob.User user)
+needs (PostShare server to scopes) = On A.Shares (Ob.Server server)
+needs (PatchShare server to scopes) = On A.Shares (Ob.Server server)
+needs (DeleteShares server) = On A.Shares (Ob.Server server)
+needs (GetCodes whose page) = needs_codes whose
+needs (PostCode server scopes expires_in) = On A.Shares (Ob.Server server)
+needs (DeleteCodes server id) = On A.Shares (Ob.Server server)
 needs (GetGroups page) = Held A.ListGroups
 needs (GetGroup group) = On A.ReadGroupsName (Ob.Group group)
 needs (PostGroup group users) = On A.AdminGroups (Ob.Group group)
@@ -58,6 +83,25 @@ is_token_of user (Some token) = same_owner token.owner (Own.User user)
 abbrev pub has_token : State → (user : List ℕ) → (id : ℕ) → Bool
 has_token t user id = is_token_of user (get t.tokens id)
 
+-- whose shares, and whose codes, are asked for
+abbrev pub has_sharer : State → SharesOf → Bool
+has_sharer t (Shares.Recipient user) = contains_key t.users user
+has_sharer t (Shares.Owner user) = contains_key t.users user
+has_sharer t (Shares.Server server) = has_server t server
+
+abbrev pub has_offerer : State → CodesOf → Bool
+has_offerer t (Codes.Owner user) = contains_key t.users user
+has_offerer t (Codes.Server server) = has_server t server
+
+-- the code that is named, if one is, is of the server
+abbrev pub is_code_at : ServerKey → Option ShareCode → Bool
+is_code_at server None = false
+is_code_at server (Some code) = is_code_of (Codes.Server server) code
+
+abbrev pub has_code : State → ServerKey → (id : Option ℕ) → Bool
+has_code t server None = true
+has_code t server (Some id) = is_code_at server (get t.codes id)
+
 -- what the call speaks of is there. A fixed role is refused before it is found not to be there
 abbrev pub is_there : State → Call → Bool
 is_there t (GetUser user) = contains_key t.users user
@@ -70,6 +114,14 @@ is_there t (GetTokens user) = contains_key t.users user
 is_there t (PostToken ask) = contains_key t.users ask.owner
 is_there t (GetToken user id) = has_token t user id
 is_there t (DeleteToken user id) = has_token t user id
+is_there t (GetShares whose page) = has_sharer t whose
+is_there t (AcceptCode user code) = contains_key t.users user
+is_there t (PostShare server to scopes) = has_server t server
+is_there t (PatchShare server to scopes) = has_server t server
+is_there t (DeleteShares server) = has_server t server
+is_there t (GetCodes whose page) = has_offerer t whose
+is_there t (PostCode server scopes expires_in) = has_server t server
+is_there t (DeleteCodes server id) = has_server t server && has_code t server id
 is_there t (GetGroup group) = contains_key t.groups group
 is_there t (DeleteGroup group) = contains_key t.groups group
 is_there t (JoinGroup group users) = contains_key t.groups group

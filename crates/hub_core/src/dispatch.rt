@@ -5,6 +5,8 @@ ghost use Rattle.hub_machine.specs.Answers.{answer_view};
 ghost use Rattle.hub_calls.specs.Rights.{may_of};
 ghost use Rattle.hub_calls.specs.RoleCalls as calls;
 
+use access_calls::code_calls::{accept_code, delete_codes, get_codes, post_code};
+use access_calls::share_calls::{delete_shares, get_shares, patch_share, post_share};
 use access_calls::token_calls::{delete_token, get_token, get_tokens, post_token};
 use hub_calls::group_calls::{
     delete_group, get_group, get_groups, join_group, leave_group, post_group,
@@ -92,6 +94,30 @@ pub(crate) fn row(
         Call::PostToken { ask } => post_token(alloc, hub, now, draw, inside, ask),
         Call::GetToken { id, .. } => get_token(alloc, hub, *id),
         Call::DeleteToken { id, .. } => delete_token(alloc, hub, *id),
+        Call::GetShares { whose, page } => get_shares(alloc, hub, whose, *page),
+        Call::AcceptCode { user, code } => accept_code(alloc, hub, now, user, code),
+        Call::PostShare { server, to, scopes } => {
+            post_share(alloc, hub, now, server, to, scopes.as_slice())
+        }
+        Call::PatchShare { server, to, scopes } => {
+            patch_share(alloc, hub, server, to, scopes.as_slice())
+        }
+        Call::DeleteShares { server } => delete_shares(alloc, hub, server),
+        Call::GetCodes { whose, page } => get_codes(alloc, hub, whose, *page),
+        Call::PostCode {
+            server,
+            scopes,
+            expires_in,
+        } => post_code(
+            alloc,
+            hub,
+            now,
+            draw,
+            server,
+            scopes.as_slice(),
+            *expires_in,
+        ),
+        Call::DeleteCodes { server, id } => delete_codes(alloc, hub, server, *id),
         Call::GetGroups { page } => get_groups(alloc, hub, rights, *page),
         Call::GetGroup { group } => get_group(alloc, hub, rights, group),
         Call::PostGroup { group, users } => post_group(alloc, hub, rights, group, users.as_slice()),

@@ -22,6 +22,7 @@ use scope_filters::holder::Owner;
 use scope_filters::object::Object;
 use scope_meet::asks::{admits, holds_any};
 use scope_names::action::Action;
+use shares::lists::{CodesOf, SharesOf, is_code_of};
 
 /// What a call needs of its token.
 pub(crate) fn needs(call: &Call) -> Need
@@ -50,6 +51,14 @@ pub(crate) fn needs(call: &Call) -> Need
         ),
         Call::PostToken { ask } => Need::On(Action::Tokens, Object::User(ask.owner)),
         Call::DeleteToken { user, .. } => Need::On(Action::Tokens, Object::User(*user)),
+        Call::GetShares { whose, .. } => needs_shares(whose),
+        Call::AcceptCode { user, .. } => Need::On(Action::UsersShares, Object::User(*user)),
+        Call::GetCodes { whose, .. } => needs_codes(whose),
+        Call::PostShare { server, .. }
+        | Call::PatchShare { server, .. }
+        | Call::DeleteShares { server }
+        | Call::PostCode { server, .. }
+        | Call::DeleteCodes { server, .. } => Need::On(Action::Shares, Object::Server(*server)),
         Call::GetGroups { .. } => Need::Held(Action::ListGroups),
         Call::GetGroup { group } => Need::On(Action::ReadGroupsName, Object::Group(*group)),
         Call::PostGroup { group, .. } => Need::On(Action::AdminGroups, Object::Group(*group)),
@@ -70,6 +79,25 @@ pub(crate) fn needs(call: &Call) -> Need
         | Call::GetRole { .. }
         | Call::PutRole { .. }
         | Call::DeleteRole { .. } => { Need::On(Action::AdminRoles, Object::Hub) }
+    }
+}
+
+fn needs_shares(whose: &SharesOf) -> Need
+    ensures { result ≡ need.needs_shares whose.now }
+{
+    match whose {
+        SharesOf::Recipient(user) => Need::On(Action::ReadUsersShares, Object::User(*user)),
+        SharesOf::Owner(user) => Need::On(Action::ReadShares, Object::User(*user)),
+        SharesOf::Server(server) => Need::On(Action::ReadShares, Object::Server(*server)),
+    }
+}
+
+fn needs_codes(whose: &CodesOf) -> Need
+    ensures { result ≡ need.needs_codes whose.now }
+{
+    match whose {
+        CodesOf::Owner(user) => Need::On(Action::ReadShares, Object::User(*user)),
+        CodesOf::Server(server) => Need::On(Action::ReadShares, Object::Server(*server)),
     }
 }
 
@@ -126,6 +154,45 @@ fn is_of_user(owner: &Owner, user: &UserName) -> bool
     }
 }
 
+/// Whether the one whose shares are asked for is there.
+fn has_sharer(hub: &Machine, whose: &SharesOf) -> bool
+    ensures { result ≡ need.has_sharer hub.now.tables whose.now }
+{
+    match whose {
+        SharesOf::Recipient(user) | SharesOf::Owner(user) => has_user(hub, user),
+        SharesOf::Server(server) => has_server(hub, server),
+    }
+}
+
+/// Whether the one whose share codes are asked for is there.
+fn has_offerer(hub: &Machine, whose: &CodesOf) -> bool
+    ensures { result ≡ need.has_offerer hub.now.tables whose.now }
+{
+    match whose {
+        CodesOf::Owner(user) => has_user(hub, user),
+        CodesOf::Server(server) => has_server(hub, server),
+    }
+}
+
+/// Whether the share code that is named, if one is, is of the server.
+fn has_code(hub: &Machine, server: &ServerKey, id: Option<u64>) -> bool
+    ensures { result ≡ need.has_code hub.now.tables server.now id }
+{
+    match id {
+        None => true,
+        Some(id) => has_code_at(hub, server, id),
+    }
+}
+
+fn has_code_at(hub: &Machine, server: &ServerKey, id: u64) -> bool
+    ensures { result ≡ need.is_code_at server.now (map.get hub.now.tables.codes id) }
+{
+    match hub.tables().code(id) {
+        None => false,
+        Some(code) => is_code_of(&CodesOf::Server(*server), code),
+    }
+}
+
 fn has_group(hub: &Machine, group: &GroupName) -> bool
     ensures { result ≡ map.contains_key hub.now.tables.groups group.now }
 {
@@ -158,6 +225,14 @@ pub(crate) fn is_there(hub: &Machine, call: &Call) -> bool
         Call::DeleteServer { server, .. } => has_server(hub, server),
         Call::PostToken { ask } => has_user(hub, &ask.owner),
         Call::GetToken { user, id } | Call::DeleteToken { user, id } => has_token(hub, user, *id),
+        Call::GetShares { whose, .. } => has_sharer(hub, whose),
+        Call::AcceptCode { user, .. } => has_user(hub, user),
+        Call::PostShare { server, .. }
+        | Call::PatchShare { server, .. }
+        | Call::DeleteShares { server }
+        | Call::PostCode { server, .. } => has_server(hub, server),
+        Call::GetCodes { whose, .. } => has_offerer(hub, whose),
+        Call::DeleteCodes { server, id } => has_server(hub, server) && has_code(hub, server, *id),
         Call::GetGroup { group }
         | Call::DeleteGroup { group }
         | Call::JoinGroup { group, .. }

@@ -3,12 +3,15 @@ use hub_kit::list::List;
 use hub_kit::moment::Moment;
 use hub_kit::names::{GroupName, RoleName, ServerKey, ServerName, ServiceName, UserName};
 use hub_kit::text::Text;
+use hub_rows::keys::Recipient;
 use hub_view::Page;
 use scope_filters::scope::RawScope;
+use shares::lists::{CodesOf, SharesOf};
 use token_store::issuing::TokenAsk;
 
 /// A call of JupyterHub's REST API, named by its method and what it is on. The fields are the path's names, the query's keys and
-/// the body's keys, in this order; of a list that can be paged it is the page, and of a new token all that is asked.
+/// the body's keys, in this order; of a list that can be paged it is the page, of a new token all that is asked, and of whom a server is
+/// shared with the recipient, where exactly one is named.
 #[derive(Drop)]
 pub enum Call {
     /// `GET /`: the version. It needs no token.
@@ -78,6 +81,48 @@ pub enum Call {
     DeleteToken {
         user: UserName,
         id: u64,
+    },
+    /// `GET /users/{user}/shared`, `GET /shares/{owner}` and `GET /shares/{owner}/{server}`
+    GetShares {
+        whose: SharesOf,
+        page: Page,
+    },
+    /// `POST /users/{user}/shared`
+    AcceptCode {
+        user: UserName,
+        code: Text,
+    },
+    /// `POST /shares/{owner}/{server}`
+    PostShare {
+        server: ServerKey,
+        to: Option<Recipient>,
+        scopes: List<RawScope>,
+    },
+    /// `PATCH /shares/{owner}/{server}`
+    PatchShare {
+        server: ServerKey,
+        to: Option<Recipient>,
+        scopes: List<RawScope>,
+    },
+    /// `DELETE /shares/{owner}/{server}`
+    DeleteShares {
+        server: ServerKey,
+    },
+    /// `GET /share-codes/{owner}` and `GET /share-codes/{owner}/{server}`
+    GetCodes {
+        whose: CodesOf,
+        page: Page,
+    },
+    /// `POST /share-codes/{owner}/{server}`. It draws.
+    PostCode {
+        server: ServerKey,
+        scopes: List<RawScope>,
+        expires_in: u32,
+    },
+    /// `DELETE /share-codes/{owner}/{server}`
+    DeleteCodes {
+        server: ServerKey,
+        id: Option<u64>,
     },
     /// `GET /groups`
     GetGroups {

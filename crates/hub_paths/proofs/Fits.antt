@@ -1,5 +1,5 @@
 -- A pattern that a text matches byte by byte, and a path whose parts fit its segments.
-use Rattle.std.proofs.Common.{◌≡◌, ℕ, List, [], ◌∷◌, ◌++◌, length, Bool, true, false, cond, refl, sym, ap, ◌∙◌, arith, nat_eq, ◌==◌, ◌&&◌, codes, subst}
+use Rattle.std.proofs.Common.{◌≡◌, ℕ, List, [], ◌∷◌, ◌++◌, length, Bool, true, false, cond, refl, sym, ap, ◌∙◌, arith, nat_eq, ◌==◌, ◌&&◌, not, codes, subst}
 use Rattle.std.specs.Prelude.{nat_lt}
 use Rattle.std.specs.List.{starts_with}
 use Rattle.std.specs.Cmp.Lexicographic.{pointwise}
@@ -37,31 +37,35 @@ and-assoc : (a b c : Bool) → (a && (b && c)) ≡ ((a && b) && c)
 and-assoc true b c = refl
 and-assoc false b c = refl
 
+is_false : (b : Bool) → not b ≡ true → b ≡ false
+is_false true h = sym h
+is_false false h = refl
+
 -- bytes of a part, none of them a slash
 abbrev pub are_plain : List ℕ → Bool
 are_plain [] = true
-are_plain (x ∷ w) = (nat_lt x 256 && nat_lt 47 x) && are_plain w
+are_plain (x ∷ w) = (nat_lt x 256 && not (x == 47)) && are_plain w
 
 on-literal : (w t : List ℕ) (rest : List (List ℕ) → Bool) → are_plain w ≡ true → Follows t rest
     → (text : List ℕ) → matches (w ++ t) text ≡ on_segments (pointwise nat_eq w) rest (segments text)
 on-literal [] t rest h one text = one text
 on-literal (x ∷ w) t rest h one [] = refl
 on-literal (x ∷ w) t rest h one (b ∷ text) =
-    by (b == 47) refl (parted text) (on-literal w t rest (and-right (nat_lt x 256 && nat_lt 47 x) (are_plain w) h) one text)
+    by (b == 47) refl (parted text) (on-literal w t rest (and-right (nat_lt x 256 && not (x == 47)) (are_plain w) h) one text)
   where
     byte : (x == 256) ≡ false
     byte =
-        let l = and-left (nat_lt x 256) (nat_lt 47 x) (and-left (nat_lt x 256 && nat_lt 47 x) (are_plain w) h) in
+        let l = and-left (nat_lt x 256) (not (x == 47)) (and-left (nat_lt x 256 && not (x == 47)) (are_plain w) h) in
         grind (arith, nat_tests)
 
-    above : nat_lt 47 x ≡ true
-    above = and-right (nat_lt x 256) (nat_lt 47 x) (and-left (nat_lt x 256 && nat_lt 47 x) (are_plain w) h)
+    no_slash : (x == 47) ≡ false
+    no_slash = is_false (x == 47) (and-right (nat_lt x 256) (not (x == 47)) (and-left (nat_lt x 256 && not (x == 47)) (are_plain w) h))
 
     by : (v : Bool) → (b == 47) ≡ v → Parted text → matches (w ++ t) text ≡ on_segments (pointwise nat_eq w) rest (segments text)
         → matches (x ∷ (w ++ t)) (b ∷ text) ≡ on_segments (pointwise nat_eq (x ∷ w)) rest (segments (b ∷ text))
     by true e s ih =
-        let m = above in
-        let other : (x == b) ≡ false = grind (arith, nat_tests) in
+        let same : b ≡ 47 = grind (arith, nat_tests) in
+        let other : (x == b) ≡ false = subst (λ c. (x == c) ≡ false) (sym same) no_slash in
         rw (byte, e, other) refl
     by false e s ih =
         rw (byte, e, ih, s.whole) (and-assoc (x == b) (pointwise nat_eq w s.front) (rest s.more))

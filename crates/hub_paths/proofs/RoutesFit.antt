@@ -9,9 +9,9 @@ use Rattle.matchit.specs.declared.error.InsertError.{InsertError}
 use Rattle.matchit.proofs.OnLiterals.{matchit_on_literals}
 use Rattle.hub_paths.specs.Paths.{IsRouter, every_path, fits, path_of, segments, text_of}
 use Rattle.hub_paths.specs.declared.paths.Path.{Path}
-use Rattle.hub_paths.specs.declared.paths.Path.TheVariants.{Bare, Version, Info, Identity, Users, User, Activity, DefaultServer, NamedServer, Tokens, Token, Groups, Group, Members, Services, Service, Roles, Role}
+use Rattle.hub_paths.specs.declared.paths.Path.TheVariants.{Bare, Version, Info, Identity, Users, User, Activity, DefaultServer, NamedServer, Tokens, Token, Shared, GivenShares, DefaultShares, ServerShares, GivenCodes, DefaultCodes, ServerCodes, Groups, Group, Members, Services, Service, Roles, Role}
 use Rattle.hub_paths.proofs.Routes.{hub_routes}
-use Rattle.hub_paths.proofs.Walks.{Agrees, after, agrees-branch, agrees-end, agrees-none, agrees-param, agrees-prefix, at_slash, found, matches}
+use Rattle.hub_paths.proofs.Walks.{Agrees, after, agrees-branch, agrees-end, agrees-more, agrees-none, agrees-param, agrees-prefix, at_slash, found, matches}
 use Rattle.hub_paths.proofs.Fits.{are_parts, fits-pattern, pattern_of}
 
 abbrev scanned : Result Scan InsertError → Scan
@@ -48,8 +48,12 @@ of_server = after (codes "s/") (after (256 ∷ []) (at_slash [] (Some (route Nam
 abbrev of_tokens : RowsOf (RouteOf Path)
 of_tokens = collection [] Token Tokens
 
+-- the servers of one user, and what is shared with the user
+abbrev of_servers : RowsOf (RouteOf Path)
+of_servers = after (codes "erver") of_server ++ after (codes "hared") (leaf Shared)
+
 abbrev of_user : RowsOf (RouteOf Path)
-of_user = after (codes "activity") (leaf Activity) ++ (after (codes "server") of_server ++ after (codes "tokens") of_tokens)
+of_user = after (codes "activity") (leaf Activity) ++ (after (codes "s") of_servers ++ after (codes "tokens") of_tokens)
 
 abbrev of_users : RowsOf (RouteOf Path)
 of_users = after (codes "s") (collection of_user User Users) ++ leaf Identity
@@ -57,8 +61,18 @@ of_users = after (codes "s") (collection of_user User Users) ++ leaf Identity
 abbrev from_users : RowsOf (RouteOf Path)
 from_users = after (codes "user") of_users ++ leaf Version
 
+-- what a user gives: of one server, of the default one behind the last slash, and of all
+abbrev given : Path → Path → Path → RowsOf (RouteOf Path)
+given one default all = after (codes "/") (after (256 ∷ []) (at_slash (after (256 ∷ []) (at_slash [] (Some (route one))) ++ leaf default) (Some (route all))))
+
+abbrev of_shares : RowsOf (RouteOf Path)
+of_shares = after (codes "-codes") (given ServerCodes DefaultCodes GivenCodes) ++ after (codes "s") (given ServerShares DefaultShares GivenShares)
+
+abbrev of_services : RowsOf (RouteOf Path)
+of_services = after (codes "ervices") (collection [] Service Services) ++ after (codes "hare") of_shares
+
 abbrev from_services : RowsOf (RouteOf Path)
-from_services = after (codes "services") (collection [] Service Services) ++ from_users
+from_services = after (codes "s") of_services ++ from_users
 
 abbrev from_roles : RowsOf (RouteOf Path)
 from_roles = after (codes "roles") (collection [] Role Roles) ++ from_services
@@ -83,11 +97,16 @@ agrees-of_server =
 agrees-of_tokens : Agrees of_tokens
 agrees-of_tokens = agrees-collection [] Token Tokens agrees-none
 
+agrees-of_servers : Agrees of_servers
+agrees-of_servers =
+    agrees-branch (codes "erver") of_server (after (codes "hared") (leaf Shared)) (refl, refl, refl, refl) agrees-of_server
+    (agrees-prefix (codes "hared") (leaf Shared) refl (agrees-end (route Shared)))
+
 agrees-of_user : Agrees of_user
 agrees-of_user =
-    agrees-branch (codes "activity") (leaf Activity) (after (codes "server") of_server ++ after (codes "tokens") of_tokens) (refl, refl, refl, refl)
+    agrees-branch (codes "activity") (leaf Activity) (after (codes "s") of_servers ++ after (codes "tokens") of_tokens) (refl, refl, refl, refl)
     (agrees-end (route Activity))
-    (agrees-branch (codes "server") of_server (after (codes "tokens") of_tokens) (refl, refl, refl, refl) agrees-of_server
+    (agrees-branch (codes "s") of_servers (after (codes "tokens") of_tokens) (refl, refl, refl, refl) agrees-of_servers
     (agrees-prefix (codes "tokens") of_tokens refl agrees-of_tokens))
 
 agrees-of_users : Agrees of_users
@@ -98,8 +117,26 @@ agrees-of_users =
 agrees-from_users : Agrees from_users
 agrees-from_users = agrees-branch (codes "user") of_users (leaf Version) (refl, refl, refl, refl) agrees-of_users (agrees-end (route Version))
 
+agrees-given : (one default all : Path) → Agrees (given one default all)
+agrees-given one default all =
+    let named = after (256 ∷ []) (at_slash [] (Some (route one))) in
+    agrees-prefix (codes "/") (after (256 ∷ []) (at_slash (named ++ leaf default) (Some (route all)))) refl
+    (agrees-param (named ++ leaf default) (Some (route all))
+    (agrees-more named (Some (route default)) (agrees-param [] (Some (route one)) agrees-none)))
+
+agrees-of_shares : Agrees of_shares
+agrees-of_shares =
+    agrees-branch (codes "-codes") (given ServerCodes DefaultCodes GivenCodes) (after (codes "s") (given ServerShares DefaultShares GivenShares)) (refl, refl, refl, refl)
+    (agrees-given ServerCodes DefaultCodes GivenCodes)
+    (agrees-prefix (codes "s") (given ServerShares DefaultShares GivenShares) refl (agrees-given ServerShares DefaultShares GivenShares))
+
+agrees-of_services : Agrees of_services
+agrees-of_services =
+    agrees-branch (codes "ervices") (collection [] Service Services) (after (codes "hare") of_shares) (refl, refl, refl, refl) (agrees-collection [] Service Services agrees-none)
+    (agrees-prefix (codes "hare") of_shares refl agrees-of_shares)
+
 agrees-from_services : Agrees from_services
-agrees-from_services = agrees-branch (codes "services") (collection [] Service Services) from_users (refl, refl, refl, refl) (agrees-collection [] Service Services agrees-none) agrees-from_users
+agrees-from_services = agrees-branch (codes "s") of_services from_users (refl, refl, refl, refl) agrees-of_services agrees-from_users
 
 agrees-from_roles : Agrees from_roles
 agrees-from_roles = agrees-branch (codes "roles") (collection [] Role Roles) from_services (refl, refl, refl, refl) (agrees-collection [] Role Roles agrees-none) agrees-from_services
@@ -135,6 +172,13 @@ plain-parts DefaultServer = refl
 plain-parts NamedServer = refl
 plain-parts Tokens = refl
 plain-parts Token = refl
+plain-parts Shared = refl
+plain-parts GivenShares = refl
+plain-parts DefaultShares = refl
+plain-parts ServerShares = refl
+plain-parts GivenCodes = refl
+plain-parts DefaultCodes = refl
+plain-parts ServerCodes = refl
 plain-parts Groups = refl
 plain-parts Group = refl
 plain-parts Members = refl
@@ -156,6 +200,13 @@ pattern-parts DefaultServer = refl
 pattern-parts NamedServer = refl
 pattern-parts Tokens = refl
 pattern-parts Token = refl
+pattern-parts Shared = refl
+pattern-parts GivenShares = refl
+pattern-parts DefaultShares = refl
+pattern-parts ServerShares = refl
+pattern-parts GivenCodes = refl
+pattern-parts DefaultCodes = refl
+pattern-parts ServerCodes = refl
 pattern-parts Groups = refl
 pattern-parts Group = refl
 pattern-parts Members = refl

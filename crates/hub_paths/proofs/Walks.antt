@@ -335,6 +335,16 @@ module _ {K : Type 0} where
   found-more [] (Some k) b path = refl
   found-more ((t, k) ∷ rest) e b path = ap (cond (matches t (b ∷ path)) (Some k)) (found-more rest e b path)
 
+  -- and so one that ends here beside others
+  pub agrees-more : (rows : RowsOf K) (e : Option K) → Agrees rows → Agrees (rows ++ ending e)
+  unfolding seek
+  agrees-more rows e one [] = own-found (rows ++ ending e)
+  agrees-more rows e one (b ∷ path) =
+      rw (same b, same 256, same 257) (one (b ∷ path)) ∙ sym (found-more rows e b path)
+    where
+      same : (b : ℕ) → step b (rows ++ ending e) ≡ step b rows
+      same b = step-append b rows (ending e) ∙ rw (step-ending b e) (append-nil (step b rows))
+
   -- what a parameter takes, by the longest suffix
   stepped : (rows : RowsOf K) (path suffix : List ℕ) → longest_suffix (segment path) rows ≡ suffix
       → param_step rows path ≡ cond (ltb 0 (length suffix)) (length (segment path) - length suffix, with_suffix suffix rows) (cond (has_slash path) (0, []) (length path, rows))

@@ -6,7 +6,7 @@ use Rattle.matchit.specs.Rows.{RowsOf}
 use Rattle.matchit.specs.Router.{RouteOf}
 use Rattle.matchit.specs.Seek.{first}
 use Rattle.hub_paths.specs.declared.paths.Path.{Path}
-use Rattle.hub_paths.specs.declared.paths.Path.TheVariants.{Bare, Version, Info, Identity, Users, User, Activity, DefaultServer, NamedServer, Tokens, Token, Groups, Group, Members, Services, Service, Roles, Role}
+use Rattle.hub_paths.specs.declared.paths.Path.TheVariants.{Bare, Version, Info, Identity, Users, User, Activity, DefaultServer, NamedServer, Tokens, Token, Shared, GivenShares, DefaultShares, ServerShares, GivenCodes, DefaultCodes, ServerCodes, Groups, Group, Members, Services, Service, Roles, Role}
 
 -- the text of each path; a name between braces stands for one segment of a byte or more
 abbrev pub text_of : Path → List ℕ
@@ -21,6 +21,13 @@ text_of DefaultServer = codes "/hub/api/users/{user}/server"
 text_of NamedServer = codes "/hub/api/users/{user}/servers/{server}"
 text_of Tokens = codes "/hub/api/users/{user}/tokens"
 text_of Token = codes "/hub/api/users/{user}/tokens/{id}"
+text_of Shared = codes "/hub/api/users/{user}/shared"
+text_of GivenShares = codes "/hub/api/shares/{owner}"
+text_of DefaultShares = codes "/hub/api/shares/{owner}/"
+text_of ServerShares = codes "/hub/api/shares/{owner}/{server}"
+text_of GivenCodes = codes "/hub/api/share-codes/{owner}"
+text_of DefaultCodes = codes "/hub/api/share-codes/{owner}/"
+text_of ServerCodes = codes "/hub/api/share-codes/{owner}/{server}"
 text_of Groups = codes "/hub/api/groups"
 text_of Group = codes "/hub/api/groups/{group}"
 text_of Members = codes "/hub/api/groups/{group}/users"
@@ -31,7 +38,9 @@ text_of Role = codes "/hub/api/roles/{role}"
 
 -- the paths of the calls that are built. No text fits two of them, so their order says nothing
 unfoldable pub every_path : List Path
-every_path = Members ∷ Group ∷ Groups ∷ Info ∷ Role ∷ Roles ∷ Service ∷ Services ∷ Activity ∷ NamedServer ∷ DefaultServer ∷ Token ∷ Tokens ∷ User ∷ Users ∷ Identity ∷ Version ∷ Bare ∷ []
+every_path =
+    Members ∷ Group ∷ Groups ∷ Info ∷ Role ∷ Roles ∷ Service ∷ Services ∷ ServerCodes ∷ DefaultCodes ∷ GivenCodes ∷ ServerShares ∷ DefaultShares ∷ GivenShares
+    ∷ Activity ∷ NamedServer ∷ DefaultServer ∷ Shared ∷ Token ∷ Tokens ∷ User ∷ Users ∷ Identity ∷ Version ∷ Bare ∷ []
 
 -- what stands between the slashes of a text
 abbrev pub segments : List ℕ → List (List ℕ)

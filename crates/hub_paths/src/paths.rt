@@ -21,6 +21,15 @@ pub enum Path {
     NamedServer,
     Tokens,
     Token,
+    Shared,
+    GivenShares,
+    /// `ServerShares` of the default server.
+    DefaultShares,
+    ServerShares,
+    GivenCodes,
+    /// `ServerCodes` of the default server.
+    DefaultCodes,
+    ServerCodes,
     Groups,
     Group,
     Members,
@@ -47,6 +56,13 @@ impl Path {
             Path::NamedServer => "/hub/api/users/{user}/servers/{server}",
             Path::Tokens => "/hub/api/users/{user}/tokens",
             Path::Token => "/hub/api/users/{user}/tokens/{id}",
+            Path::Shared => "/hub/api/users/{user}/shared",
+            Path::GivenShares => "/hub/api/shares/{owner}",
+            Path::DefaultShares => "/hub/api/shares/{owner}/",
+            Path::ServerShares => "/hub/api/shares/{owner}/{server}",
+            Path::GivenCodes => "/hub/api/share-codes/{owner}",
+            Path::DefaultCodes => "/hub/api/share-codes/{owner}/",
+            Path::ServerCodes => "/hub/api/share-codes/{owner}/{server}",
             Path::Groups => "/hub/api/groups",
             Path::Group => "/hub/api/groups/{group}",
             Path::Members => "/hub/api/groups/{group}/users",
@@ -59,7 +75,7 @@ impl Path {
 }
 
 /// All paths, in the order of a router's rows.
-static PATHS: [Path; 18] = [
+static PATHS: [Path; 25] = [
     Path::Members,
     Path::Group,
     Path::Groups,
@@ -68,9 +84,16 @@ static PATHS: [Path; 18] = [
     Path::Roles,
     Path::Service,
     Path::Services,
+    Path::ServerCodes,
+    Path::DefaultCodes,
+    Path::GivenCodes,
+    Path::ServerShares,
+    Path::DefaultShares,
+    Path::GivenShares,
     Path::Activity,
     Path::NamedServer,
     Path::DefaultServer,
+    Path::Shared,
     Path::Token,
     Path::Tokens,
     Path::User,

@@ -58,6 +58,14 @@ number_or_none (Some value) = number_of value
 unfoldable pub number_at : List ℕ → Data → Option (Option ℕ)
 number_at key body = number_or_none (get key body)
 
+abbrev pub default_or : ℕ → Option Data → Option ℕ
+default_or default None = Some default
+default_or default (Some value) = as_number value >>= as_u64
+
+-- the number at a key with a default for the absent key: none where anything else stands there
+unfoldable pub number_or : ℕ → List ℕ → Data → Option ℕ
+number_or default key body = default_or default (get key body)
+
 -- ---- lists of texts
 
 -- an absent list has no items

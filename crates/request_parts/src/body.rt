@@ -74,6 +74,17 @@ pub fn number_at(body: &Value, key: &str) -> Option<Option<u64>>
     }
 }
 
+/// The number of a `u64` at a key, or a default where the key is absent; nothing where anything else stands there.
+#[tactic(auto, unfolding(crate::specs::Bodies::number_or))]
+pub fn number_or(body: &Value, key: &str, default: u64) -> Option<u64>
+    ensures { result ≡ spec.number_or default key.now (view body.now) }
+{
+    match body.get(key) {
+        Some(value) => value.as_u64(),
+        None => Some(default),
+    }
+}
+
 fn number_of(value: &Value) -> Option<Option<u64>>
     ensures { result ≡ spec.number_of (view value.now) }
 {
