@@ -4,10 +4,12 @@ use Rattle.std.specs.List.{list_any}
 use Rattle.serde_json.specs.Data.{Data}
 use Rattle.http_wire.specs.declared.request.Request.{Request}
 use Rattle.scope_filters.specs.declared.scope.RawScope.{RawScope}
+use Rattle.hub_rows.specs.declared.keys.Recipient.{Recipient}
+use Rattle.hub_rows.specs.declared.keys.Recipient.TheVariants as To
 use Rattle.request_parts.specs.Steps.{◌>>=◌}
 use Rattle.request_parts.specs.Names.{name_of, moment_of}
 use Rattle.request_parts.specs.Activity.{activity_at}
-use Rattle.request_parts.specs.Bodies.{body_object, number_at, truth_at, truth_or, list_at, optional_at}
+use Rattle.request_parts.specs.Bodies.{body_object, number_at, number_or, truth_at, truth_or, list_at, optional_at}
 use Rattle.request_parts.specs.Scopes.{scopes_read}
 use Rattle.request_parts.specs.declared.scopes.ScopeFault.{ScopeFault}
 use Rattle.hub_api.specs.declared.refusal.ApiRefusal.{ApiRefusal}
@@ -80,6 +82,30 @@ unfoldable pub seconds : List ℕ → Data → Result (Option ℕ) ApiRefusal
 seconds key body = do
   number ← ok_or (number_at key body) BadBody
   seconds_of number
+
+-- at most 4,294,967,295 seconds, which are a day where their key is absent
+unfoldable pub life : List ℕ → Data → Result ℕ ApiRefusal
+life key body = do
+  number ← ok_or (number_or 86400 key body) BadBody
+  if_of_form (nat_le number 4294967295) number
+
+-- a text whose key has to stand there
+unfoldable pub needed_text : List ℕ → Data → Result (List ℕ) ApiRefusal
+needed_text key body = do
+  text ← ok_or (optional_at Some key body) BadBody
+  ok_or text BadBody
+
+-- the one who is named: nobody, where neither a user nor a group is, or both are
+abbrev pub one_of : (user group : Option (List ℕ)) → Option Recipient
+one_of (Some user) None = Some (To.User user)
+one_of None (Some group) = Some (To.Group group)
+one_of _ _ = None
+
+unfoldable pub recipient : Data → Result (Option Recipient) ApiRefusal
+recipient body = do
+  user ← ok_or (optional_at name_of (codes "user") body) BadBody
+  group ← ok_or (optional_at name_of (codes "group") body) BadBody
+  Ok (one_of user group)
 
 -- of each of some servers its name, and when it was last active, if that is told
 unfoldable pub activity : List ℕ → Data → Result (List (List ℕ × Option ℕ)) ApiRefusal

@@ -10,7 +10,7 @@ use Rattle.hub_paths.specs.Paths.{path_of}
 use Rattle.hub_api.specs.declared.method.Method.{Method}
 use Rattle.hub_api.specs.declared.method.Method.TheVariants.{Get, Post, Put, Patch, Delete, Other}
 use Rattle.hub_paths.specs.declared.paths.Path.{Path}
-use Rattle.hub_paths.specs.declared.paths.Path.TheVariants.{Bare, Version, Info, Identity, Users, User, Activity, DefaultServer, NamedServer, Tokens, Token, Groups, Group, Members, Services, Service, Roles, Role}
+use Rattle.hub_paths.specs.declared.paths.Path.TheVariants.{Bare, Version, Info, Identity, Users, User, Activity, DefaultServer, NamedServer, Tokens, Token, Shared, GivenShares, DefaultShares, ServerShares, GivenCodes, DefaultCodes, ServerCodes, Groups, Group, Members, Services, Service, Roles, Role}
 use Rattle.hub_api.specs.declared.refusal.ApiRefusal.{ApiRefusal}
 use Rattle.hub_api.specs.declared.refusal.ApiRefusal.TheVariants.{NoPath, NoMethod}
 
@@ -72,6 +72,32 @@ token Get q = calls.get_token q
 token Delete q = calls.delete_token q
 token method q = Err NoMethod
 
+abbrev pub shared : Method → Request → Result Call ApiRefusal
+shared Get q = calls.get_shared q
+shared Post q = calls.accept_code q
+shared method q = Err NoMethod
+
+abbrev pub given_shares : Method → Request → Result Call ApiRefusal
+given_shares Get q = calls.get_given_shares q
+given_shares method q = Err NoMethod
+
+abbrev pub server_shares : Method → Request → Result Call ApiRefusal
+server_shares Get q = calls.get_server_shares q
+server_shares Post q = calls.post_share q
+server_shares Patch q = calls.patch_share q
+server_shares Delete q = calls.delete_shares q
+server_shares method q = Err NoMethod
+
+abbrev pub given_codes : Method → Request → Result Call ApiRefusal
+given_codes Get q = calls.get_given_codes q
+given_codes method q = Err NoMethod
+
+abbrev pub server_codes : Method → Request → Result Call ApiRefusal
+server_codes Get q = calls.get_server_codes q
+server_codes Post q = calls.post_code q
+server_codes Delete q = calls.delete_codes q
+server_codes method q = Err NoMethod
+
 abbrev pub groups : Method → Request → Result Call ApiRefusal
 groups Get q = calls.get_groups q
 groups method q = Err NoMethod
@@ -107,7 +133,7 @@ role Put q = calls.put_role q
 role Delete q = calls.delete_role q
 role method q = Err NoMethod
 
--- /hub/api and /hub/api/ are the same
+-- /hub/api and /hub/api/ are the same, and behind a last slash stands the name of the default server
 abbrev pub at_path : Path → Method → Request → Result Call ApiRefusal
 at_path Bare method q = version method
 at_path Version method q = version method
@@ -120,6 +146,13 @@ at_path DefaultServer method q = default_server method q
 at_path NamedServer method q = named_server method q
 at_path Tokens method q = tokens method q
 at_path Token method q = token method q
+at_path Shared method q = shared method q
+at_path GivenShares method q = given_shares method q
+at_path DefaultShares method q = server_shares method q
+at_path ServerShares method q = server_shares method q
+at_path GivenCodes method q = given_codes method q
+at_path DefaultCodes method q = server_codes method q
+at_path ServerCodes method q = server_codes method q
 at_path Groups method q = groups method q
 at_path Group method q = group method q
 at_path Members method q = members method q

@@ -4,4 +4,3 @@ pub mod Names
 pub mod Queries
 pub mod Readings
 pub mod Refusals
-pub mod ReplyText

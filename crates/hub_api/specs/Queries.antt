@@ -5,7 +5,7 @@ use Rattle.hub_kit.specs.ServerKeys.{key_read}
 use Rattle.hub_kit.specs.declared.names.ServerKey.{ServerKey}
 use Rattle.http_wire.specs.declared.request.Request.{Request}
 use Rattle.request_parts.specs.Steps.{◌>>=◌}
-use Rattle.request_parts.specs.Queries.{query_value, query_number}
+use Rattle.request_parts.specs.Queries.{decimal_of, query_value, query_number}
 use Rattle.hub_view.specs.declared.pages.Page.{Page}
 use Rattle.hub_api.specs.declared.refusal.ApiRefusal.{ApiRefusal}
 use Rattle.hub_api.specs.declared.refusal.ApiRefusal.TheVariants.{BadQuery}
@@ -32,3 +32,11 @@ server_in (Some text) = ok_or (option_map (λ key. Some key) (result_ok (key_rea
 -- the server that `for` names, as USER/SERVER
 unfoldable pub server_of : Request → Result (Option ServerKey) ApiRefusal
 server_of q = server_in (query_value (codes "for") q.query)
+
+abbrev pub id_in : Option (List ℕ) → Result (Option ℕ) ApiRefusal
+id_in None = Ok None
+id_in (Some text) = ok_or (option_map Some (decimal_of text)) BadQuery
+
+-- the number that `id` is, where it is given
+unfoldable pub id_of : Request → Result (Option ℕ) ApiRefusal
+id_of q = id_in (query_value (codes "id") q.query)

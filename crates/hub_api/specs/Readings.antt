@@ -1,16 +1,21 @@
 -- The calls, each as a function of the request that asks it: the names of its path, then its query, then its body, then its scopes.
-use Rattle.std.specs.Prelude.{ℕ, Bool, List, [], codes, Result, Ok}
+use Rattle.std.specs.Prelude.{ℕ, Bool, List, [], codes, Option, Result, Ok}
 use Rattle.http_wire.specs.declared.request.Request.{Request}
 use Rattle.hub_machine.specs.declared.call.Call.{Call}
-use Rattle.hub_machine.specs.declared.call.Call.TheVariants.{GetIdentity, GetUsers, PostUsers, GetUser, PostUser, PatchUser, DeleteUser, PostActivity, PostServer, DeleteServer, GetTokens, PostToken, GetToken, DeleteToken, GetGroups, GetGroup, PostGroup, DeleteGroup, JoinGroup, LeaveGroup, GetServices, GetService, PostService, DeleteService, GetRoles, GetRole, PutRole, DeleteRole}
+use Rattle.hub_machine.specs.declared.call.Call.TheVariants.{GetIdentity, GetUsers, PostUsers, GetUser, PostUser, PatchUser, DeleteUser, PostActivity, PostServer, DeleteServer, GetTokens, PostToken, GetToken, DeleteToken, GetShares, AcceptCode, PostShare, PatchShare, DeleteShares, GetCodes, PostCode, DeleteCodes, GetGroups, GetGroup, PostGroup, DeleteGroup, JoinGroup, LeaveGroup, GetServices, GetService, PostService, DeleteService, GetRoles, GetRole, PutRole, DeleteRole}
+use Rattle.hub_rows.specs.declared.keys.Recipient.{Recipient}
+use Rattle.scope_filters.specs.declared.scope.RawScope.{RawScope}
+use Rattle.shares.specs.declared.lists.CodesOf.TheVariants as Codes
+use Rattle.shares.specs.declared.lists.SharesOf.TheVariants as Shares
 use Rattle.request_parts.specs.Steps.{◌>>=◌}
 use Rattle.hub_kit.specs.declared.names.ServerKey.{ServerKey}
 use Rattle.request_parts.specs.Names.{server_of as named_server}
 use Rattle.request_parts.specs.Queries.{decimal_of}
 use Rattle.hub_api.specs.Names.{name_at, read_at}
-use Rattle.hub_api.specs.Queries.{page_of, server_of}
-use Rattle.hub_paths.specs.declared.paths.Path.TheVariants.{User, Activity, DefaultServer, NamedServer, Tokens, Token, Group, Members, Service, Role}
-use Rattle.hub_api.specs.Bodies.{body_of, needed_truth, truth, names, some_names, distinct_names, moment, activity, scope_texts, scopes, note, seconds}
+use Rattle.hub_api.specs.Queries.{id_of, page_of, server_of}
+use Rattle.hub_paths.specs.declared.paths.Path.{Path}
+use Rattle.hub_paths.specs.declared.paths.Path.TheVariants.{User, Activity, DefaultServer, NamedServer, Tokens, Token, Shared, GivenShares, ServerShares, GivenCodes, ServerCodes, Group, Members, Service, Role}
+use Rattle.hub_api.specs.Bodies.{body_of, needed_truth, truth, names, some_names, distinct_names, moment, activity, scope_texts, scopes, note, seconds, life, needed_text, recipient}
 use Rattle.hub_api.specs.declared.refusal.ApiRefusal.{ApiRefusal}
 
 -- GET /user
@@ -159,6 +164,103 @@ abbrev pub delete_token : Request → Result Call ApiRefusal
 delete_token q = do
   named ← token_at q
   Ok (DeleteToken named.0 named.1)
+
+-- ---- shares and share codes
+
+-- the server that the path names; behind a last slash stands the empty name, that of the default server
+unfoldable pub server_at : Path → Request → Result ServerKey ApiRefusal
+server_at path q = do
+  user ← name_at path (codes "{owner}") q
+  server ← read_at named_server path (codes "{server}") q
+  Ok (record { user = user; server = server })
+
+-- GET /users/{user}/shared
+unfoldable pub get_shared : Request → Result Call ApiRefusal
+get_shared q = do
+  user ← name_at Shared (codes "{user}") q
+  page ← page_of q
+  Ok (GetShares (Shares.Recipient user) page)
+
+-- POST /users/{user}/shared
+unfoldable pub accept_code : Request → Result Call ApiRefusal
+accept_code q = do
+  user ← name_at Shared (codes "{user}") q
+  body ← body_of q
+  code ← needed_text (codes "code") body
+  Ok (AcceptCode user code)
+
+-- GET /shares/{owner}
+unfoldable pub get_given_shares : Request → Result Call ApiRefusal
+get_given_shares q = do
+  owner ← name_at GivenShares (codes "{owner}") q
+  page ← page_of q
+  Ok (GetShares (Shares.Owner owner) page)
+
+-- GET /shares/{owner}/{server}
+unfoldable pub get_server_shares : Request → Result Call ApiRefusal
+get_server_shares q = do
+  server ← server_at ServerShares q
+  page ← page_of q
+  Ok (GetShares (Shares.Server server) page)
+
+-- a server, with whom it is shared or no longer shared, and the scopes: their texts are read once the whole body is of its form
+unfoldable pub share_at : Request → Result (ServerKey × Option Recipient × List RawScope) ApiRefusal
+share_at q = do
+  server ← server_at ServerShares q
+  body ← body_of q
+  to ← recipient body
+  texts ← scope_texts body
+  asked ← scopes texts
+  Ok (server, to, asked)
+
+-- POST /shares/{owner}/{server}
+abbrev pub post_share : Request → Result Call ApiRefusal
+post_share q = do
+  named ← share_at q
+  Ok (PostShare named.0 named.1 named.2)
+
+-- PATCH /shares/{owner}/{server}
+abbrev pub patch_share : Request → Result Call ApiRefusal
+patch_share q = do
+  named ← share_at q
+  Ok (PatchShare named.0 named.1 named.2)
+
+-- DELETE /shares/{owner}/{server}
+abbrev pub delete_shares : Request → Result Call ApiRefusal
+delete_shares q = do
+  server ← server_at ServerShares q
+  Ok (DeleteShares server)
+
+-- GET /share-codes/{owner}
+unfoldable pub get_given_codes : Request → Result Call ApiRefusal
+get_given_codes q = do
+  owner ← name_at GivenCodes (codes "{owner}") q
+  page ← page_of q
+  Ok (GetCodes (Codes.Owner owner) page)
+
+-- GET /share-codes/{owner}/{server}
+unfoldable pub get_server_codes : Request → Result Call ApiRefusal
+get_server_codes q = do
+  server ← server_at ServerCodes q
+  page ← page_of q
+  Ok (GetCodes (Codes.Server server) page)
+
+-- POST /share-codes/{owner}/{server}: its texts of scopes are read once the whole body is of its form
+unfoldable pub post_code : Request → Result Call ApiRefusal
+post_code q = do
+  server ← server_at ServerCodes q
+  body ← body_of q
+  texts ← scope_texts body
+  seconds ← life (codes "expires_in") body
+  asked ← scopes texts
+  Ok (PostCode server asked seconds)
+
+-- DELETE /share-codes/{owner}/{server}
+unfoldable pub delete_codes : Request → Result Call ApiRefusal
+delete_codes q = do
+  server ← server_at ServerCodes q
+  id ← id_of q
+  Ok (DeleteCodes server id)
 
 -- ---- groups
 

@@ -6,7 +6,7 @@ use Rattle.serde_json.specs.declared.value.Value.{Value}
 use Rattle.http_wire.specs.declared.error.WireError.{WireError}
 use Rattle.http_wire.specs.declared.error.WireError.TheVariants as wire
 use Rattle.hub_machine.specs.Replies.{Reply}
-use Rattle.hub_api.specs.ReplyText.{refused, without_memory}
+use Rattle.reply_texts.specs.ReplyText.{refused, without_memory}
 use Rattle.hub_api.specs.declared.refusal.ApiRefusal.{ApiRefusal}
 use Rattle.hub_api.specs.declared.refusal.ApiRefusal.TheVariants.{NoPath, NoMethod, BadName, BadQuery, BadBody, BadScope, Memory}
 

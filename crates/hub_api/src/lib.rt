@@ -1,6 +1,6 @@
-//! The hub's REST API as bytes: a request becomes an asked call or a refusal, and a reply becomes its text.
-//! The contracts of `read_call` and `reply_text` carry it: each is its definition, exactly. Which path a text is stands below in
-//! `hub_paths`; connections read requests by `http_wire`, ask the calls of `hub_core`, and write these texts.
+//! The calls of the hub's REST API: a request becomes an asked call, or the first refusal that applies.
+//! The contract of `read_call` carries it: it gives exactly what its definition says. Which path a text is stands below in `hub_paths`,
+//! and the bytes of a reply in `reply_texts`; connections read requests by `http_wire` and ask these calls of `hub_core`.
 #![tactic(auto)]
 
 mod groups;
@@ -9,10 +9,10 @@ mod method;
 mod parts;
 mod reading;
 mod refusal;
-mod replies;
 mod roles;
 mod servers;
 mod services;
+mod sharing;
 mod tokens;
 mod users;
 
@@ -22,4 +22,3 @@ pub use laws::{
 };
 pub use reading::{draws, read_call};
 pub use refusal::{ApiRefusal, no_draw_reply, refusal_reply, wire_refusal_reply};
-pub use replies::{NO_MEMORY, no_memory, reply_text};

@@ -1,7 +1,8 @@
 //! What a request says, with the refusal where it isn't of its form: the names in its path, the values of its query, and the
 //! members of its body.
-ghost use Rattle.std.specs.Prelude.{◌≡◌, Some};
+ghost use Rattle.std.specs.Prelude.{◌≡◌, Some, ok_or};
 ghost use Rattle.serde_json.specs.View.{view};
+ghost use Rattle.request_parts.specs.Bodies.{optional_at};
 ghost use Rattle.hub_api.specs.Refusals.{Gives, GivesView};
 ghost use Rattle.hub_api.specs.Names.{read_at};
 ghost use Rattle.hub_api.specs.Queries as spec_queries;
@@ -11,12 +12,15 @@ use crate::refusal::ApiRefusal;
 use http_wire::request::Request;
 use hub_kit::list::List;
 use hub_kit::moment::Moment;
-use hub_kit::names::{ServerKey, ServerName, UserName, read_key};
+use hub_kit::names::{GroupName, ServerKey, ServerName, UserName, read_key};
 use hub_kit::text::Text;
 use hub_paths::Path;
+use hub_rows::keys::Recipient;
 use hub_view::Page;
 use request_parts::activity::activity_at;
-use request_parts::body::{body_object, list_at, number_at, optional_at, truth_at, truth_or};
+use request_parts::body::{
+    body_object, list_at, number_at, number_or, optional_at, truth_at, truth_or,
+};
 use request_parts::from_text::FromText;
 use request_parts::path::{read_in_path, segment_number};
 use request_parts::query::{query_number, query_value};
@@ -80,6 +84,20 @@ pub(crate) fn server_of(alloc: Global, request: &Request) -> Result<Option<Serve
         Some(text) => match read_key(text.as_bytes()) {
             Ok(key) => Ok(Some(key)),
             Err(_) => Err(ApiRefusal::BadQuery),
+        },
+    }
+}
+
+/// The number that the key `id` of the query is, where it is given.
+#[tactic(auto, unfolding(crate::specs::Queries::id_of))]
+pub(crate) fn id_of(alloc: Global, request: &Request) -> Result<Option<u64>, ApiRefusal>
+    ensures { Gives result (spec_queries.id_of request.now) }
+{
+    match query_value(alloc, request.query.as_str(), "id")? {
+        None => Ok(None),
+        Some(text) => match u64::from_text(alloc, text.as_str())? {
+            Some(id) => Ok(Some(id)),
+            None => Err(ApiRefusal::BadQuery),
         },
     }
 }
@@ -177,6 +195,68 @@ fn seconds_of(number: Option<u64>) -> Result<Option<u32>, ApiRefusal>
                 Err(ApiRefusal::BadBody)
             }
         }
+    }
+}
+
+/// At most 4,294,967,295 seconds of the body, which are a day where their key is absent.
+#[tactic(auto, unfolding(crate::specs::Bodies::life))]
+pub(crate) fn life(body: &Value, key: &str) -> Result<u32, ApiRefusal>
+    ensures { result ≡ spec.life key.now (view body.now) }
+{
+    match number_or(body, key, 86_400) {
+        Some(seconds) => {
+            if seconds <= 4_294_967_295 {
+                Ok(seconds as u32)
+            } else {
+                Err(ApiRefusal::BadBody)
+            }
+        }
+        None => Err(ApiRefusal::BadBody),
+    }
+}
+
+/// A text whose key has to stand in the body.
+#[tactic(auto, unfolding(crate::specs::Bodies::needed_text))]
+pub(crate) fn needed_text(alloc: Global, body: &Value, key: &str) -> Result<Text, ApiRefusal>
+    ensures { Gives result (spec.needed_text key.now (view body.now)) }
+{
+    match optional_at(alloc, body, key)? {
+        Some(Some(text)) => Ok(text),
+        _ => Err(ApiRefusal::BadBody),
+    }
+}
+
+/// The one whom the body names by `user` or `group`: nobody where it has neither or both.
+#[tactic(auto, unfolding(crate::specs::Bodies::recipient))]
+pub(crate) fn recipient(alloc: Global, body: &Value) -> Result<Option<Recipient>, ApiRefusal>
+    ensures { Gives result (spec.recipient (view body.now)) }
+{
+    let user: Option<UserName> = name_or_none(alloc, body, "user")?;
+    let group: Option<GroupName> = name_or_none(alloc, body, "group")?;
+    Ok(one_of(user, group))
+}
+
+/// A name of the body, which may be absent.
+fn name_or_none<N: FromText>(
+    alloc: Global,
+    body: &Value,
+    key: &str,
+) -> Result<Option<N>, ApiRefusal>
+    ensures { Gives result (ok_or (optional_at N.reads key.now (view body.now)) ApiRefusal.BadBody) }
+{
+    match optional_at(alloc, body, key)? {
+        Some(name) => Ok(name),
+        None => Err(ApiRefusal::BadBody),
+    }
+}
+
+fn one_of(user: Option<UserName>, group: Option<GroupName>) -> Option<Recipient>
+    ensures { result ≡ spec.one_of user group }
+{
+    match (user, group) {
+        (Some(user), None) => Some(Recipient::User(user)),
+        (None, Some(group)) => Some(Recipient::Group(group)),
+        _ => None,
     }
 }
 

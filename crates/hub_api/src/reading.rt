@@ -13,6 +13,7 @@ use crate::refusal::ApiRefusal;
 use crate::roles::{role, roles};
 use crate::servers::{default_server, named_server};
 use crate::services::{service, services};
+use crate::sharing::{given_codes, given_shares, server_codes, server_shares, shared};
 use crate::tokens::{token, tokens};
 use crate::users::{activity, user, users};
 use http_wire::request::Request;
@@ -73,6 +74,11 @@ fn at_path(alloc: Global, path: Path, method: Method, request: &Request) -> Resu
         Path::NamedServer => named_server(alloc, method, request),
         Path::Tokens => tokens(alloc, method, request),
         Path::Token => token(alloc, method, request),
+        Path::Shared => shared(alloc, method, request),
+        Path::GivenShares => given_shares(alloc, method, request),
+        Path::DefaultShares | Path::ServerShares => server_shares(alloc, method, request),
+        Path::GivenCodes => given_codes(alloc, method, request),
+        Path::DefaultCodes | Path::ServerCodes => server_codes(alloc, method, request),
         Path::Groups => groups(alloc, method, request),
         Path::Group => group(alloc, method, request),
         Path::Members => members(alloc, method, request),
@@ -120,7 +126,7 @@ pub fn draws(call: &Call) -> bool
     ensures { result ≡ draws call.now }
 {
     match call {
-        Call::PostServer { .. } | Call::PostToken { .. } => true,
+        Call::PostServer { .. } | Call::PostToken { .. } | Call::PostCode { .. } => true,
         _ => false,
     }
 }

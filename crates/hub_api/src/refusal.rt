@@ -1,7 +1,7 @@
 //! Refusals that come before any visit: of the wire, and of what a request asks.
 ghost use Rattle.std.specs.Prelude.{◌≡◌, Some, IfOk, option_map};
 ghost use Rattle.hub_machine.specs.Answers.{reply_view};
-ghost use Rattle.hub_api.specs.ReplyText as spec;
+ghost use Rattle.reply_texts.specs.ReplyText as spec;
 ghost use Rattle.hub_api.specs.Refusals.{no_draw, api_refusal, wire_refusal};
 ghost use Rattle.hub_api.specs.Refusals as spec_refusals;
 
@@ -76,7 +76,7 @@ pub fn no_draw_reply(alloc: Global) -> Result<Reply, AllocError>
     refused(alloc, 503, "random")
 }
 
-/// The reply where there is no memory for one. With `close` its text is `NO_MEMORY`.
+/// The reply where there is no memory for one. With `close` its text is `NO_MEMORY` of `reply_texts`.
 fn without_memory() -> Reply
     ensures { reply_view result ≡ spec.without_memory }
 {

@@ -27,8 +27,8 @@ use Rattle.hub_machine.specs.declared.reply.Reply as replies
 use Rattle.hub_machine.specs.declared.work.Work as owed
 use Rattle.hub_api.specs.Calls.{call_read}
 use Rattle.hub_api.specs.Refusals.{api_refusal, no_draw}
-use Rattle.hub_api.specs.ReplyText.{reply_text, no_memory}
 use Rattle.hub_api.specs.declared.refusal.ApiRefusal.{ApiRefusal}
+use Rattle.reply_texts.specs.ReplyText.{reply_text, no_memory}
 use Rattle.hub_run.specs.Turns.{Turn, visited, worked, declined, undrawn, refused, unsaid, unfinished, wanting, View, Visit, Errand, Visits, Drew, IsDrawn, IsGiven, IsSent, IsUndrawn, IsCounted, Drives, Moves, TurnAt, IsLeft, closes, turn_text, refusal_text}
 use Rattle.hub_run.specs.Steps.{Asks, Says, SaysTale, Made, Refuses, StopsAt, TurnEnds}
 use Rattle.hub_run.specs.Works.{errand_of, path_for}

@@ -14,7 +14,7 @@ use Rattle.server_work.specs.declared.tale.Tale.{Tale}
 use Rattle.hub_run.specs.Works.{tale_reply}
 use Rattle.hub_machine.specs.declared.reply.Outcome.{Outcome}
 use Rattle.hub_api.specs.Refusals.{wire_refusal}
-use Rattle.hub_api.specs.ReplyText.{reply_text, no_memory}
+use Rattle.reply_texts.specs.ReplyText.{reply_text, no_memory}
 use Rattle.hub_run.specs.Turns.{Turn, View, Visit, Visits, IsDrawn, IsGiven, IsUndrawn, Moves, TurnAt, turn_text, closes}
 use Rattle.hub_run.specs.declared.visit.Unanswered.{Unanswered}
 use Rattle.hub_run.specs.declared.visit.Unanswered.TheVariants as missed

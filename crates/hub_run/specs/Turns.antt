@@ -30,8 +30,8 @@ use Rattle.hub_core.specs.LifeBook.{LeadsToLives, Notes}
 use Rattle.hub_core.specs.declared.start.Start.{Start}
 use Rattle.hub_api.specs.Calls.{call_read}
 use Rattle.hub_api.specs.Refusals.{api_refusal, no_draw, wire_refusal}
-use Rattle.hub_api.specs.ReplyText.{reply_text, no_memory}
 use Rattle.hub_api.specs.declared.refusal.ApiRefusal.{ApiRefusal}
+use Rattle.reply_texts.specs.ReplyText.{reply_text, no_memory}
 use Rattle.hub_run.specs.Works.{errand_of, path_for, tale_reply}
 use Rattle.hub_run.specs.declared.kit.HubKit.{HubKit}
 

@@ -1,6 +1,6 @@
 -- What is written in a turn.
 use Rattle.std.specs.Prelude.{ℕ, List}
-use Rattle.hub_api.specs.ReplyText.{no_memory}
+use Rattle.reply_texts.specs.ReplyText.{no_memory}
 use Rattle.hub_run.specs.declared.written.Written.{Written}
 use Rattle.hub_run.specs.declared.written.Written.TheVariants.{Text, NoMemory}
 

@@ -13,7 +13,6 @@ use desk::{Desk, Pass};
 use http_wire::buffer::WireBuffer;
 use http_wire::error::SessionFault;
 use http_wire::writes::write_all;
-use hub_api::no_memory;
 use hub_core::book::Book;
 use hub_devices::clock::Clock;
 use hub_devices::random::Random;
@@ -25,6 +24,7 @@ use hub_machine::change::Change;
 use hub_paths::{ApiRouter, new_router};
 use keeper::keeper::Keeper;
 use keeper::trail::Trail;
+use reply_texts::no_memory;
 use std::alloc::Global;
 use std::sync::Wait;
 

@@ -63,9 +63,9 @@ pub fn only_work_makes_calls()
     ensures { (x y : View) (turn : Turn) → Moves x turn y → is_work turn ≡ false → (y.spawner ≡ x.spawner) × (y.routes ≡ x.routes) }
 {}
 
-/// Revocation. A token was removed by an entry that the pass has seen, or that stands before the revision that the request names, and no later
-/// entry up to the visit put its hash again: then a call that needs a token and brings this text gets from its visit 403 `no valid token`, 412
-/// or 507, and has no entry. A history that is told is taken for granted.
+/// Revocation. A token was removed by an entry that the pass has seen, or that stands before the revision that the request names, and no
+/// later entry up to the visit put its hash again: then a call that needs a token and brings this text gets from its visit 403 `no valid
+/// token`, 412 or 507, and has no entry. A history that is told is taken for granted.
 pub fn a_removed_token_is_turned_away()
     ensures { (start : Start) (x y : View) (left : Option (List ℕ)) (bytes more rest : List ℕ) (request : Request) (asked : Asked) (text : List ℕ)
         (gone later : List Change) → start.tells ≡ true → IsRequestText request bytes → call_read request ≡ Ok asked → asked.token ≡ Some text

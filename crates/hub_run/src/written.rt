@@ -7,15 +7,13 @@ ghost use Rattle.hub_run.specs.Works as spec;
 ghost use Rattle.hub_run.specs.Written.{written_bytes};
 
 use http_wire::error::WireError;
-use hub_api::{
-    ApiRefusal, no_draw_reply, no_memory, refusal_reply as api_refusal_reply, reply_text,
-    wire_refusal_reply,
-};
+use hub_api::{ApiRefusal, no_draw_reply, refusal_reply as api_refusal_reply, wire_refusal_reply};
 use hub_kit::bytes::Bytes;
 use hub_machine::answer::{good_reply, plain, refusal_reply};
 use hub_machine::refusal::Refusal;
 use hub_machine::reply::Reply;
 use hub_view::Body;
+use reply_texts::{no_memory, reply_text};
 use server_life::Todo;
 use server_work::tale::Tale;
 use server_work::work::{Device, Kept};

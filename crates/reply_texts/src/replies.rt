@@ -4,7 +4,7 @@ ghost use Rattle.http.specs.StatusCode.{reason_phrase};
 ghost use Rattle.json.specs.Print.{print};
 ghost use Rattle.hub_view.specs.Body.{body_tokens};
 ghost use Rattle.hub_machine.specs.Answers.{reply_view};
-ghost use Rattle.hub_api.specs.ReplyText as spec;
+ghost use Rattle.reply_texts.specs.ReplyText as spec;
 
 use http::StatusCode;
 use hub_kit::bytes::Bytes;

@@ -1,7 +1,7 @@
 use Rattle.std.proofs.Common.{rules, ◌≡◌, true, codes}
-use Rattle.hub_api.specs.ReplyText.{header}
-use Rattle.hub_api.proofs.Additions.{both}
-use Rattle.hub_api.proofs.replies.add_store_headers.Goals as goal
+use Rattle.reply_texts.specs.ReplyText.{header}
+use Rattle.reply_texts.proofs.Additions.{both}
+use Rattle.reply_texts.proofs.replies.add_store_headers.Goals as goal
 
 pub returns : goal.returns
 returns c =

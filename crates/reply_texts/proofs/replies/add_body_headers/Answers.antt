@@ -1,7 +1,7 @@
 use Rattle.std.proofs.Common.{codes, decimal}
-use Rattle.hub_api.specs.ReplyText.{header}
-use Rattle.hub_api.proofs.Additions.{both}
-use Rattle.hub_api.proofs.replies.add_body_headers.Goals as goal
+use Rattle.reply_texts.specs.ReplyText.{header}
+use Rattle.reply_texts.proofs.Additions.{both}
+use Rattle.reply_texts.proofs.replies.add_body_headers.Goals as goal
 
 pub returns-then-has_body : goal.returns-then-has_body
 returns-then-has_body c =
