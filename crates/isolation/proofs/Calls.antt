@@ -23,6 +23,11 @@ use Rattle.hub_view.specs.Fields as view
 use Rattle.hub_view.specs.Pages.{paged_list}
 use Rattle.hub_view.specs.declared.pages.Page.{Page}
 use Rattle.hub_view.specs.Records.{role_body}
+use Rattle.shares.specs.Lists.{shares_of, codes_of}
+use Rattle.shares.specs.declared.lists.CodesOf.{CodesOf}
+use Rattle.shares.specs.declared.lists.CodesOf.TheVariants as Codes
+use Rattle.shares.specs.declared.lists.SharesOf.{SharesOf}
+use Rattle.shares.specs.declared.lists.SharesOf.TheVariants as Shares
 use Rattle.hub_machine.specs.State.{Hub}
 use Rattle.hub_machine.specs.Trails.{in_trail}
 use Rattle.hub_machine.specs.Replies.{Answer, refuses, refuses_with, gives, changes, works, good, rules, if_so, outcome_of}
@@ -30,22 +35,25 @@ use Rattle.hub_machine.specs.declared.refusal.Refusal.{Refusal}
 use Rattle.hub_machine.specs.declared.refusal.Refusal.TheVariants.{Needs, NotFound, NoValidToken, SeenPast}
 use Rattle.hub_machine.specs.declared.call.Asked.{Asked}
 use Rattle.hub_machine.specs.declared.call.Call.{Call}
-use Rattle.hub_machine.specs.declared.call.Call.TheVariants.{GetVersion, GetInfo, GetIdentity, GetUsers, GetUser, GetTokens, GetToken, GetGroups, GetGroup, GetServices, GetService, GetRoles, GetRole}
+use Rattle.hub_machine.specs.declared.call.Call.TheVariants.{GetVersion, GetInfo, GetIdentity, GetUsers, GetUser, GetTokens, GetToken, GetShares, GetCodes, GetGroups, GetGroup, GetServices, GetService, GetRoles, GetRole}
 use Rattle.hub_calls.specs.Facts.{body_of_user, body_of_group, body_of_role, user_body, group_body, service_body, users_shown, groups_shown, services_shown}
 use Rattle.hub_calls.specs.UserCalls.{get_version, get_info, identity, identity_of_user}
 use Rattle.access_calls.specs.TokenCalls.{token_at}
-use Rattle.hub_core.specs.Needs.{has_token, needs_token}
+use Rattle.access_calls.specs.ShareCalls.{share_at, shares_path}
+use Rattle.access_calls.specs.CodeCalls.{code_at, codes_path}
+use Rattle.hub_core.specs.Needs.{has_token, has_sharer, has_offerer, needs_token}
 use Rattle.hub_tables.specs.Ends.{is_over}
 use Rattle.scope_meet.specs.declared.inside.Inside.TheVariants.{Yes}
 use Rattle.hub_core.specs.Answer.{Judgement, answer, by_call, caller, good_token, if_good, is_past, named}
 use Rattle.hub_core.specs.Judged.{Judged, JudgesToken, JudgesCaller, HeldOf}
 use Rattle.hub_core.specs.History.{Answers}
 use Rattle.hub_core.specs.declared.need.Need.TheVariants.{Held}
-use Rattle.isolation.specs.Sight.{SameUser, SameGroup, SameService, InBoth, SeesSame}
+use Rattle.isolation.specs.Sight.{SameUser, SameGroup, SameService, SameShares, SameCodes, InBoth, SeesSame}
 use Rattle.isolation.specs.Isolation.{is_get, token_of, Finds, apart}
 use Rattle.isolation.proofs.Bodies.{Says, user_same, identity_same, group_same, same_service_members}
 use Rattle.isolation.proofs.Lists.{same_list, in_both}
 use Rattle.isolation.proofs.Tokens.{same_token, same_tokens}
+use Rattle.isolation.proofs.Shares.{same_shares, same_codes}
 
 same_truth : (b c : Bool) → (IsTrue b → IsTrue c) → (IsTrue c → IsTrue b) → b ≡ c
 same_truth true true f g = refl
@@ -201,6 +209,32 @@ module _ (k : Token) (s t : Hub) (seen : SeesSame k s t) where
         let same = seen.tokens u (can A.ReadTokens (Ob.User u) m) in
         same_either (has_token s.tables u id) (has_token t.tables u id) (token_at s id) (token_at t id) (same_token s t own own' u id (same.each id)))
 
+    shares_found : (whose : SharesOf) (page : Page) → SameShares s t whose
+        → in_trail s (found (has_sharer s.tables whose) (paged_list (shares_path whose) page (map (share_at s) (shares_of s.tables whose))))
+        ≡ in_trail t (found (has_sharer t.tables whose) (paged_list (shares_path whose) page (map (share_at t) (shares_of t.tables whose))))
+    shares_found whose page same = same_found (has_sharer s.tables whose) (has_sharer t.tables whose) _ _ same.there
+        (λ there. ap (λ shown. paged_list (shares_path whose) page shown) (same_shares whose s t own own' same.each))
+
+    all_shares : (whose : SharesOf) (page : Page) → Same (GetShares whose page)
+    all_shares (Shares.Recipient u) page can = on_object j.is_held (j.may A.ReadUsersShares (Ob.User u)) (Needs A.ReadUsersShares) _ _
+        (λ m. shares_found (Shares.Recipient u) page (seen.shares (Shares.Recipient u) (can A.ReadUsersShares (Ob.User u) m)))
+    all_shares (Shares.Owner u) page can = on_object j.is_held (j.may A.ReadShares (Ob.User u)) (Needs A.ReadShares) _ _
+        (λ m. shares_found (Shares.Owner u) page (seen.shares (Shares.Owner u) (can A.ReadShares (Ob.User u) m)))
+    all_shares (Shares.Server q) page can = on_object j.is_held (j.may A.ReadShares (Ob.Server q)) (Needs A.ReadShares) _ _
+        (λ m. shares_found (Shares.Server q) page (seen.shares (Shares.Server q) (can A.ReadShares (Ob.Server q) m)))
+
+    codes_found : (whose : CodesOf) (page : Page) → SameCodes s t whose
+        → in_trail s (found (has_offerer s.tables whose) (paged_list (codes_path whose) page (map (code_at s) (codes_of s.tables whose))))
+        ≡ in_trail t (found (has_offerer t.tables whose) (paged_list (codes_path whose) page (map (code_at t) (codes_of t.tables whose))))
+    codes_found whose page same = same_found (has_offerer s.tables whose) (has_offerer t.tables whose) _ _ same.there
+        (λ there. ap (λ shown. paged_list (codes_path whose) page shown) (same_codes whose s t own own' same.each))
+
+    all_codes : (whose : CodesOf) (page : Page) → Same (GetCodes whose page)
+    all_codes (Codes.Owner u) page can = on_object j.is_held (j.may A.ReadShares (Ob.User u)) (Needs A.ReadShares) _ _
+        (λ m. codes_found (Codes.Owner u) page (seen.codes (Codes.Owner u) (can A.ReadShares (Ob.User u) m)))
+    all_codes (Codes.Server q) page can = on_object j.is_held (j.may A.ReadShares (Ob.Server q)) (Needs A.ReadShares) _ _
+        (λ m. codes_found (Codes.Server q) page (seen.codes (Codes.Server q) (can A.ReadShares (Ob.Server q) m)))
+
     all_users : (page : Page) → Same (GetUsers page)
     all_users page can = where_held j.is_held (Needs A.ListUsers) _ _
         (ap (λ shown. gives (good 200 (paged_list (codes "/users") page shown))) (same_users own own' j.may can))
@@ -241,6 +275,11 @@ module _ (k : Token) (s t : Hub) (seen : SeesSame k s t) where
     by_get (GetUser user) get a b = on_one (GetUser user) (same_judgement (GetUser user) A.ReadUsersName j j' a b a.held b.held a.inside b.inside) (says (GetUser user) j a) (one_user own own' now draw draw' j user)
     by_get (GetTokens user) get a b = on_one (GetTokens user) (same_judgement (GetTokens user) A.ReadTokens j j' a b a.held b.held a.inside b.inside) (says (GetTokens user) j a) (all_tokens own own' now draw draw' j user)
     by_get (GetToken user id) get a b = on_one (GetToken user id) (same_judgement (GetToken user id) A.ReadTokens j j' a b a.held b.held a.inside b.inside) (says (GetToken user id) j a) (one_token own own' now draw draw' j user id)
+    by_get (GetShares (Shares.Recipient user) page) get a b = on_one (GetShares (Shares.Recipient user) page) (same_judgement (GetShares (Shares.Recipient user) page) A.ReadUsersShares j j' a b a.held b.held a.inside b.inside) (says (GetShares (Shares.Recipient user) page) j a) (all_shares own own' now draw draw' j (Shares.Recipient user) page)
+    by_get (GetShares (Shares.Owner user) page) get a b = on_one (GetShares (Shares.Owner user) page) (same_judgement (GetShares (Shares.Owner user) page) A.ReadShares j j' a b a.held b.held a.inside b.inside) (says (GetShares (Shares.Owner user) page) j a) (all_shares own own' now draw draw' j (Shares.Owner user) page)
+    by_get (GetShares (Shares.Server server) page) get a b = on_one (GetShares (Shares.Server server) page) (same_judgement (GetShares (Shares.Server server) page) A.ReadShares j j' a b a.held b.held a.inside b.inside) (says (GetShares (Shares.Server server) page) j a) (all_shares own own' now draw draw' j (Shares.Server server) page)
+    by_get (GetCodes (Codes.Owner user) page) get a b = on_one (GetCodes (Codes.Owner user) page) (same_judgement (GetCodes (Codes.Owner user) page) A.ReadShares j j' a b a.held b.held a.inside b.inside) (says (GetCodes (Codes.Owner user) page) j a) (all_codes own own' now draw draw' j (Codes.Owner user) page)
+    by_get (GetCodes (Codes.Server server) page) get a b = on_one (GetCodes (Codes.Server server) page) (same_judgement (GetCodes (Codes.Server server) page) A.ReadShares j j' a b a.held b.held a.inside b.inside) (says (GetCodes (Codes.Server server) page) j a) (all_codes own own' now draw draw' j (Codes.Server server) page)
     by_get (GetGroups page) get a b = on_one (GetGroups page) (same_judgement (GetGroups page) A.ListGroups j j' a b a.held b.held a.inside b.inside) (says (GetGroups page) j a) (all_groups own own' now draw draw' j page)
     by_get (GetGroup group) get a b = on_one (GetGroup group) (same_judgement (GetGroup group) A.ReadGroupsName j j' a b a.held b.held a.inside b.inside) (says (GetGroup group) j a) (one_group own own' now draw draw' j group)
     by_get (GetServices page) get a b = on_one (GetServices page) (same_judgement (GetServices page) A.ListServices j j' a b a.held b.held a.inside b.inside) (says (GetServices page) j a) (all_services own own' now draw draw' j page)

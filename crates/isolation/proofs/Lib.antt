@@ -1,5 +1,6 @@
 pub mod Picked
 pub mod Tokens
+pub mod Shares
 pub mod Bodies
 pub mod Lists
 pub mod Calls

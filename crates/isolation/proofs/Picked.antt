@@ -108,3 +108,7 @@ map_filter {Y = Y} p f (x ∷ xs) =
       | true ↦ ap (λ (ys : List Y). f x ∷ ys) (map_filter p f xs)
       | false ↦ map_filter p f xs
     ]
+
+pub map_twice : {X Y Z : Type 0} (f : Y → Z) (g : X → Y) (xs : List X) → map f (map g xs) ≡ map (λ x. f (g x)) xs
+map_twice f g [] = refl
+map_twice {Z = Z} f g (x ∷ xs) = ap (λ (zs : List Z). f (g x) ∷ zs) (map_twice f g xs)

@@ -17,7 +17,7 @@ use Rattle.hub_machine.specs.State.{Hub}
 use Rattle.access_calls.specs.TokenCalls.{body_of_token, token_at}
 use Rattle.hub_core.specs.Needs.{is_token_of, has_token}
 use Rattle.isolation.specs.Sight.{TokenSeen, seen_token, token_seen}
-use Rattle.isolation.proofs.Picked.{shown, same_shown, where_so, map_filter}
+use Rattle.isolation.proofs.Picked.{shown, same_shown, where_so, map_filter, map_twice}
 
 -- ---- one token
 
@@ -64,10 +64,6 @@ found_as u id (Some x) own =
     ] refl
 
 -- ---- all tokens of a user
-
-map_twice : {X Y Z : Type 0} (f : Y → Z) (g : X → Y) (xs : List X) → map f (map g xs) ≡ map (λ x. f (g x)) xs
-map_twice f g [] = refl
-map_twice {Z = Z} f g (x ∷ xs) = ap (λ (zs : List Z). f (g x) ∷ zs) (map_twice f g xs)
 
 abbrev listed : Hub → List ℕ → Token → Option Json
 listed s u = where_so (λ (x : Token). same_owner x.owner (Own.User u)) (λ (x : Token). token_at s x.id)

@@ -9,7 +9,7 @@ use Rattle.hub_machine.specs.State.{Hub}
 use Rattle.hub_machine.specs.Replies.{Outcome, answered, working}
 use Rattle.hub_machine.specs.declared.call.Asked.{Asked}
 use Rattle.hub_machine.specs.declared.call.Call.{Call}
-use Rattle.hub_machine.specs.declared.call.Call.TheVariants.{GetVersion, GetInfo, GetIdentity, GetUsers, GetUser, GetTokens, GetToken, GetGroups, GetGroup, GetServices, GetService, GetRoles, GetRole}
+use Rattle.hub_machine.specs.declared.call.Call.TheVariants.{GetVersion, GetInfo, GetIdentity, GetUsers, GetUser, GetTokens, GetToken, GetShares, GetCodes, GetGroups, GetGroup, GetServices, GetService, GetRoles, GetRole}
 use Rattle.hub_core.specs.Answer.{is_past}
 
 -- the calls whose method is GET
@@ -21,6 +21,8 @@ is_get (GetUsers page) = true
 is_get (GetUser user) = true
 is_get (GetTokens user) = true
 is_get (GetToken user id) = true
+is_get (GetShares whose page) = true
+is_get (GetCodes whose page) = true
 is_get (GetGroups page) = true
 is_get (GetGroup group) = true
 is_get (GetServices page) = true

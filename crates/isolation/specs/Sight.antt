@@ -1,5 +1,5 @@
 -- What a token may see of the hub: the objects of which it may ask, and of each the fields whose actions it is allowed.
-use Rattle.std.specs.Prelude.{◌≡◌, ◌⊎◌, ◌↔◌, ℕ, Bool, List, length, Option, Some, None, if◌then◌else◌}
+use Rattle.std.specs.Prelude.{◌≡◌, ◌⊎◌, ◌↔◌, ℕ, Bool, true, List, length, Option, Some, None, if◌then◌else◌}
 use Rattle.std.specs.Ordering.{nat_cmp}
 use Rattle.std.specs.FinMap.{FinMap, get, contains_key, len}
 use Rattle.hub_kit.specs.KeyOrder.{name_cmp, key_cmp}
@@ -11,12 +11,15 @@ use Rattle.scope_filters.specs.declared.object.Object.TheVariants as Ob
 use Rattle.scope_filters.specs.declared.holder.Owner.TheVariants as Own
 use Rattle.scope_filters.specs.declared.scope.RawScope.{RawScope}
 use Rattle.server_life.specs.declared.life.Life.{Life}
+use Rattle.hub_rows.specs.ShareOrder.{share_cmp}
+use Rattle.hub_rows.specs.declared.keys.ShareKey.{ShareKey}
 use Rattle.hub_rows.specs.declared.records.Group.{Group}
 use Rattle.hub_rows.specs.declared.records.Lease.{Lease}
 use Rattle.hub_rows.specs.declared.records.Next.{Next}
 use Rattle.hub_rows.specs.declared.records.OAuthClient.{OAuthClient}
 use Rattle.hub_rows.specs.declared.records.OAuthCode.{OAuthCode}
 use Rattle.hub_rows.specs.declared.records.ServerRow.{ServerRow}
+use Rattle.hub_rows.specs.declared.records.Share.{Share}
 use Rattle.hub_rows.specs.declared.records.ShareCode.{ShareCode}
 use Rattle.hub_rows.specs.declared.records.Token.{Token}
 use Rattle.hub_rows.specs.declared.records.User.{User}
@@ -24,8 +27,14 @@ use Rattle.hub_tables.specs.Lookups.{groups_of, roles_naming_group, roles_naming
 use Rattle.roles.specs.Rights.{IsAllowed}
 use Rattle.hub_view.specs.Json.{Json}
 use Rattle.hub_view.specs.Servers.{is_live, is_ready, pending}
+use Rattle.shares.specs.Lists.{is_share_of, is_code_of}
+use Rattle.shares.specs.declared.lists.CodesOf.{CodesOf}
+use Rattle.shares.specs.declared.lists.CodesOf.TheVariants as Codes
+use Rattle.shares.specs.declared.lists.SharesOf.{SharesOf}
+use Rattle.shares.specs.declared.lists.SharesOf.TheVariants as Shares
 use Rattle.hub_machine.specs.State.{Hub, Lives, life_of}
 use Rattle.hub_calls.specs.Facts.{roles_of_user}
+use Rattle.hub_core.specs.Needs.{has_sharer, has_offerer}
 
 -- the token may do it
 abbrev pub May : Hub → Token → Action → Object → Type 0
@@ -87,6 +96,35 @@ seen_token user (Some x) = if same_owner x.owner (Own.User user) then Some (reco
 abbrev pub token_seen : Hub → (user : List ℕ) → (id : ℕ) → Option TokenSeen
 token_seen s user id = seen_token user (get s.tables.tokens id)
 
+-- ---- shares, and share codes but their hashes
+
+abbrev pub ReadsShares : Hub → Token → SharesOf → Type 0
+ReadsShares s k (Shares.Recipient u) = May s k A.ReadUsersShares (Ob.User u)
+ReadsShares s k (Shares.Owner u) = May s k A.ReadShares (Ob.User u)
+ReadsShares s k (Shares.Server q) = May s k A.ReadShares (Ob.Server q)
+
+abbrev pub ReadsCodes : Hub → Token → CodesOf → Type 0
+ReadsCodes s k (Codes.Owner u) = May s k A.ReadShares (Ob.User u)
+ReadsCodes s k (Codes.Server q) = May s k A.ReadShares (Ob.Server q)
+
+pub record CodeSeen : Type 0 where
+  pub created : ℕ
+  pub expires_at : ℕ
+  pub scopes : List RawScope
+  pub server : ServerKey
+
+abbrev pub seen_code : CodesOf → Option ShareCode → Option CodeSeen
+seen_code whose None = None
+seen_code whose (Some c) = if is_code_of whose c then Some (record {
+  created = c.created;
+  expires_at = c.expires_at;
+  scopes = c.scopes;
+  server = c.server;
+}) else None
+
+abbrev pub code_seen : Hub → CodesOf → (id : ℕ) → Option CodeSeen
+code_seen s whose id = seen_code whose (get s.tables.codes id)
+
 -- ---- the same is seen of an object in two states: each field that is shown
 
 pub record SameUser (k : Token) (s t : Hub) (u : List ℕ) (x y : User) : Type 0 where
@@ -109,6 +147,14 @@ pub record SameTokens (s t : Hub) (u : List ℕ) : Type 0 where
   pub there : contains_key s.tables.users u ≡ contains_key t.tables.users u
   pub each : (id : ℕ) → token_seen s u id ≡ token_seen t u id
 
+pub record SameShares (s t : Hub) (whose : SharesOf) : Type 0 where
+  pub there : has_sharer s.tables whose ≡ has_sharer t.tables whose
+  pub each : (key : ShareKey) → is_share_of whose key ≡ true → get s.tables.shares key ≡ get t.tables.shares key
+
+pub record SameCodes (s t : Hub) (whose : CodesOf) : Type 0 where
+  pub there : has_offerer s.tables whose ≡ has_offerer t.tables whose
+  pub each : (id : ℕ) → code_seen s whose id ≡ code_seen t whose id
+
 -- there in both states, or in neither
 abbrev pub InBoth : {X : Type 0} → (X → X → Type 0) → Option X → Option X → Type 0
 InBoth Same None None = Unit {0}
@@ -126,6 +172,8 @@ pub record SeesSame (k : Token) (s t : Hub) : Type 0 where
   pub services : (v : List ℕ) → AsksService s k v → SameService k s t v
   pub roles : May s k A.AdminRoles Ob.Hub → (r : List ℕ) → get s.tables.roles r ≡ get t.tables.roles r
   pub tokens : (u : List ℕ) → May s k A.ReadTokens (Ob.User u) → SameTokens s t u
+  pub shares : (whose : SharesOf) → ReadsShares s k whose → SameShares s t whose
+  pub codes : (whose : CodesOf) → ReadsCodes s k whose → SameCodes s t whose
 
 -- ---- states with other rows
 
@@ -138,10 +186,15 @@ with_servers s rows lives = record s { tables = record s.tables { servers = rows
 abbrev pub with_tokens : Hub → FinMap nat_cmp Token → Hub
 with_tokens s rows = record s { tables = record s.tables { tokens = rows } }
 
+abbrev pub with_shares : Hub → FinMap share_cmp Share → Hub
+with_shares s rows = record s { tables = record s.tables { shares = rows } }
+
+abbrev pub with_codes : Hub → FinMap nat_cmp ShareCode → Hub
+with_codes s rows = record s { tables = record s.tables { codes = rows } }
+
 -- of the kinds that no right and no body of a built GET depends on
 pub record OtherRows : Type 0 where
   pub leases : FinMap name_cmp Lease
-  pub codes : FinMap nat_cmp ShareCode
   pub clients : FinMap name_cmp OAuthClient
   pub grant_codes : FinMap name_cmp OAuthCode
   pub nexts : FinMap name_cmp Next
@@ -150,7 +203,6 @@ abbrev pub with_others : Hub → OtherRows → Hub
 with_others s rows = record s {
   tables = record s.tables {
     leases = rows.leases;
-    codes = rows.codes;
     clients = rows.clients;
     grant_codes = rows.grant_codes;
     nexts = rows.nexts;

@@ -1,11 +1,12 @@
 //! Isolation: a token that may not see a thing learns nothing of it. What it may see of a state is its users, groups,
-//! services, roles and tokens of users as far as its rights show them, and no reply to a GET depends on anything else, apart from the
-//! revision, and from the number of live servers under `read:hub`.
+//! services, roles, tokens of users, shares and share codes as far as its rights show them, and no reply to a GET depends on anything
+//! else, apart from the revision, and from the number of live servers under `read:hub`.
 #![tactic(auto)]
 
 mod laws;
 
 pub use laws::{
-    a_token_sees_its_part, other_rows_are_not_seen, rows_stay_own, unseen_servers_may_change,
-    unseen_tokens_may_change, unseen_users_may_change,
+    a_token_sees_its_part, other_rows_are_not_seen, rows_stay_own, unseen_codes_may_change,
+    unseen_servers_may_change, unseen_shares_may_change, unseen_tokens_may_change,
+    unseen_users_may_change,
 };
