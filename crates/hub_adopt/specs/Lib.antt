@@ -1,0 +1,2 @@
+pub mod Adopting
+pub mod Found
