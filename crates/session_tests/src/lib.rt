@@ -5,6 +5,8 @@
 #[cfg(test)]
 mod check;
 #[cfg(test)]
+mod connections;
+#[cfg(test)]
 mod kits;
 #[cfg(test)]
 mod of_adopt;
@@ -14,6 +16,8 @@ mod of_hub_run;
 mod of_servers;
 #[cfg(test)]
 mod of_sessions;
+#[cfg(test)]
+mod of_shares;
 #[cfg(test)]
 mod of_tokens;
 #[cfg(test)]

@@ -1,44 +1,19 @@
 //! Sessions of several connections that make, show and delete tokens: what is written on each.
-ghost use Rattle.std.specs.Prelude.{◌≡◌, ◌≤◌, ◌^◌};
+ghost use Rattle.std.specs.Prelude.{◌≤◌, ◌^◌};
 
 use crate::check::check;
-use crate::kits::MemKit;
-use crate::repeated::repeated;
-use desk::{Desk, Pass};
-use hub_core::book::Book;
-use hub_devices::mem_bytes::{MemSink, MemSource};
-use hub_devices::mem_clock::FixedClock;
-use hub_devices::mem_random::ListRandom;
-use hub_devices::mem_routes::MemRouteLink;
-use hub_devices::mem_spawner::MemSpawner;
+use crate::connections::{Connection, NEVER, all_end_so};
 use hub_kit::list::List;
-use hub_kit::moment::Moment;
 use hub_kit::names::{UserName, read_role, read_user};
 use hub_kit::text::Text;
-use hub_machine::change::Change;
 use hub_opening::config::{ConfigToken, ConfigUser, HubConfig, greatest_limits};
 use hub_rows::records::Role;
-use hub_run::{HubKit, Served, serve_connection};
-use keeper::mem_keeper::MemKeeper;
-use keeper::trail::ListTrail;
 use keyed_rows::sorted::Sorted;
 use scope_filters::holder::Owner;
 use scope_filters::scope::{RawScope, read_scope};
 use server_life::Pool;
 use std::alloc::Global;
 use std::process::Abort;
-use std::sync::Wait;
-
-/// What is asked on a connection, so many seconds after the hub was opened, and what is written. Each has draws of its own: fifteen
-/// zeros, and a byte that counts from 1.
-struct Connection {
-    after: u64,
-    /// The number of the draw that fails.
-    failing_draw: u64,
-    input: &'static [u8],
-    replies: u64,
-    output: &'static [u8],
-}
 
 /// Connections, one after the other, to a hub of ann, who has tokens with these texts, and a role with `read:users`.
 struct Session {
@@ -52,12 +27,6 @@ const ONE: [&str; 1] = ["secret-token-ann"];
 
 /// Those of a session that needs a token after the first has gone.
 const TWO: [&str; 2] = ["secret-token-ann", "second-token-ann"];
-
-/// The number of a draw that doesn't come.
-const NEVER: u64 = u64::MAX;
-
-/// When the hub is opened: 2023-11-14T22:13:20Z.
-const NOW: u64 = 1_700_000_000;
 
 const SESSIONS: [Session; 5] = [
     Session {
@@ -229,8 +198,6 @@ const SESSIONS: [Session; 5] = [
     },
 ];
 
-type MemBook = Book<MemKeeper, ListTrail<Change>>;
-
 fn ann(rt: &impl Abort) -> UserName {
     read_user(b"ann").expect(rt, "it is a name")
 }
@@ -287,82 +254,11 @@ fn config(rt: &impl Abort, alloc: Global, texts: &[&'static str]) -> HubConfig
     }
 }
 
-fn book(rt: &impl Abort, alloc: Global, texts: &[&'static str]) -> MemBook {
-    let keeper = MemKeeper::new(alloc, Vec::new(alloc), Vec::new(alloc)).expect(
-        rt,
-        "there is memory",
-    );
-    let config = config(rt, alloc, texts);
-    let now = Moment::up_to(NOW);
-    let book = Book::open(alloc, keeper, ListTrail::new(alloc), &config, now);
-    drop(config);
-    match book {
-        Ok(book) => book,
-        Err(_) => panic!(rt; "no book"),
-    }
-}
-
-/// A desk over the book, and its first pass.
-fn open_desk(rt: &impl Abort, alloc: Global, book: MemBook) -> (Desk<MemBook>, Pass<MemBook>)
-    ensures { result.1.of ≡ result.0 }
-{
-    match Desk::open(alloc, book) {
-        Ok(opened) => opened,
-        Err(_) => panic!(rt; "no desk"),
-    }
-}
-
-fn kit(rt: &impl Abort, alloc: Global, connection: &Connection) -> MemKit {
-    let draws = vec![in alloc;
-        [0, 0, 0, 0, 0, 0, 0, 0, 0, 0, 0, 0, 0, 0, 0, 1],
-        [0, 0, 0, 0, 0, 0, 0, 0, 0, 0, 0, 0, 0, 0, 0, 2],
-    ];
-    let failing = Vec::from_slice(alloc, &[connection.failing_draw]);
-    HubKit {
-        spawner: MemSpawner::new(alloc, Vec::new(alloc)),
-        routes: MemRouteLink::new(alloc, Vec::new(alloc)),
-        clock: FixedClock(Moment::up_to(NOW.saturating_add(connection.after))),
-        random: ListRandom::new(
-            draws.expect(rt, "there is memory"),
-            failing.expect(rt, "there is memory"),
-        ),
-    }
-}
-
-/// Whether the connection ends as it should, and has written its output.
-fn ends_so<R: Abort + Wait>(
-    rt: &R,
-    alloc: Global,
-    desk: &Desk<MemBook>,
-    pass: &mut Pass<MemBook>,
-    connection: &Connection,
-) -> bool
-    requires { pass.old.of ≡ desk.now }
-    ensures { pass.new.of ≡ desk.now }
-{
-    let input = repeated(rt, alloc, connection.input, 1);
-    let mut source = MemSource::new(input, 100, Vec::new(alloc));
-    let mut sink = MemSink::new(alloc, Vec::new(alloc));
-    let mut kit = kit(rt, alloc, connection);
-    let served = serve_connection(rt, alloc, desk, pass, &mut source, &mut sink, &mut kit);
-    (served == Ok(Served::Ended(connection.replies))) & (sink.as_slice() == connection.output)
-}
-
-/// Whether all connections of the session end as they should.
-fn all_end_so<R: Abort + Wait>(rt: &R, alloc: Global, session: &Session) -> bool {
-    let (desk, mut pass) = open_desk(rt, alloc, book(rt, alloc, session.tokens));
-    let mut all = true;
-    for connection in session.connections {
-        all &= ends_so(rt, alloc, &desk, &mut pass, connection);
-    }
-    let book = desk.close(rt, pass);
-    drop(book);
-    all
-}
-
 #[test]
 fn tokens(rt: HostRuntime) {
     for session in &SESSIONS {
-        check(&rt, all_end_so(&rt, rt.alloc(), session), session.name);
+        let config = config(&rt, rt.alloc(), session.tokens);
+        let holds = all_end_so(&rt, rt.alloc(), config, session.connections);
+        check(&rt, holds, session.name);
     }
 }
