@@ -1,5 +1,5 @@
 //! What keeps rows.
-ghost use Rattle.std.specs.Prelude.{◌≡◌, ◌≤◌, ℕ, List, Option, None, IfOk, IfErr, OnOk, OnErr};
+ghost use Rattle.std.specs.Prelude.{◌≡◌, ◌≤◌, ℕ, Bool, IsTrue, List, Option, None, IfOk, IfErr, OnOk, OnErr};
 ghost use Rattle.hub_devices.specs.Faults.{Rises};
 ghost use Rattle.keeper.specs.Rows.{Rows, AreSame, Lists, after_items, place_of};
 
@@ -37,6 +37,9 @@ pub trait Keeper: Drop {
     /// Whether the rows are told. A keeper over a file may find at any call that they aren't.
     ghost Tells: { Self → Type 0 };
 
+    /// The same as a truth value, for who keeps what was so once (`decides`).
+    ghost is_told: { Self → Bool };
+
     /// The rows, where they are told.
     ghost rows: { Self → Rows };
 
@@ -68,4 +71,6 @@ pub trait Keeper: Drop {
         ensures err { Tells self.new → OnErr result (AreSame (rows self.new) (rows self.old)) }
         ensures counted { faults self.old ≤ faults self.new }
         ensures cause { IfErr result (λ e. e ≡ KeeperError.Failed → Rises (faults self.old) (faults self.new)) };
+
+    ghost decides: { (k : Self) → (Tells k → IsTrue (is_told k)) × (IsTrue (is_told k) → Tells k) };
 }

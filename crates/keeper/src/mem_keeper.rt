@@ -1,5 +1,5 @@
 //! A keeper in memory.
-ghost use Rattle.std.specs.Prelude.{◌≡◌, ◌≤◌, ⊤, None, Ok, Err, IfOk, IfErr, OnOk, OnErr, if◌then◌else◌};
+ghost use Rattle.std.specs.Prelude.{◌≡◌, ◌≤◌, ⊤, true, refl, None, Ok, Err, IfOk, IfErr, OnOk, OnErr, if◌then◌else◌};
 ghost use Rattle.hub_devices.specs.FailingCalls.{is_failing, after_call, new_script};
 ghost use Rattle.hub_devices.specs.Faults.{Rises};
 ghost use Rattle.keyed_rows.specs.Rows.{map_of};
@@ -38,6 +38,8 @@ impl MemKeeper {
 
 impl Keeper for MemKeeper {
     ghost Tells = { λ k. ⊤ };
+
+    ghost is_told = { λ k. true };
 
     ghost rows = { λ k. held (map_of key_cmp k.rows) };
 
@@ -94,4 +96,6 @@ impl Keeper for MemKeeper {
             Err(_) => Err(KeeperError::Memory),
         }
     }
+
+    ghost decides = { λ k. ((λ _. refl), (λ _. tt)) };
 }

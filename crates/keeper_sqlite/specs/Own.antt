@@ -1,5 +1,6 @@
 -- A store that this keeper made: which rows are in it.
-use Rattle.std.specs.Prelude.{◌≡◌, ◌⊎◌, false, Bool, IsTrue, List, [], ◌∷◌}
+use Rattle.std.specs.Prelude.{◌≡◌, ◌⊎◌, ℕ, false, ◌==◌, ◌&&◌, Bool, IsTrue, List, [], ◌∷◌}
+use Rattle.std.proofs.Common.{rules}
 use Rattle.keeper.specs.Rows.{Rows, no_rows}
 use Rattle.sqlite.specs.Disk.{MoreFaults}
 use Rattle.sqlite.specs.Effect.{Database}
@@ -8,6 +9,7 @@ use Rattle.sqlite.specs.Order.{Row}
 use Rattle.sqlite.specs.State.{HasCleanDisk}
 use Rattle.sqlite.specs.Store.{Ghosts}
 use Rattle.sqlite.specs.Table.{Table}
+use Rattle.sqlite.specs.View.{doubt}
 use Rattle.row_table.specs.Stored.{rows_of, IsRowStore}
 use Rattle.row_table.specs.Tables.{no_schema}
 
@@ -23,6 +25,12 @@ rows_under (t ∷ ts) tree = rows_of tree
 abbrev pub rows_in : Database → Rows
 rows_in db = rows_under db.schema.tables (db.trees 0)
 
+pub decided : {n : ℕ} {a b : Bool} → (n ≡ 0) × IsTrue a × IsTrue b → IsTrue ((n == 0) && (a && b))
+decided (clean, is_open, own) = search rules
+
+pub undecided : {n : ℕ} {a b : Bool} → IsTrue ((n == 0) && (a && b)) → (n ≡ 0) × IsTrue a × IsTrue b
+undecided told = search rules
+
 module _ {S : Type 0} (g : Ghosts S) where
   -- the connection is in no transaction, and to such a store unless it is shut
   pub record IsOwned (h : Held S) : Type 0 where
@@ -32,6 +40,10 @@ module _ {S : Type 0} (g : Ghosts S) where
   -- the rows are told while the connection is open and the disk has given back what was written
   abbrev pub IsTold : Held S → Bool → Type 0
   IsTold h is_own = HasCleanDisk (state g h) × IsTrue (state g h).is_open × IsTrue is_own
+
+  -- the same as a truth value
+  abbrev pub is_told : Held S → Bool → Bool
+  is_told h is_own = (doubt (state g h).is_clean == 0) && ((state g h).is_open && is_own)
 
   abbrev pub told_rows : Held S → Rows
   told_rows h = rows_in (state g h).now

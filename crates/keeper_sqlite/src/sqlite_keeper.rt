@@ -9,7 +9,7 @@ ghost use Rattle.sqlite.specs.View.{doubt};
 ghost use Rattle.sqlite.specs.Steps.{over_memory};
 ghost use Rattle.row_table.specs.Open.{StaysOpen};
 ghost use Rattle.row_table.specs.Tables.{no_schema};
-ghost use Rattle.keeper_sqlite.specs.Own.{IsOwned, IsOwnStore, IsShutByFault, IsTold, Stands, told_rows};
+ghost use Rattle.keeper_sqlite.specs.Own.{IsOwned, IsOwnStore, IsShutByFault, IsTold, Stands, decided, is_told, told_rows, undecided};
 ghost use Rattle.keeper_sqlite.specs.Statements.{IsCommitted, IsLoaded};
 ghost use Rattle.keeper_sqlite.specs.Causes.{cause_of, counted, faults_after, IsNotRead};
 
@@ -147,6 +147,8 @@ impl<S: Alter + Drop> SqliteKeeper<S> {
 impl<S: Alter + Drop> Keeper for SqliteKeeper<S> {
     ghost Tells = { λ k. IsTold S.Store k.connection k.is_own };
 
+    ghost is_told = { λ k. is_told S.Store k.connection k.is_own };
+
     ghost rows = { λ k. told_rows S.Store k.connection };
 
     ghost faults = { λ k. k.faults };
@@ -204,4 +206,6 @@ impl<S: Alter + Drop> Keeper for SqliteKeeper<S> {
             Err(error) => Err(self.refused(error)),
         }
     }
+
+    ghost decides = { λ k. (decided, undecided) };
 }
