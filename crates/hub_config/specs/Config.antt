@@ -7,6 +7,7 @@ use Rattle.scope_names.specs.declared.custom.CustomRow.{CustomRow}
 use Rattle.hub_rows.specs.declared.limits.Limits.{Limits}
 use Rattle.hub_rows.specs.declared.records.Group.{Group}
 use Rattle.hub_rows.specs.declared.records.Role.{Role}
+use Rattle.hub_opening.specs.Kept.{MakeTable}
 use Rattle.hub_opening.specs.declared.config.ConfigUser.{ConfigUser}
 use Rattle.hub_opening.specs.declared.config.ConfigService.{ConfigService}
 use Rattle.hub_opening.specs.declared.config.ConfigToken.{ConfigToken}
@@ -20,13 +21,13 @@ use Rattle.hub_config.specs.Forms.{target_in}
 use Rattle.hub_config.specs.Places.{pool, proxy, limits, listen}
 use Rattle.hub_config.specs.People.{user_of, group_of, service_of, role_of, token_of, custom_of}
 use Rattle.hub_config.specs.Managed.{managed, are_apart}
-use Rattle.hub_config.specs.Custom.{MakeTable, all_declared}
+use Rattle.hub_config.specs.Custom.{all_declared}
 
 -- ---- the hub
 
 abbrev pub hub_from : (List (List ℕ) × (Option (List ℕ) × Limits))
-    × ((List ConfigUser × (List Group × List ConfigService)) × (List Role × List ConfigToken)) → HubConfig
-hub_from ((targets, (hub_url, limits)), ((users, (groups, services)), (roles, tokens))) = record {
+    × ((List ConfigUser × (List Group × List ConfigService)) × (List Role × (List ConfigToken × List CustomRow))) → HubConfig
+hub_from ((targets, (hub_url, limits)), ((users, (groups, services)), (roles, (tokens, custom_scopes)))) = record {
   pool = targets;
   hub_url = hub_url;
   limits = limits;
@@ -36,6 +37,7 @@ hub_from ((targets, (hub_url, limits)), ((users, (groups, services)), (roles, to
   services = services;
   roles = roles;
   tokens = tokens;
+  custom_scopes = custom_scopes;
 }
 
 abbrev pub hub : Data → Option HubConfig
@@ -43,7 +45,8 @@ hub value = option_map hub_from
     (pair (pair (pool value) (pair (optional target_in (codes "hub_url") value) (limits value)))
     (pair (pair (listed user_of (codes "users") value)
     (pair (listed group_of (codes "groups") value) (listed service_of (codes "services") value)))
-    (pair (listed role_of (codes "roles") value) (listed token_of (codes "tokens") value))))
+    (pair (listed role_of (codes "roles") value)
+    (pair (listed token_of (codes "tokens") value) (listed custom_of (codes "custom_scopes") value)))))
 
 -- ---- the whole
 
@@ -52,16 +55,14 @@ known_keys =
     codes "listen" ∷ codes "pool" ∷ codes "command" ∷ codes "proxy_api" ∷ codes "proxy_secret" ∷ codes "hub_url" ∷ codes "limits"
     ∷ codes "users" ∷ codes "groups" ∷ codes "services" ∷ codes "roles" ∷ codes "tokens" ∷ codes "custom_scopes" ∷ []
 
-abbrev pub file_from : ((Option (List ℕ) × (List (List ℕ) × Option (List ℕ × List ℕ)))
-    × (List CustomRow × List ConfigManaged)) × HubConfig → FileConfig
-file_from (((listen, (command, proxy)), (custom_scopes, managed)), hub) =
-    record { hub = hub; custom_scopes = custom_scopes; managed = managed; listen = listen; command = command; proxy = proxy }
+abbrev pub file_from : ((Option (List ℕ) × (List (List ℕ) × Option (List ℕ × List ℕ))) × List ConfigManaged) × HubConfig → FileConfig
+file_from (((listen, (command, proxy)), managed), hub) =
+    record { hub = hub; managed = managed; listen = listen; command = command; proxy = proxy }
 
 abbrev pub config_of : Data → Option FileConfig
 config_of value = table_with known_keys value
     (option_map file_from
-    (pair (pair (pair (listen value) (pair (listed as_str (codes "command") value) (proxy value)))
-    (pair (listed custom_of (codes "custom_scopes") value) (managed value)))
+    (pair (pair (pair (listen value) (pair (listed as_str (codes "command") value) (proxy value))) (managed value))
     (hub value)))
 
 abbrev pub config_in : List ℕ → Option FileConfig
@@ -74,8 +75,8 @@ config_in bytes =
 
 -- the declared custom scopes make a table, no others are used, and the services with a program are apart
 pub record IsSound (c : FileConfig) : Type 0 where
-  pub table : MakeTable c.custom_scopes
-  pub declared : all_declared c.custom_scopes c.hub ≡ true
+  pub table : MakeTable c.hub.custom_scopes
+  pub declared : all_declared c.hub.custom_scopes c.hub ≡ true
   pub apart : are_apart c.hub.pool c.managed ≡ true
 
 -- what reading a configuration answers

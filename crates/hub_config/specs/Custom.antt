@@ -1,7 +1,7 @@
--- Custom scopes: which are declared, and when their rows make a table.
-use Rattle.std.specs.Prelude.{Bool, true, ◌&&◌, List, Ok}
+-- Custom scopes: which are declared.
+use Rattle.std.specs.Prelude.{Bool, true, ◌&&◌, List}
 use Rattle.std.specs.List.{list_all}
-use Rattle.scope_names.specs.Refusals.{is_declared, IsAnswer}
+use Rattle.scope_names.specs.Refusals.{is_declared}
 use Rattle.scope_names.specs.declared.action.Action.TheVariants.{Custom}
 use Rattle.scope_names.specs.declared.action.Action.{Action}
 use Rattle.scope_names.specs.declared.custom.CustomRow.{CustomRow}
@@ -22,7 +22,3 @@ abbrev pub all_declared : List CustomRow → HubConfig → Bool
 all_declared rows c =
     list_all (λ role. list_all (scope_is_declared rows) role.scopes) c.roles
     && list_all (λ token. list_all (scope_is_declared rows) token.scopes) c.tokens
-
--- the rows make a table
-abbrev pub MakeTable : List CustomRow → Type 0
-MakeTable rows = IsAnswer rows (Ok rows)

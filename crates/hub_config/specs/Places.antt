@@ -5,7 +5,7 @@ use Rattle.server_life.specs.Pools.{are_distinct}
 use Rattle.hub_rows.specs.declared.limits.Limits.{Limits}
 use Rattle.hub_opening.specs.Opening.{greatest_limits}
 use Rattle.hub_config.specs.Settings.{pair, optional, listed, limit, table_with}
-use Rattle.hub_config.specs.Forms.{target_in, secret_of, address_of}
+use Rattle.hub_config.specs.Forms.{target_in, secret_of, address_in}
 
 -- ---- places
 
@@ -31,7 +31,7 @@ proxy value =
     option_and_then proxy_from (pair (optional target_in (codes "proxy_api") value) (optional secret_of (codes "proxy_secret") value))
 
 abbrev pub listen : Data → Option (Option (List ℕ))
-listen value = optional address_of (codes "listen") value
+listen value = optional address_in (codes "listen") value
 
 -- ---- limits
 

@@ -5,7 +5,6 @@ use hub_kit::names::ServiceName;
 use hub_kit::target::Target;
 use hub_kit::text::Text;
 use hub_opening::config::HubConfig;
-use scope_names::custom::CustomRow;
 
 /// A service whose program the hub starts, and to which requests under `/services/NAME` go.
 #[derive(Drop)]
@@ -24,8 +23,6 @@ pub struct ConfigManaged {
 pub struct FileConfig {
     /// What a hub begins with.
     pub hub: HubConfig,
-    /// The declared custom scopes, of which a table can be made.
-    pub custom_scopes: List<CustomRow>,
     /// The services that have a program: no two of one name or at one target, and none at a target of the pool.
     pub managed: List<ConfigManaged>,
     /// Where the hub listens, `HOST:PORT`, in the text that was given.

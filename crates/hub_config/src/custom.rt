@@ -1,6 +1,7 @@
 //! Custom scopes: which are declared.
 ghost use Rattle.std.specs.Prelude.{◌≡◌, false, None, IfOk, IfErr, IfSome};
 ghost use Rattle.std.specs.List.{list_all};
+ghost use Rattle.hub_opening.specs.Kept.{MakeTable};
 ghost use Rattle.hub_config.specs.Custom as spec;
 
 use crate::setting::ConfigError;
@@ -62,8 +63,8 @@ pub(crate) fn all_declared(table: &ScopeTable, hub: &HubConfig) -> bool
 
 /// The table of these rows, if they make one.
 pub(crate) fn table_of(alloc: Global, rows: &[CustomRow]) -> Result<Option<ScopeTable>, ConfigError>
-    ensures some { IfOk result (λ made. IfSome made (λ table. (table ≡ rows.now) × spec.MakeTable rows.now)) }
-    ensures none { IfOk result (λ made. made ≡ None → ¬ (spec.MakeTable rows.now)) }
+    ensures some { IfOk result (λ made. IfSome made (λ table. (table ≡ rows.now) × MakeTable rows.now)) }
+    ensures none { IfOk result (λ made. made ≡ None → ¬ (MakeTable rows.now)) }
     ensures err { IfErr result (λ e. e ≡ ConfigError.Memory) }
 {
     match ScopeTable::new(alloc, rows) {

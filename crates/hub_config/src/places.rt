@@ -5,8 +5,9 @@ ghost use Rattle.hub_config.specs.Settings.{Gives, pair};
 ghost use Rattle.hub_config.specs.Settings as settings;
 ghost use Rattle.hub_config.specs.Places as spec;
 
-use crate::forms::{Address, Secret};
+use crate::forms::Secret;
 use crate::setting::{ConfigError, Setting, both, has_only, limit, listed, optional};
+use addresses::address::Address;
 use hub_kit::list::List;
 use hub_kit::target::Target;
 use hub_kit::text::Text;

@@ -38,22 +38,29 @@ impl Setting for HubConfig {
         );
         let rights = both(
             listed::<Role>(alloc, value, "roles"),
-            listed::<ConfigToken>(alloc, value, "tokens"),
+            both(
+                listed::<ConfigToken>(alloc, value, "tokens"),
+                listed::<CustomRow>(alloc, value, "custom_scopes"),
+            ),
         );
         match both(places, both(people, rights)) {
-            Ok(((pool, (hub_url, limits)), ((users, (groups, services)), (roles, tokens)))) => Ok(
-                HubConfig {
-                    pool,
-                    hub_url,
-                    limits,
-                    no_trail: false,
-                    users,
-                    groups,
-                    services,
-                    roles,
-                    tokens,
-                },
-            ),
+            Ok(
+                (
+                    (pool, (hub_url, limits)),
+                    ((users, (groups, services)), (roles, (tokens, custom_scopes))),
+                ),
+            ) => Ok(HubConfig {
+                pool,
+                hub_url,
+                limits,
+                no_trail: false,
+                users,
+                groups,
+                services,
+                roles,
+                tokens,
+                custom_scopes,
+            }),
             Err(error) => Err(error),
         }
     }
@@ -95,14 +102,10 @@ impl Setting for FileConfig {
             listen(alloc, value),
             both(listed::<Text>(alloc, value, "command"), proxy(alloc, value)),
         );
-        let beside = both(
-            listed::<CustomRow>(alloc, value, "custom_scopes"),
-            managed(alloc, value),
-        );
-        match both(both(edge, beside), HubConfig::read(alloc, value)) {
-            Ok((((listen, (command, proxy)), (custom_scopes, managed)), hub)) => Ok(FileConfig {
+        let beside = both(edge, managed(alloc, value));
+        match both(beside, HubConfig::read(alloc, value)) {
+            Ok((((listen, (command, proxy)), managed), hub)) => Ok(FileConfig {
                 hub,
-                custom_scopes,
                 managed,
                 listen,
                 command,
@@ -151,7 +154,7 @@ fn is_sound(alloc: Global, config: &FileConfig) -> Result<bool, ConfigError>
     if !are_apart(config.hub.pool.as_slice(), config.managed.as_slice()) {
         return Ok(false);
     }
-    match table_of(alloc, config.custom_scopes.as_slice()) {
+    match table_of(alloc, config.hub.custom_scopes.as_slice()) {
         Ok(Some(table)) => Ok(all_declared(&table, &config.hub)),
         Ok(None) => Ok(false),
         Err(error) => Err(error),

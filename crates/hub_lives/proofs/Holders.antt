@@ -1,6 +1,7 @@
 -- What holds of the live servers because they are those that hold a lease, and what a change of one lease keeps of it.
 use Rattle.std.proofs.Common.{ℕ, zero, suc, ◌≡◌, ◌≢◌, ◌+◌, ◌<◌, ◌⊎◌, inl, inr, Bool, true, false, cond, not, List, [], ◌∷◌, length, set, get_or, Option, Some, None, refl, sym, ap, subst, ◌∙◌, arith, slice_get, replicate, is_some}
-use Rattle.std.specs.Prelude.{AllPairs, All, MatchBool, ◌&&◌}
+use Rattle.std.specs.Prelude.{AllPairs, All, MatchBool, Contains, ◌≤◌, ◌&&◌}
+use Rattle.std.proofs.lemmas.Bool.{cases_lt}
 use Rattle.std.specs.List.{find}
 use Rattle.std.specs.Ordering.{nat_cmp, eq_by_cmp}
 use Rattle.std.specs.Cmp.Lexicographic.{same_text, other_text}
@@ -413,3 +414,97 @@ begins_is lives later t u i g l h one put key first taken at life =
     let pool : u.pool ≡ t.pool = ap (λ (x : LeaseTable). x.pool) taken.2 in
     let next : u.next ≡ t.next + 1 = ap (λ (x : LeaseTable). x.next) taken.2 in
     λ i. record { pool = pool i; lives = rows i; next = next i }
+
+-- ---- a lease that was kept
+
+-- the place of a target that no live server holds is free
+pub free_place : (lives : Lives) (t : LeaseTable) (i : ℕ) (target : Target) → AreHolders lives t → IsOneToOne t → slice_get t.pool i ≡ Some target → is_leased lives target ≡ false
+    → IsFree t.leased i
+free_place lives t i target h one at none =
+    let lt : i < length t.pool = (read_at t.pool i target target at).0 in
+    let places = one.places in
+    let w = within t.leased i (omega (arith, lt, places)) in
+    by w.0 w.1
+  where
+    by : (o : Option Held) → slice_get t.leased i ≡ Some o → IsFree t.leased i
+    by None e = e
+    by (Some held) e =
+        let p = h.held i held.generation held.server e in
+        absurd (clash (is_leased lives target)
+        (in_any (λ (l : Leased). same l.target target) lives held.generation p.0 p.1 (is_same p.0.target target (some_is p.0.target target (sym p.2.1 ∙ at)))) none)
+
+pub not_live : (lives : Lives) (t : LeaseTable) (g : ℕ) → AreHolders lives t → get lives g ≡ None → IsNotLive t.leased g
+not_live lives t g h none = λ i key holds. let p = h.held i g key holds in none_some p.0 (sym none ∙ p.1)
+
+-- a generation that wasn't live holds the target at a free place
+pub held_more : (lives : Lives) (t : LeaseTable) (i g : ℕ) (l : Leased) → AreHolders lives t → IsFree t.leased i → slice_get t.pool i ≡ Some l.target → generation_of l.life.phase ≡ Some g
+    → get lives g ≡ None → AreHolders (insert lives g l) (record { pool = t.pool; leased = set t.leased i (Some (a_lease g l.server)); next = t.next })
+held_more lives t i g l h free at phase none = record {
+  held = λ j k key p. elim (get_put t.leased i (Some (a_lease g l.server)) j (Some (a_lease k key)) p) [
+    | inl x ↦
+        let same = same_lease (a_lease g l.server) (a_lease k key) x.1 in (
+          l,
+          subst (λ (n : ℕ). get (insert lives g l) n ≡ Some l) same.0 (get_same lives g l),
+          (
+            subst (λ (s : ServerKey). HoldsLease (set t.leased i (Some (a_lease g l.server))) j k s) (sym same.1) p,
+            subst (λ (n : ℕ). slice_get t.pool n ≡ Some l.target) x.0 at,
+          ),
+        )
+    | inr x ↦
+        let old = h.held j k key x.1 in (
+          old.0,
+          get_other lives g l k (λ e. none_some old.0 (sym none ∙ ap (get lives) (sym e) ∙ old.1)) ∙ old.1,
+          (put_there t.leased i (Some (a_lease g l.server)) j x.0 ∙ old.2.0, old.2.1),
+        )
+  ];
+  live = λ k w is. get_after lives g l k w _ is
+      (λ e same. (
+        i,
+        subst (λ (n : ℕ). IsAt u i n w) (sym e) (subst (λ (x : Leased). IsAt u i g x) same (put_here t.leased i (Some (a_lease g l.server)) None free, at)),
+      ))
+      (λ e old.
+      let p = h.live k w old in (
+        p.0,
+        (
+          put_there t.leased i (Some (a_lease g l.server)) p.0 (λ q. not_free t.leased p.0 k w.server (subst (IsFree t.leased) q free) p.1.0) ∙ p.1.0,
+          p.1.1,
+        ),
+      ));
+  phases = λ k w is. get_after lives g l k w _ is
+      (λ e same. subst (λ (n : ℕ). generation_of w.life.phase ≡ Some n) (sym e) (subst (λ (x : Leased). generation_of x.life.phase ≡ Some g) same phase))
+      (λ e old. h.phases k w old);
+}
+  where
+    u : LeaseTable
+    u = record { pool = t.pool; leased = set t.leased i (Some (a_lease g l.server)); next = t.next }
+
+-- and so it is among those that were changed
+pub adopted_too : (lives later : Lives) (t u : LeaseTable) (i g : ℕ) (l : Leased) → AreHolders lives t → later ≡ insert lives g l
+    → u ≡ record { pool = t.pool; leased = set t.leased i (Some (a_lease g l.server)); next = t.next } → IsFree t.leased i → slice_get t.pool i ≡ Some l.target
+    → generation_of l.life.phase ≡ Some g → get lives g ≡ None → AreHolders later u
+adopted_too lives later t u i g l h put held free at phase none =
+    subst (λ (m : Lives). AreHolders m u) (sym put)
+    (subst (λ (v : LeaseTable). AreHolders (insert lives g l) v) (sym held) (held_more lives t i g l h free at phase none))
+
+-- ---- the place of a target
+
+-- what was found at a place
+pub place_found : (pool : List Target) (i : ℕ) (x target : Target) → i < length pool → x ≡ get_or pool i x → same x target ≡ true → slice_get pool i ≡ Some target
+place_found pool i x target lt here e = at_place pool i x lt here ∙ ap Some (same_is x target e)
+
+-- no place up to this one
+pub not_yet : (pool : List Target) (i : ℕ) (x target : Target) → i < length pool → x ≡ get_or pool i x → same x target ≡ false
+    → ((k : ℕ) → k < i → slice_get pool k ≡ Some target → ⊥) → (k : ℕ) → k < i + 1 → slice_get pool k ≡ Some target → ⊥
+not_yet pool i x target lt here e before k less at = by (cases_lt k i)
+  where
+    by : (k < i) ⊎ (i ≤ k) → ⊥
+    by (inl earlier) = before k earlier at
+    by (inr later) =
+        let now : k ≡ i = omega (arith, later, less) in
+        let one : x ≡ target = some_is x target (sym (at_place pool i x lt here) ∙ ap (slice_get pool) (sym now) ∙ at) in
+        clash (same x target) (is_same x target one) e
+
+pub nowhere : (pool : List Target) (i : ℕ) (target : Target) → length pool ≤ i → ((k : ℕ) → k < i → slice_get pool k ≡ Some target → ⊥) → Contains pool target → ⊥
+nowhere pool i target past before there =
+    let lt = there.1 in
+    before there.0 (omega (arith, lt, past)) (at_place pool there.0 target lt (sym there.2))

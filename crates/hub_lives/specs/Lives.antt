@@ -11,7 +11,7 @@ use Rattle.server_life.specs.declared.life.Life.{Life}
 use Rattle.server_life.specs.declared.life.LifeEvent.{LifeEvent}
 use Rattle.server_life.specs.declared.life.LifeRefusal.{LifeRefusal}
 use Rattle.server_life.specs.declared.life.LifeRefusal.TheVariants.{OldGeneration}
-use Rattle.server_life.specs.declared.life.Phase.TheVariants.{Stopped, Spawning}
+use Rattle.server_life.specs.declared.life.Phase.TheVariants.{Stopped, Adopting, Spawning}
 use Rattle.server_life.specs.declared.life.Todo.{Todo}
 use Rattle.server_life.specs.LifeTable.{generation_of, life_after}
 use Rattle.server_life.specs.Owed.{owed as owed_in}
@@ -59,6 +59,10 @@ free_target pool lives = find (λ target. not (is_leased lives target)) pool
 abbrev pub leased_to : (pool : List (List ℕ)) → Lives → ℕ → ServerKey → Leased
 leased_to pool lives g server =
     record { server = server; target = unwrap_or (free_target pool lives) []; life = record { phase = Spawning g; stop_asked = false } }
+
+-- a target that a server holds for a generation whose program may still run
+abbrev pub adopted_by : ServerKey → (target : List ℕ) → ℕ → Leased
+adopted_by server target g = record { server = server; target = target; life = record { phase = Adopting g; stop_asked = false } }
 
 -- ---- a step of a life
 

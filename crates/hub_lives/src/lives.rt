@@ -1,5 +1,5 @@
 //! The servers that are live.
-ghost use Rattle.std.specs.Prelude.{◌≡◌, ◌≢◌, ◌+◌, ◌-◌, ◌<◌, ◌≤◌, ◌^◌, true, Some, None, IfOk, OnOk, OnErr, MatchOption};
+ghost use Rattle.std.specs.Prelude.{◌≡◌, ◌≢◌, ◌+◌, ◌-◌, ◌<◌, ◌≤◌, ◌^◌, true, false, Contains, slice_get, Some, None, IfOk, OnOk, OnErr, MatchOption};
 ghost use Rattle.server_life.specs.declared.life.Phase.TheVariants.{Stopped};
 ghost use Rattle.std.specs.Option.{option_copied};
 ghost use Rattle.std.specs.FinMap as map;
@@ -227,6 +227,43 @@ impl Lives {
         Ok(())
     }
 
+    /// Leases a target of the pool to a server for a generation that was given out before, and whose program may still run. Where memory is
+    /// wanting, all is as it was.
+    pub fn adopt(
+        &mut self,
+        alloc: Global,
+        server: &ServerKey,
+        target: &Target,
+        generation: u64,
+    ) -> Result<(), AllocError>
+        requires pooled { Contains self.old.pool target.now }
+        requires free { spec.is_leased self.old.lives target.now ≡ false }
+        requires rests { spec.lease_of self.old.lives server.now ≡ None }
+        requires fresh { map.get self.old.lives generation ≡ None }
+        requires below { generation < self.old.next }
+        requires room { spec.owed self.old.lives < 2 ^ 63 }
+        ensures ok { OnOk result (self.new ≡ record self.old { lives = map.insert self.old.lives generation (spec.adopted_by server.now target.now generation) }) }
+        ensures err { OnErr result (self.new ≡ self.old) }
+    {
+        // it tells that a server has one lease
+        let _read = self.leases.next_free();
+        let Some(place) = place_of(self.leases.pool().as_slice(), target) else {
+            unreachable!()
+        };
+        let lease = Leased {
+            server: *server,
+            target: target.copy(alloc)?,
+            life: Life {
+                phase: Phase::Adopting(generation),
+                stop_asked: false,
+            },
+        };
+        keyed_rows::insert_row(&mut self.rows, generation, lease)?;
+        self.leases.hold(place, generation, *server);
+        self.still_owed += entries_owed(Phase::Adopting(generation));
+        Ok(())
+    }
+
     /// Takes the last start back, as if it hadn't been.
     pub fn take_back(&mut self)
         requires last { map.contains_key self.old.lives (self.old.next - 1) ≡ true }
@@ -278,4 +315,16 @@ fn write_life(rows: &mut BTreeMap<u64, Leased>, generation: u64, life: Life)
         Some(lease) => lease.life = life,
         None => {}
     }
+}
+
+/// The place of a target in the pool, if it is there.
+fn place_of(pool: &[Target], target: &Target) -> Option<usize>
+    ensures { MatchOption result (Contains pool.now target.now → ⊥) (λ place. slice_get pool.now place ≡ Some target.now) }
+{
+    for place in 0..pool.len() {
+        if pool[place] == *target {
+            return Some(place);
+        }
+    }
+    None
 }

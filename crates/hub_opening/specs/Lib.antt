@@ -1,1 +1,4 @@
+pub mod Kept
 pub mod Opening
+pub mod Changing
+pub mod Adopting

@@ -1,17 +1,13 @@
--- The state that a book begins with: exactly the rows of its configuration, and a history without entries.
-use Rattle.std.specs.Prelude.{◌≡◌, ℕ, ◌+◌, Bool, not, ◌||◌, ◌&&◌, nat_lt, List, [], ◌∷◌, ◌++◌, map, fold, codes, Option, Some, None, Result, Ok, Err, if◌then◌else◌}
+-- The state that a book begins with: what its keeper has, all that is configured on top of it, and a history without entries.
+use Rattle.std.specs.Prelude.{◌≡◌, ℕ, ◌+◌, Bool, not, ◌||◌, ◌&&◌, nat_lt, List, [], ◌++◌, fold, codes, Option, Some, None, Result, Ok, Err, if◌then◌else◌}
 use Rattle.std.specs.List.{filter}
 use Rattle.std.specs.Option.{is_some}
-use Rattle.std.specs.FinMap.{FinMap, empty, get, contains_key, insert, len, values}
+use Rattle.std.specs.FinMap.{FinMap, get, contains_key, insert, len}
 use Rattle.std.specs.declared.cmp.Ordering.{Ordering}
 use Rattle.hub_devices.specs.Faults.{Rises}
 use Rattle.hub_kit.specs.Hashes.{hash_text}
 use Rattle.hub_kit.specs.KeyOrder.{name_cmp}
-use Rattle.scope_filters.specs.declared.holder.Owner.{Owner}
-use Rattle.scope_filters.specs.declared.holder.Owner.TheVariants.{User as OfUser, Service as OfService}
-use Rattle.hub_rows.specs.declared.changes.RowChange.{RowChange}
-use Rattle.hub_rows.specs.declared.changes.RowChange.TheVariants.{Put}
-use Rattle.hub_rows.specs.declared.rows.Row.TheVariants as Row
+use Rattle.scope_names.specs.declared.custom.CustomRow.{CustomRow}
 use Rattle.hub_rows.specs.declared.limits.Limits.{Limits}
 use Rattle.hub_rows.specs.declared.records.User.{User}
 use Rattle.hub_rows.specs.declared.records.Group.{Group}
@@ -22,38 +18,25 @@ use Rattle.hub_rows.specs.declared.records.Next.{Next}
 use Rattle.hub_tables.specs.Hashes.{row_with}
 use Rattle.hub_tables.specs.Lookups.{next_of}
 use Rattle.hub_tables.specs.State.{State}
+use Rattle.keeper.specs.declared.keeper.Item.{Item}
 use Rattle.keeper.specs.declared.keeper.KeeperError.{KeeperError}
 use Rattle.keeper.specs.declared.keeper.KeeperError.TheVariants.{Failed, Memory as Wanting}
-use Rattle.keeper.specs.declared.keeper.Row.{Row}
-use Rattle.keeper.specs.Rows.{Rows, AreSame, Lists, no_rows}
+use Rattle.keeper.specs.Rows.{Rows, after_items}
+use Rattle.row_rules.specs.Across.{has_owner}
+use Rattle.hub_machine.specs.KeptRows.{Keeps}
 use Rattle.hub_machine.specs.State.{Hub}
+use Rattle.hub_opening.specs.Kept.{AreLoaded, IsRefusedRow, lives_in, lost_target, with_generations}
+use Rattle.hub_opening.specs.declared.changed.Changed.{Changed}
 use Rattle.hub_opening.specs.declared.config.ConfigUser.{ConfigUser}
 use Rattle.hub_opening.specs.declared.config.ConfigService.{ConfigService}
 use Rattle.hub_opening.specs.declared.config.ConfigToken.{ConfigToken}
 use Rattle.hub_opening.specs.declared.config.HubConfig.{HubConfig}
 use Rattle.hub_opening.specs.declared.open_error.OpenError.{OpenError}
-use Rattle.hub_opening.specs.declared.open_error.OpenError.TheVariants.{KeeperFault, BadRow, Full, Memory}
+use Rattle.hub_opening.specs.declared.open_error.OpenError.TheVariants.{KeeperFault, BadRow, LostTarget, Full, Memory}
+use Rattle.hub_opening.specs.declared.opening.Opened.{Opened}
 
 abbrev pub greatest_limits : Limits
 greatest_limits = record { users = 100000; groups = 10000; services = 1000; roles = 1000; servers = 100; tokens = 1000000; shares = 100000; codes = 100000; trail_bytes = 1073741824 }
-
-abbrev pub no_tables : Limits → State
-no_tables limits = record {
-  users = empty;
-  groups = empty;
-  services = empty;
-  roles = empty;
-  tokens = empty;
-  servers = empty;
-  leases = empty;
-  shares = empty;
-  codes = empty;
-  clients = empty;
-  grant_codes = empty;
-  nexts = empty;
-  limits = limits;
-  scopes = [];
-}
 
 -- ---- users
 
@@ -112,10 +95,6 @@ with_role t r = record t { roles = insert t.roles r.name (role_row t r) }
 
 -- ---- tokens
 
-abbrev pub has_owner : State → Owner → Bool
-has_owner t (OfUser u) = contains_key t.users u
-has_owner t (OfService v) = contains_key t.services v
-
 abbrev pub next_token : State → ℕ
 next_token t = next_of t (codes "token")
 
@@ -143,90 +122,137 @@ with_token now t k = if is_added t k then added now k t else t
 
 -- ---- the whole
 
--- its users, groups, services, roles and tokens, each in order
-abbrev pub opened_tables : HubConfig → ℕ → State
-opened_tables c now =
-    let people = fold (with_user now) (no_tables c.limits) c.users in
+-- its users, groups, services, roles and tokens, each in order, on top of what is there
+abbrev pub configured : HubConfig → ℕ → State → State
+configured c now t =
+    let people = fold (with_user now) t c.users in
     let services = fold with_service (fold with_group people c.groups) c.services in
     fold (with_token now) (fold with_role services c.roles) c.tokens
 
-abbrev pub opened : HubConfig → ℕ → Hub
-opened c now =
-    record { tables = opened_tables c now; lives = empty; length = 0; cost = 0; pool = c.pool; hub_url = c.hub_url; no_trail = c.no_trail }
+-- the kept tables, with a generation for each lease and all that is configured
+abbrev pub opened_tables : HubConfig → ℕ → (kept : State) → State
+opened_tables c now kept = configured c now (with_generations kept)
 
--- the rows of such tables, kind by kind
-abbrev pub rows_in : State → List RowChange
-rows_in t =
-    map (λ row. Put (Row.User row)) (values t.users)
-    ++ (map (λ row. Put (Row.Group row)) (values t.groups)
-    ++ (map (λ row. Put (Row.Service row)) (values t.services)
-    ++ (map (λ row. Put (Row.Role row)) (values t.roles)
-    ++ (map (λ row. Put (Row.Token row)) (values t.tokens)
-    ++ (map (λ row. Put (Row.OAuthClient row)) (values t.clients)
-    ++ map (λ row. Put (Row.Next row)) (values t.nexts))))))
+-- a hub over these tables, with a history without entries
+abbrev pub over : HubConfig → State → Hub
+over c t = record {
+  tables = t;
+  lives = lives_in t;
+  length = 0;
+  cost = 0;
+  pool = c.pool;
+  hub_url = c.hub_url;
+  no_trail = c.no_trail;
+}
+
+abbrev pub opened : HubConfig → ℕ → (kept : State) → Hub
+opened c now kept = over c (opened_tables c now kept)
 
 -- the kind with its limit, where it has more rows
 abbrev pub past_limit : (kind limit rows : ℕ) → Option (ℕ × ℕ) → Option (ℕ × ℕ)
 past_limit kind limit rows other = if nat_lt limit rows then Some (kind, limit) else other
 
--- the first kind that has more rows than its limit, and this limit. Clients of services are no more than services, and next numbers have no limit
+-- of shares, share codes, clients and codes of the grant
+abbrev pub first_full_grant : State → Option (ℕ × ℕ)
+first_full_grant t =
+    past_limit 8 t.limits.shares (len t.shares)
+    (past_limit 9 t.limits.codes (len t.codes)
+    (past_limit 10 2000 (len t.clients)
+    (past_limit 11 t.limits.codes (len t.grant_codes) None)))
+
+-- the first kind that has more rows than its limit, and this limit. Servers, leases and next numbers have none
 abbrev pub first_full : State → Option (ℕ × ℕ)
 first_full t =
     past_limit 1 t.limits.users (len t.users)
     (past_limit 2 t.limits.groups (len t.groups)
     (past_limit 3 t.limits.services (len t.services)
     (past_limit 4 t.limits.roles (len t.roles)
-    (past_limit 5 t.limits.tokens (len t.tokens) None))))
+    (past_limit 5 t.limits.tokens (len t.tokens) (first_full_grant t)))))
 
 -- ---- what opening answers
 
--- this is the state of the configuration, and no kind has more rows than its limit
-pub record IsSetUp (c : HubConfig) (now : ℕ) (state : Hub) : Type 0 where
-  pub hub : state ≡ opened c now
-  pub fits : first_full (opened_tables c now) ≡ None
+-- after these items a keeper that had the rows of the first tables has those of the others
+abbrev pub Brings : State → List Item → State → Type 0
+Brings before items after = (has : Rows) → Keeps has before → Keeps (after_items items has) after
 
-abbrev pub IsMade : HubConfig → ℕ → Result Hub OpenError → Type 0
-IsMade c now (Ok hub) = IsSetUp c now hub
-IsMade c now (Err KeeperFault) = ⊥
-IsMade c now (Err (BadRow kind key)) = ⊥
-IsMade c now (Err (Full kind limit)) = first_full (opened_tables c now) ≡ Some (kind, limit)
-IsMade c now (Err Memory) = Unit {0}
+-- the lease that has no target in the pool
+abbrev pub IsLostOr : (pool : List (List ℕ)) → State → OpenError → Type 0
+IsLostOr pool t KeeperFault = ⊥
+IsLostOr pool t (BadRow number name) = ⊥
+IsLostOr pool t (LostTarget target) = lost_target pool t ≡ Some target
+IsLostOr pool t (Full number limit) = ⊥
+IsLostOr pool t Memory = Unit {0}
+
+-- the machine over changed tables, unless memory was wanting
+abbrev pub IsOver : HubConfig → Changed → Result Opened OpenError → Type 0
+IsOver c changed (Ok made) = (made.machine ≡ over c changed.tables) × (made.batch ≡ changed.batch)
+IsOver c changed (Err KeeperFault) = ⊥
+IsOver c changed (Err (BadRow number name)) = ⊥
+IsOver c changed (Err (LostTarget target)) = ⊥
+IsOver c changed (Err (Full number limit)) = ⊥
+IsOver c changed (Err Memory) = Unit {0}
+
+-- the state that the configuration makes of kept tables, and the items that bring a keeper there
+pub record IsMadeOf (c : HubConfig) (now : ℕ) (kept : State) (made : Opened) : Type 0 where
+  pub hub : made.machine ≡ opened c now kept
+  pub pooled : lost_target c.pool kept ≡ None
+  pub fits : first_full (opened_tables c now kept) ≡ None
+  pub brings : Brings kept made.batch (opened_tables c now kept)
+
+abbrev pub IsMade : HubConfig → ℕ → (kept : State) → Result Opened OpenError → Type 0
+IsMade c now kept (Ok made) = IsMadeOf c now kept made
+IsMade c now kept (Err KeeperFault) = ⊥
+IsMade c now kept (Err (BadRow number name)) = ⊥
+IsMade c now kept (Err (LostTarget target)) = lost_target c.pool kept ≡ Some target
+IsMade c now kept (Err (Full number limit)) = (lost_target c.pool kept ≡ None) × (first_full (opened_tables c now kept) ≡ Some (number, limit))
+IsMade c now kept (Err Memory) = Unit {0}
+
+-- this is the state that the configuration makes of the rows that the keeper had: each reads, none breaks a rule across rows, each lease
+-- has its target in the pool, and no kind has more rows than its limit
+pub record IsSetUp (c : HubConfig) (now : ℕ) (Tells : Type 0) (has : Rows) (state : Hub) : Type 0 where
+  pub kept : State
+  pub loaded : AreLoaded c.limits c.custom_scopes Tells has kept
+  pub hub : state ≡ opened c now kept
+  pub pooled : lost_target c.pool kept ≡ None
+  pub fits : first_full (opened_tables c now kept) ≡ None
 
 abbrev pub refusal_of : KeeperError → OpenError
 refusal_of Failed = KeeperFault
 refusal_of Wanting = Memory
 
--- no row reads yet
-abbrev pub none_read : List Row → Result (Unit {0}) OpenError
-none_read [] = Ok tt
-none_read (row ∷ rest) = Err (BadRow row.kind row.key)
-
--- the first of the rows
-pub record IsFirst (rows : Rows) (number : ℕ) (name : List ℕ) : Type 0 where
-  pub first : Row
-  pub rest : List Row
-  pub listed : Lists rows (first ∷ rest)
-  pub kind : first.kind ≡ number
-  pub key : first.key ≡ name
-
 -- why the keeper's rows aren't taken
-abbrev pub IsUnread : (Tells : Type 0) → Rows → (before after : ℕ) → OpenError → Type 0
-IsUnread Tells rows before after KeeperFault = Rises before after
-IsUnread Tells rows before after (BadRow kind key) = Tells → IsFirst rows kind key
-IsUnread Tells rows before after (Full kind limit) = ⊥
-IsUnread Tells rows before after Memory = Unit {0}
+abbrev pub IsUnread : Limits → List CustomRow → (Tells : Type 0) → Rows → (before after : ℕ) → OpenError → Type 0
+IsUnread limits scopes Tells has before after KeeperFault = Rises before after
+IsUnread limits scopes Tells has before after (BadRow number name) = IsRefusedRow limits scopes Tells has number name
+IsUnread limits scopes Tells has before after (LostTarget target) = ⊥
+IsUnread limits scopes Tells has before after (Full number limit) = ⊥
+IsUnread limits scopes Tells has before after Memory = Unit {0}
 
 -- why rows aren't kept
 abbrev pub IsUnkept : (before after : ℕ) → OpenError → Type 0
 IsUnkept before after KeeperFault = Rises before after
-IsUnkept before after (BadRow kind key) = ⊥
-IsUnkept before after (Full kind limit) = ⊥
+IsUnkept before after (BadRow number name) = ⊥
+IsUnkept before after (LostTarget target) = ⊥
+IsUnkept before after (Full number limit) = ⊥
 IsUnkept before after Memory = Unit {0}
 
--- why a book isn't opened, by the rows and the faults of the keeper that is handed in, and whether its rows are told. Until rows are
--- read back no row reads
+-- the first of the kept leases, in the order of targets, that has no target in the pool
+pub record IsLost (c : HubConfig) (Tells : Type 0) (has : Rows) (target : List ℕ) : Type 0 where
+  pub kept : State
+  pub loaded : AreLoaded c.limits c.custom_scopes Tells has kept
+  pub lost : lost_target c.pool kept ≡ Some target
+
+-- the first kind that would have more rows than its limit
+pub record IsFull (c : HubConfig) (now : ℕ) (Tells : Type 0) (has : Rows) (number limit : ℕ) : Type 0 where
+  pub kept : State
+  pub loaded : AreLoaded c.limits c.custom_scopes Tells has kept
+  pub pooled : lost_target c.pool kept ≡ None
+  pub full : first_full (opened_tables c now kept) ≡ Some (number, limit)
+
+-- why a book isn't opened, by the rows and the faults of the keeper that is handed in, and whether its rows are told
 abbrev pub IsRefused : HubConfig → ℕ → (Tells : Type 0) → Rows → (before after : ℕ) → OpenError → Type 0
-IsRefused c now Tells rows before after KeeperFault = Rises before after
-IsRefused c now Tells rows before after (BadRow kind key) = Tells → IsFirst rows kind key
-IsRefused c now Tells rows before after (Full kind limit) = (Tells → AreSame rows no_rows) × (first_full (opened_tables c now) ≡ Some (kind, limit))
-IsRefused c now Tells rows before after Memory = Unit {0}
+IsRefused c now Tells has before after KeeperFault = Rises before after
+IsRefused c now Tells has before after (BadRow number name) = IsRefusedRow c.limits c.custom_scopes Tells has number name
+IsRefused c now Tells has before after (LostTarget target) = IsLost c Tells has target
+IsRefused c now Tells has before after (Full number limit) = IsFull c now Tells has number limit
+IsRefused c now Tells has before after Memory = Unit {0}

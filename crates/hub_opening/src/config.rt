@@ -10,6 +10,7 @@ use hub_rows::limits::Limits;
 use hub_rows::records::{Group, Role};
 use scope_filters::holder::Owner;
 use scope_filters::scope::RawScope;
+use scope_names::custom::CustomRow;
 use server_life::Pool;
 
 /// A user that is there from the opening on.
@@ -57,6 +58,8 @@ pub struct HubConfig {
     /// None is named `user` or `admin`: these every hub has, and to set one up is a mistake that the reader of the configuration refuses.
     pub roles: List<Role>,
     pub tokens: List<ConfigToken>,
+    /// The declared custom scopes. They make a table of scopes, as the reader of the configuration found.
+    pub custom_scopes: List<CustomRow>,
 }
 
 /// The limits of a hub that lowers none: numbers of rows, and the bytes of the trail.

@@ -4,10 +4,12 @@ ghost use Rattle.std.specs.FinMap.{contains_key};
 ghost use Rattle.std.specs.List.{filter};
 ghost use Rattle.std.specs.Option.{option_copied};
 ghost use Rattle.hub_tables.specs.Hashes.{FitsToken};
-ghost use Rattle.hub_tables.specs.Lookups.{next_of};
 ghost use Rattle.hub_tables.specs.State.{State};
+ghost use Rattle.row_rules.specs.Across as across;
+ghost use Rattle.hub_opening.specs.Changing.{Leads};
 ghost use Rattle.hub_opening.specs.Opening as spec;
 
+use crate::changed::Changed;
 use crate::config::{ConfigService, ConfigToken, ConfigUser, HubConfig};
 use hub_kit::hashes::hash_of;
 use hub_kit::key::Key;
@@ -15,7 +17,6 @@ use hub_kit::list::List;
 use hub_kit::moment::Moment;
 use hub_kit::names::{GroupName, ServiceName, UserName};
 use hub_kit::text::Text;
-use hub_rows::changes::RowChange;
 use hub_rows::client_id::ClientId;
 use hub_rows::counter::Counter;
 use hub_rows::records::{Group, Next, OAuthClient, Role, Service, Token, User};
@@ -25,23 +26,23 @@ use keyed_rows::sorted::Sorted;
 use scope_filters::holder::Owner;
 use scope_filters::scope::RawScope;
 use std::alloc::{AllocError, Global};
-use table_changes::change;
 
 /// A row of a configuration.
 trait Configured: Sized {
     /// The tables with it, which are opened at a moment.
     ghost put: { ℕ → State → Self → State };
 
-    fn put(&self, alloc: Global, tables: &mut Tables, now: Moment) -> Result<(), AllocError>
-        ensures { OnOk result (tables.new ≡ put now tables.old self.now) };
+    fn put(&self, alloc: Global, changed: &mut Changed, now: Moment) -> Result<(), AllocError>
+        ensures tables { OnOk result (changed.new.tables ≡ put now changed.old.tables self.now) }
+        ensures leads { OnOk result (Leads changed.old changed.new) };
 }
 
 impl Configured for ConfigUser {
     ghost put = { spec.with_user };
 
-    fn put(&self, _: Global, tables: &mut Tables, now: Moment) -> Result<(), AllocError> {
-        let row = user_row(tables.user(&self.name), self, now);
-        change(tables, RowChange::Put(Row::User(row)))
+    fn put(&self, alloc: Global, changed: &mut Changed, now: Moment) -> Result<(), AllocError> {
+        let row = user_row(changed.tables.user(&self.name), self, now);
+        changed.put(alloc, Row::User(row))
     }
 }
 
@@ -49,25 +50,25 @@ impl Configured for Group {
     ghost put = { λ now. spec.with_group };
 
     /// Puts it where none of its name is there, with those of its users that are.
-    fn put(&self, alloc: Global, tables: &mut Tables, _: Moment) -> Result<(), AllocError> {
-        if tables.group(&self.name).is_some() {
+    fn put(&self, alloc: Global, changed: &mut Changed, _: Moment) -> Result<(), AllocError> {
+        if changed.tables.group(&self.name).is_some() {
             return Ok(());
         }
-        let users = kept_names(alloc, tables, &self.users)?;
+        let users = kept_names(alloc, &changed.tables, &self.users)?;
         let row = Group {
             name: self.name,
             users,
         };
-        change(tables, RowChange::Put(Row::Group(row)))
+        changed.put(alloc, Row::Group(row))
     }
 }
 
 impl Configured for ConfigService {
     ghost put = { λ now. spec.with_service };
 
-    fn put(&self, alloc: Global, tables: &mut Tables, _: Moment) -> Result<(), AllocError> {
-        add_service(tables, self.name)?;
-        put_client(tables, client_of(alloc, self)?)
+    fn put(&self, alloc: Global, changed: &mut Changed, _: Moment) -> Result<(), AllocError> {
+        add_service(alloc, changed, self.name)?;
+        put_client(alloc, changed, client_of(alloc, self)?)
     }
 }
 
@@ -75,41 +76,42 @@ impl Configured for Role {
     ghost put = { λ now. spec.with_role };
 
     /// Puts it in place of the one of its name, with those of its holders that are there.
-    fn put(&self, alloc: Global, tables: &mut Tables, _: Moment) -> Result<(), AllocError> {
-        let row = role_row(alloc, tables, self)?;
-        change(tables, RowChange::Put(Row::Role(row)))
+    fn put(&self, alloc: Global, changed: &mut Changed, _: Moment) -> Result<(), AllocError> {
+        let row = role_row(alloc, &changed.tables, self)?;
+        changed.put(alloc, Row::Role(row))
     }
 }
 
 impl Configured for ConfigToken {
     ghost put = { spec.with_token };
 
-    fn put(&self, alloc: Global, tables: &mut Tables, now: Moment) -> Result<(), AllocError> {
+    fn put(&self, alloc: Global, changed: &mut Changed, now: Moment) -> Result<(), AllocError> {
         let name = Counter::token(alloc)?;
         let hash = hash_of(alloc, self.text.as_bytes())?;
-        let id = next_token(tables, name.as_text());
-        if !tables.token_is_new(id, &hash) || !has_owner(tables, &self.owner) {
+        let id = changed.next_of(name.as_text());
+        if !changed.tables.token_is_new(id, &hash) || !has_owner(&changed.tables, &self.owner) {
             return Ok(());
         }
         let Some(next) = id.checked_add(1) else {
             return Err(AllocError);
         };
         let row = token_row(alloc, id, now, hash, self)?;
-        add_token(tables, row, Next { name, next })
+        add_token(alloc, changed, row, Next { name, next })
     }
 }
 
 /// Puts rows of one kind, in order.
 fn put_all<C: Configured>(
     alloc: Global,
-    tables: &mut Tables,
+    changed: &mut Changed,
     rows: &[C],
     now: Moment,
 ) -> Result<(), AllocError>
-    ensures { OnOk result (tables.new ≡ fold (C.put now) tables.old rows.now) }
+    ensures tables { OnOk result (changed.new.tables ≡ fold (C.put now) changed.old.tables rows.now) }
+    ensures leads { OnOk result (Leads changed.old changed.new) }
 {
     for row in rows {
-        row.put(alloc, tables, now)?;
+        row.put(alloc, changed, now)?;
     }
     Ok(())
 }
@@ -198,13 +200,14 @@ fn user_row(kept: Option<&User>, user: &ConfigUser, now: Moment) -> User
 }
 
 /// Puts the row of a service, where none of its name is there.
-fn add_service(tables: &mut Tables, name: ServiceName) -> Result<(), AllocError>
-    ensures { OnOk result (tables.new ≡ record tables.old { services = spec.put_new name (record { name = name }) tables.old.services }) }
+fn add_service(alloc: Global, changed: &mut Changed, name: ServiceName) -> Result<(), AllocError>
+    ensures tables { OnOk result (changed.new.tables ≡ record changed.old.tables { services = spec.put_new name (record { name = name }) changed.old.tables.services }) }
+    ensures leads { OnOk result (Leads changed.old changed.new) }
 {
-    if tables.service(&name).is_some() {
+    if changed.tables.service(&name).is_some() {
         return Ok(());
     }
-    change(tables, RowChange::Put(Row::Service(Service { name })))
+    changed.put(alloc, Row::Service(Service { name }))
 }
 
 /// The client of OAuth that a configured service is.
@@ -225,31 +228,26 @@ fn client_of(alloc: Global, service: &ConfigService) -> Result<Option<OAuthClien
 }
 
 /// Puts a client, if there is one, in place of the one of its id.
-fn put_client(tables: &mut Tables, client: Option<OAuthClient>) -> Result<(), AllocError>
-    ensures { OnOk result (tables.new ≡ record tables.old { clients = spec.with_client client tables.old.clients }) }
+fn put_client(
+    alloc: Global,
+    changed: &mut Changed,
+    client: Option<OAuthClient>,
+) -> Result<(), AllocError>
+    ensures tables { OnOk result (changed.new.tables ≡ record changed.old.tables { clients = spec.with_client client changed.old.tables.clients }) }
+    ensures leads { OnOk result (Leads changed.old changed.new) }
 {
     match client {
-        Some(client) => change(tables, RowChange::Put(Row::OAuthClient(client))),
+        Some(client) => changed.put(alloc, Row::OAuthClient(client)),
         None => Ok(()),
     }
 }
 
 fn has_owner(tables: &Tables, owner: &Owner) -> bool
-    ensures { result ≡ spec.has_owner tables.now owner.now }
+    ensures { result ≡ across.has_owner tables.now owner.now }
 {
     match owner {
         Owner::User(user) => user.is_there(tables),
         Owner::Service(service) => service.is_there(tables),
-    }
-}
-
-/// The number of the next token.
-fn next_token(tables: &Tables, name: &Text) -> u64
-    ensures { result ≡ next_of tables.now name.now }
-{
-    match tables.next_of(name) {
-        Some(row) => row.next,
-        None => 1,
     }
 }
 
@@ -285,26 +283,33 @@ fn token_row(
 }
 
 /// Adds a token whose number, hash and owner were found to fit.
-fn add_token(tables: &mut Tables, token: Token, next: Next) -> Result<(), AllocError>
-    requires { FitsToken tables.old.tokens token }
-    ensures { OnOk result (tables.new ≡ spec.both_put token next tables.old) }
+fn add_token(
+    alloc: Global,
+    changed: &mut Changed,
+    token: Token,
+    next: Next,
+) -> Result<(), AllocError>
+    requires { FitsToken changed.old.tables.tokens token }
+    ensures tables { OnOk result (changed.new.tables ≡ spec.both_put token next changed.old.tables) }
+    ensures leads { OnOk result (Leads changed.old changed.new) }
 {
-    change(tables, RowChange::Put(Row::Token(token)))?;
-    change(tables, RowChange::Put(Row::Next(next)))
+    changed.put(alloc, Row::Token(token))?;
+    changed.put(alloc, Row::Next(next))
 }
 
 /// Puts the rows of the configuration.
-pub fn put_rows(
+pub(crate) fn put_rows(
     alloc: Global,
-    tables: &mut Tables,
+    changed: &mut Changed,
     config: &HubConfig,
     now: Moment,
 ) -> Result<(), AllocError>
-    ensures { OnOk result (tables.new ≡ fold (spec.with_token now) (fold spec.with_role (fold spec.with_service (fold spec.with_group (fold (spec.with_user now) tables.old config.now.users) config.now.groups) config.now.services) config.now.roles) config.now.tokens) }
+    ensures tables { OnOk result (changed.new.tables ≡ spec.configured config.now now changed.old.tables) }
+    ensures leads { OnOk result (Leads changed.old changed.new) }
 {
-    put_all(alloc, tables, config.users.as_slice(), now)?;
-    put_all(alloc, tables, config.groups.as_slice(), now)?;
-    put_all(alloc, tables, config.services.as_slice(), now)?;
-    put_all(alloc, tables, config.roles.as_slice(), now)?;
-    put_all(alloc, tables, config.tokens.as_slice(), now)
+    put_all(alloc, changed, config.users.as_slice(), now)?;
+    put_all(alloc, changed, config.groups.as_slice(), now)?;
+    put_all(alloc, changed, config.services.as_slice(), now)?;
+    put_all(alloc, changed, config.roles.as_slice(), now)?;
+    put_all(alloc, changed, config.tokens.as_slice(), now)
 }

@@ -48,7 +48,7 @@ fn a_whole_file_is_read(rt: HostRuntime) {
     assert!(rt; read.hub.limits.users == 40);
     assert!(rt; read.hub.limits.groups == 10_000);
     assert!(rt; read.managed.len() == 1);
-    assert!(rt; read.custom_scopes.len() == 2);
+    assert!(rt; read.hub.custom_scopes.len() == 2);
 }
 
 const SAID: [(&str, &str); 7] = [

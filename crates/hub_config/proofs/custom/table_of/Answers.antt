@@ -1,4 +1,4 @@
-use Rattle.hub_config.proofs.Sound.{never_both}
+use Rattle.hub_opening.proofs.Scopes.{never_both}
 use Rattle.hub_config.proofs.custom.table_of.Goals as goal
 
 pub returns-else-is_memory : goal.returns-else-is_memory

@@ -1,5 +1,6 @@
 use Rattle.std.proofs.Common.{ap, sym, subst, ◌∙◌}
-use Rattle.hub_config.specs.Custom.{MakeTable, all_declared}
+use Rattle.hub_opening.specs.Kept.{MakeTable}
+use Rattle.hub_config.specs.Custom.{all_declared}
 use Rattle.hub_config.specs.Managed.{are_apart}
 use Rattle.hub_config.proofs.reading.is_sound.Goals as goal
 

@@ -7,6 +7,6 @@ use Rattle.hub_config.proofs.reading.FileConfigSetting.read.Goals as goal
 pub returns-in-Ok : goal.returns-in-Ok
 returns-in-Ok c =
     let edge = c.both-edge.ensures _ _ c.listen.ensures (c.both.ensures _ _ c.listed.ensures c.proxy.ensures) in
-    let beside = c.both-beside.ensures _ _ c.listed-2.ensures c.managed.ensures in
+    let beside = c.both-beside.ensures _ _ edge c.managed.ensures in
     as_said known_keys (view c.args.value.now) _ (sym c.has_known_keys.ensures ∙ c.if-not-has_known_keys.false)
-    ∙ ap (option_map file_from) (c.in-Ok.ensures _ _ (c.both-2.ensures _ _ edge beside) c.read.ensures)
+    ∙ ap (option_map file_from) (c.in-Ok.ensures _ _ beside c.read.ensures)

@@ -1,0 +1,8 @@
+use Rattle.std.proofs.Common.{◌∙◌, ap, sym, length}
+use Rattle.std.proofs.lemmas.List.{length-map}
+use Rattle.std.specs.FinMap.{entries, len-entries}
+use Rattle.hub_opening.proofs.opening.count_of_grant_codes.Goals as goal
+
+pub returns : goal.returns
+returns c =
+    c.len.ensures.value ∙ ap length c.grant_codes.ensures.rows ∙ length-map (entries c.args.tables.now.grant_codes) (λ e. e.1) ∙ sym (len-entries c.args.tables.now.grant_codes)
