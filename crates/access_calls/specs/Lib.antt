@@ -1,3 +1,4 @@
 pub mod CodeCalls
+pub mod GrantCalls
 pub mod ShareCalls
 pub mod TokenCalls

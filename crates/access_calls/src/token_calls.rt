@@ -210,7 +210,11 @@ fn written(filter: Filter) -> RawFilter
 }
 
 /// Whether there is no room for a token more once those that are over have gone, or no number is left for it.
-fn is_without_room(alloc: Global, tables: &Tables, over: &[u64]) -> Result<bool, AllocError>
+pub(crate) fn is_without_room(
+    alloc: Global,
+    tables: &Tables,
+    over: &[u64],
+) -> Result<bool, AllocError>
     ensures { IfOk result (λ b. b ≡ spec.is_without_room tables.now over.now) }
 {
     let next = next_id(alloc, tables)?;
@@ -247,13 +251,26 @@ fn token_rows(alloc: Global, token: Token, over: &[u64]) -> Result<Vec<RowChange
     requires { token.id < 2 ^ 64 - 1 }
     ensures { IfOk result (λ rows. rows.items ≡ spec.token_rows token over.now) }
 {
-    let next = token.id + 1;
     let mut rows = Vec::new(alloc);
+    push_token(alloc, &mut rows, token, over)?;
+    Ok(rows)
+}
+
+/// Adds the rows of a new token.
+pub(crate) fn push_token(
+    alloc: Global,
+    rows: &mut Vec<RowChange>,
+    token: Token,
+    over: &[u64],
+) -> Result<(), AllocError>
+    requires { token.id < 2 ^ 64 - 1 }
+    ensures { OnOk result (rows.new.items ≡ rows.old.items ++ spec.token_rows token over.now) }
+{
+    let next = token.id + 1;
     rows.push(RowChange::Put(Row::Token(token)))?;
     let name = Counter::token(alloc)?;
     rows.push(RowChange::Put(Row::Next(Next { name, next })))?;
-    push_removals(&mut rows, over)?;
-    Ok(rows)
+    push_removals(rows, over)
 }
 
 /// Adds the removals of some tokens.

@@ -10,7 +10,7 @@ use Rattle.hub_paths.specs.Paths.{path_of}
 use Rattle.hub_api.specs.declared.method.Method.{Method}
 use Rattle.hub_api.specs.declared.method.Method.TheVariants.{Get, Post, Put, Patch, Delete, Other}
 use Rattle.hub_paths.specs.declared.paths.Path.{Path}
-use Rattle.hub_paths.specs.declared.paths.Path.TheVariants.{Bare, Version, Info, Identity, Users, User, Activity, DefaultServer, NamedServer, Tokens, Token, Shared, GivenShares, DefaultShares, ServerShares, GivenCodes, DefaultCodes, ServerCodes, Groups, Group, Members, Services, Service, Roles, Role}
+use Rattle.hub_paths.specs.declared.paths.Path.TheVariants.{Bare, Version, Info, Identity, Users, User, Activity, DefaultServer, NamedServer, Tokens, Token, Shared, GivenShares, DefaultShares, ServerShares, GivenCodes, DefaultCodes, ServerCodes, Groups, Group, Members, Services, Service, Roles, Role, Authorize, Trade}
 use Rattle.hub_api.specs.declared.refusal.ApiRefusal.{ApiRefusal}
 use Rattle.hub_api.specs.declared.refusal.ApiRefusal.TheVariants.{NoPath, NoMethod}
 
@@ -133,6 +133,14 @@ role Put q = calls.put_role q
 role Delete q = calls.delete_role q
 role method q = Err NoMethod
 
+abbrev pub authorize : Method → Request → Result Call ApiRefusal
+authorize Get q = calls.get_authorize q
+authorize method q = Err NoMethod
+
+abbrev pub trade : Method → Request → Result Call ApiRefusal
+trade Post q = calls.post_trade q
+trade method q = Err NoMethod
+
 -- /hub/api and /hub/api/ are the same, and behind a last slash stands the name of the default server
 abbrev pub at_path : Path → Method → Request → Result Call ApiRefusal
 at_path Bare method q = version method
@@ -160,6 +168,8 @@ at_path Services method q = services method q
 at_path Service method q = service method q
 at_path Roles method q = roles method q
 at_path Role method q = role method q
+at_path Authorize method q = authorize method q
+at_path Trade method q = trade method q
 
 -- ---- the request
 

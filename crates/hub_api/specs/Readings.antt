@@ -2,15 +2,17 @@
 use Rattle.std.specs.Prelude.{ℕ, Bool, List, [], codes, Option, Result, Ok}
 use Rattle.http_wire.specs.declared.request.Request.{Request}
 use Rattle.hub_machine.specs.declared.call.Call.{Call}
-use Rattle.hub_machine.specs.declared.call.Call.TheVariants.{GetIdentity, GetUsers, PostUsers, GetUser, PostUser, PatchUser, DeleteUser, PostActivity, PostServer, DeleteServer, GetTokens, PostToken, GetToken, DeleteToken, GetShares, AcceptCode, PostShare, PatchShare, DeleteShares, GetCodes, PostCode, DeleteCodes, GetGroups, GetGroup, PostGroup, DeleteGroup, JoinGroup, LeaveGroup, GetServices, GetService, PostService, DeleteService, GetRoles, GetRole, PutRole, DeleteRole}
+use Rattle.hub_machine.specs.declared.call.Call.TheVariants.{GetIdentity, GetUsers, PostUsers, GetUser, PostUser, PatchUser, DeleteUser, PostActivity, PostServer, DeleteServer, GetTokens, PostToken, GetToken, DeleteToken, GetShares, AcceptCode, PostShare, PatchShare, DeleteShares, GetCodes, PostCode, DeleteCodes, GetGroups, GetGroup, PostGroup, DeleteGroup, JoinGroup, LeaveGroup, GetServices, GetService, PostService, DeleteService, GetRoles, GetRole, PutRole, DeleteRole, GetAuthorize, PostTrade}
 use Rattle.hub_rows.specs.declared.keys.Recipient.{Recipient}
+use Rattle.oauth_flow.specs.declared.asks.AuthorizeAsk.{AuthorizeAsk}
+use Rattle.oauth_flow.specs.declared.asks.TradeAsk.{TradeAsk}
 use Rattle.scope_filters.specs.declared.scope.RawScope.{RawScope}
 use Rattle.shares.specs.declared.lists.CodesOf.TheVariants as Codes
 use Rattle.shares.specs.declared.lists.SharesOf.TheVariants as Shares
 use Rattle.request_parts.specs.Steps.{◌>>=◌}
 use Rattle.hub_kit.specs.declared.names.ServerKey.{ServerKey}
 use Rattle.request_parts.specs.Names.{server_of as named_server}
-use Rattle.request_parts.specs.Queries.{decimal_of}
+use Rattle.request_parts.specs.Queries.{decimal_of, query_value}
 use Rattle.hub_api.specs.Names.{name_at, read_at}
 use Rattle.hub_api.specs.Queries.{id_of, page_of, server_of}
 use Rattle.hub_paths.specs.declared.paths.Path.{Path}
@@ -376,3 +378,32 @@ abbrev pub delete_role : Request → Result Call ApiRefusal
 delete_role q = do
   role ← role_at q
   Ok (DeleteRole role)
+
+-- ---- the authorization code grant: whether a field is missing is for its own rules
+
+-- what the query of an authorization says
+abbrev pub authorize_ask : Request → AuthorizeAsk
+authorize_ask q = record {
+  response_type = query_value (codes "response_type") q.query;
+  client_id = query_value (codes "client_id") q.query;
+  redirect_uri = query_value (codes "redirect_uri") q.query;
+  state = query_value (codes "state") q.query;
+}
+
+-- what the body of a trade says, which is a form
+abbrev pub trade_ask : Request → TradeAsk
+trade_ask q = record {
+  grant_type = query_value (codes "grant_type") q.body;
+  code = query_value (codes "code") q.body;
+  redirect_uri = query_value (codes "redirect_uri") q.body;
+  client_id = query_value (codes "client_id") q.body;
+  client_secret = query_value (codes "client_secret") q.body;
+}
+
+-- GET /oauth2/authorize
+abbrev pub get_authorize : Request → Result Call ApiRefusal
+get_authorize q = Ok (GetAuthorize (authorize_ask q))
+
+-- POST /oauth2/token
+abbrev pub post_trade : Request → Result Call ApiRefusal
+post_trade q = Ok (PostTrade (trade_ask q))

@@ -3,6 +3,7 @@
 //! and the bytes of a reply in `reply_texts`; connections read requests by `http_wire` and ask these calls of `hub_core`.
 #![tactic(auto)]
 
+mod grants;
 mod groups;
 mod laws;
 mod method;

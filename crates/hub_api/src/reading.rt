@@ -6,6 +6,7 @@ ghost use Rattle.hub_api.specs.Calls as spec;
 ghost use Rattle.hub_api.specs.Readings as calls;
 ghost use Rattle.hub_machine.specs.Draws.{draws};
 
+use crate::grants::{authorize, trade};
 use crate::groups::{group, groups, members};
 use crate::method::{Method, method_of};
 use crate::parts::server_of;
@@ -86,6 +87,8 @@ fn at_path(alloc: Global, path: Path, method: Method, request: &Request) -> Resu
         Path::Service => service(alloc, method, request),
         Path::Roles => roles(alloc, method, request),
         Path::Role => role(alloc, method, request),
+        Path::Authorize => authorize(alloc, method, request),
+        Path::Trade => trade(alloc, method, request),
     }
 }
 
@@ -126,7 +129,11 @@ pub fn draws(call: &Call) -> bool
     ensures { result ≡ draws call.now }
 {
     match call {
-        Call::PostServer { .. } | Call::PostToken { .. } | Call::PostCode { .. } => true,
+        Call::PostServer { .. }
+        | Call::PostToken { .. }
+        | Call::PostCode { .. }
+        | Call::GetAuthorize { .. }
+        | Call::PostTrade { .. } => true,
         _ => false,
     }
 }

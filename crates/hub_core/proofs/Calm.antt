@@ -40,6 +40,12 @@ use Rattle.admin_rules.specs.Servers as servers
 use Rattle.admin_rules.specs.Services as services
 use Rattle.admin_rules.specs.Roles as roles
 use Rattle.admin_rules.specs.Purges.{changes_of, has_member, without_member, is_held_by_user, without_user, is_token_of_user, is_server_of_user, is_share_of_user, is_code_of_user, is_called, clients_of_user, is_grant_of_user, user_rows, is_held_by_group, without_group, is_share_to_group, group_rows, is_held_by_service, without_service, is_token_of_service, is_client, client_of_service, service_rows, is_share_of_server, is_code_of_server, server_rows}
+use Rattle.oauth_flow.specs.Clients.{client_of}
+use Rattle.oauth_flow.specs.Codes.{expired_codes, made_code}
+use Rattle.oauth_flow.specs.declared.asks.AuthorizeAsk.{AuthorizeAsk}
+use Rattle.oauth_flow.specs.declared.asks.OAuthError.{OAuthError}
+use Rattle.scope_filters.specs.declared.holder.Owner.{Owner}
+use Rattle.scope_filters.specs.declared.holder.Owner.TheVariants as Own
 use Rattle.shares.specs.Codes as rules_on_codes
 use Rattle.shares.specs.Granting.{grant_share, revoke_share}
 use Rattle.shares.specs.Lists.{shares_of}
@@ -55,15 +61,15 @@ use Rattle.hub_machine.specs.Replies.{Answer, refuses, refuses_with, gives, chan
 use Rattle.hub_machine.specs.Trails.{in_trail}
 use Rattle.hub_machine.specs.Apply.{LifeStep, is_past_trail}
 use Rattle.access_calls.specs.CodeCalls as on_codes
+use Rattle.access_calls.specs.GrantCalls as on_grants
 use Rattle.access_calls.specs.ShareCalls as on_shares
 use Rattle.hub_calls.specs.Calling.{after_rows, by_rules, done}
 use Rattle.hub_calls.specs.Facts.{user_at}
 use Rattle.hub_calls.specs.RoleCalls.{role_of}
 use Rattle.hub_calls.specs.Starts.{may_start, on_begin, on_target, post_server, start_rules}
 use Rattle.hub_calls.specs.Stops.{at_rest, goes_on, on_lease, on_stop}
-use Rattle.hub_calls.specs.UserCalls.{get_version}
 use Rattle.hub_core.specs.Needs.{needs, needs_token, is_there}
-use Rattle.hub_core.specs.Answer.{Judgement, row, if_there, by_token, by_call, action_rules, caller, is_past, named}
+use Rattle.hub_core.specs.Answer.{Judgement, row, if_there, if_no_client, by_nobody, by_token, by_call, action_rules, caller, is_past, named}
 use Rattle.hub_core.specs.History.{Answers}
 use Rattle.hub_machine.specs.declared.change.Change.{Change}
 use Rattle.hub_machine.specs.declared.change.Change.TheVariants.{Rows}
@@ -71,12 +77,13 @@ use Rattle.hub_machine.specs.declared.refusal.Refusal.{Refusal}
 use Rattle.hub_machine.specs.declared.refusal.Refusal.TheVariants.{SeenPast, NotFound, TrailFull, Full as TooMany, Rule as NotSo}
 use Rattle.hub_machine.specs.declared.call.Asked.{Asked}
 use Rattle.hub_machine.specs.declared.call.Call.{Call}
-use Rattle.hub_machine.specs.declared.call.Call.TheVariants.{PostUsers, PostUser, PatchUser, DeleteUser, PostActivity, PostServer, DeleteServer, PostToken, DeleteToken, AcceptCode, PostShare, PatchShare, DeleteShares, PostCode, DeleteCodes, PostGroup, DeleteGroup, JoinGroup, LeaveGroup, PostService, DeleteService, PutRole, DeleteRole}
+use Rattle.hub_machine.specs.declared.call.Call.TheVariants.{PostUsers, PostUser, PatchUser, DeleteUser, PostActivity, PostServer, DeleteServer, PostToken, DeleteToken, AcceptCode, PostShare, PatchShare, DeleteShares, PostCode, DeleteCodes, PostGroup, DeleteGroup, JoinGroup, LeaveGroup, PostService, DeleteService, PutRole, DeleteRole, GetAuthorize, PostTrade}
 
 -- the call issues a token or a share code
 abbrev pub issues : Call → Bool
 issues (PostToken ask) = true
 issues (PostCode server scopes expires_in) = true
+issues (PostTrade ask) = true
 issues call = false
 
 not_old : true ≡ false → ⊥
@@ -99,6 +106,7 @@ pub record IsCalm (test : RowChange → Bool) : Type 0 where
   pub remove_share : (x : ShareKey) → test (Remove (RowKey.Share x)) ≡ false
   pub remove_code : (x : ℕ) → test (Remove (RowKey.ShareCode x)) ≡ false
   pub remove_client : (x : List ℕ) → test (Remove (RowKey.OAuthClient x)) ≡ false
+  pub put_grant : (x : OAuthCode) → test (Put (Row.OAuthCode x)) ≡ false
   pub remove_grant : (x : List ℕ) → test (Remove (RowKey.OAuthCode x)) ≡ false
 
 -- it finds no row of the answer's change
@@ -377,6 +385,27 @@ module _ (test : RowChange → Bool) (calm : IsCalm test) where
       let ids = on_codes.named_codes s.tables server id in
       calm_by_then (on_codes.removals ids) (good 204 []) (calm-map (λ id. Remove (RowKey.ShareCode id)) (λ id. calm.remove_code id) ids)
 
+  -- ---- codes of the grant
+
+  grant_put : (t : State) (over : List (List ℕ)) (text : List ℕ) (given : Option (List ℕ)) (code : OAuthCode) → Calm test (on_grants.put_code t over text given code)
+  grant_put t over text given code =
+      calm_by_or (first_refusal (on_grants.code_rules t over code)) (on_grants.granted code over text given)
+      (both (test (Put (Row.OAuthCode code))) (list_any test (on_grants.removals over)) (calm.put_grant code)
+      (calm-map (λ hash. Remove (RowKey.OAuthCode hash)) (λ hash. calm.remove_grant hash) over))
+
+  grant_to : (t : State) (now : ℕ) (text : List ℕ) (owner : Owner) (given : Option (List ℕ)) (client : OAuthClient) → Calm test (on_grants.grant_to t now text owner given client)
+  grant_to t now text (Own.User user) given client = grant_put t (expired_codes t now) text given (made_code client user text now)
+  grant_to t now text (Own.Service service) given client = tt
+
+  calm_by_client : (asks : Result OAuthClient OAuthError) (answer : OAuthClient → Answer) → ((client : OAuthClient) → Calm test (answer client)) → Calm test (on_grants.by_client asks answer)
+  calm_by_client (Ok client) answer h = h client
+  calm_by_client (Err e) answer h = tt
+
+  authorized : (s : Hub) (now : ℕ) (draw : Option (List ℕ)) (owner : Owner) (ask : AuthorizeAsk) → Calm test (on_grants.get_authorize s now draw owner ask)
+  authorized s now None owner ask = tt
+  authorized s now (Some draw) owner ask =
+      calm_by_client (client_of s.tables ask) (on_grants.grant_to s.tables now (draw_text draw) owner ask.state) (grant_to s.tables now (draw_text draw) owner ask.state)
+
   -- ---- each call that issues no token and no share code
 
   calm_by_row : (s : Hub) (may : Rights) (inside : Inside) (now : ℕ) (draw : Option (List ℕ)) (k : Token) (call : Call) → issues call ≡ false → Calm test (row s may inside now draw k call)
@@ -418,6 +447,8 @@ module _ (test : RowChange → Bool) (calm : IsCalm test) where
       ∷ rules.if_full 4 s.tables.limits.roles (len s.tables.roles) (cond (contains_key s.tables.roles x.name) 0 1) ∷ []) _ rows (one_role x (get s.tables.roles x.name)) e)
   calm_by_row s may inside now draw k (DeleteRole role) old = calm_by_rules s (roles.delete_role s.tables role) _
       (λ rows e. calm_by_ruled (rules.if_so (roles.is_fixed_role role) FixedRole ∷ []) _ rows (calm_by_if (contains_key s.tables.roles role) (Remove (RowKey.Role role) ∷ []) (one _ (calm.remove_role _))) e)
+  calm_by_row s may inside now draw k (GetAuthorize ask) old = authorized s now draw k.owner ask
+  calm_by_row s may inside now draw k (PostTrade ask) old = absurd (not_old old)
   calm_by_row s may inside now draw k _ old = tt
 
   -- ---- the frame
@@ -425,12 +456,16 @@ module _ (test : RowChange → Bool) (calm : IsCalm test) where
   calm_by_token : (s : Hub) (j : Judgement) (now : ℕ) (draw : Option (List ℕ)) (call : Call) (k : Option Token) → issues call ≡ false → Calm test (by_token s j now draw call k)
   calm_by_token s j now draw call None old = tt
   calm_by_token s j now draw call (Some k) old =
-      calm_by_or (first_refusal (action_rules j (needs call))) (if_there s j.may j.inside now draw k call)
+      calm_by_or (first_refusal (if_no_client s.tables call ∷ action_rules j (needs call))) (if_there s j.may j.inside now draw k call)
       (calm_by_or (first_refusal (if_so (not (is_there s.tables call)) NotFound ∷ [])) (row s j.may j.inside now draw k call) (calm_by_row s j.may j.inside now draw k call old))
 
-  pub calm_by_call : (s : Hub) (j : Judgement) (now : ℕ) (draw : Option (List ℕ)) (call : Call) (k : Option Token) (b : Bool) → issues call ≡ false → Calm test (cond b (by_token s j now draw call k) get_version)
+  calm_by_nobody : (s : Hub) (now : ℕ) (draw : Option (List ℕ)) (call : Call) → issues call ≡ false → Calm test (by_nobody s now draw call)
+  calm_by_nobody s now draw (PostTrade ask) old = absurd (not_old old)
+  calm_by_nobody s now draw _ old = tt
+
+  pub calm_by_call : (s : Hub) (j : Judgement) (now : ℕ) (draw : Option (List ℕ)) (call : Call) (k : Option Token) (b : Bool) → issues call ≡ false → Calm test (cond b (by_token s j now draw call k) (by_nobody s now draw call))
   calm_by_call s j now draw call k true old = calm_by_token s j now draw call k old
-  calm_by_call s j now draw call k false old = tt
+  calm_by_call s j now draw call k false old = calm_by_nobody s now draw call old
 
   calm_if : (r : Answer) (b : Bool) → Calm test r → Calm test (cond b (refuses TrailFull) r)
   calm_if r true h = tt

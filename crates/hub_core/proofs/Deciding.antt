@@ -12,8 +12,8 @@ use Rattle.roles.specs.Rights.{context, IsAllowed, Holds, IsGrantOf}
 use Rattle.hub_machine.specs.State.{Hub}
 use Rattle.hub_machine.specs.Replies.{Answer, refuses}
 use Rattle.hub_core.specs.Needs.{needs, needs_token}
-use Rattle.hub_calls.specs.UserCalls.{get_version}
-use Rattle.hub_core.specs.Answer.{Judgement, caller, is_past, named}
+use Rattle.hub_machine.specs.Trails.{in_trail}
+use Rattle.hub_core.specs.Answer.{Judgement, by_nobody, caller, is_past, named}
 use Rattle.hub_core.specs.Judged.{HeldOf, HasHeld, InsideOf, JudgesToken, ByRights}
 use Rattle.hub_core.specs.History.{Answers}
 use Rattle.hub_calls.specs.Rights.{may_of}
@@ -30,9 +30,9 @@ pub past : (s : Hub) (now : ℕ) (draw : Option (List ℕ)) (asked : Asked) (see
     → seen ≡ named asked.seen → length ≡ s.length → Answers s now draw asked (refuses (SeenPast seen length))
 past s now draw asked seen length h e f = record { judgement = nobody; judged = rw h tt; is = rw h (λ i. refuses (SeenPast (e i) (f i))) }
 
-pub version_by : (s : Hub) (now : ℕ) (draw : Option (List ℕ)) (asked : Asked) (r : Answer) → is_past s.length asked.seen ≡ false → needs_token asked.call ≡ false
-    → r ≡ get_version → Answers s now draw asked r
-version_by s now draw asked r h n e = record { judgement = nobody; judged = rw (h, n) tt; is = rw (h, n) e }
+pub tokenless : (s : Hub) (now : ℕ) (draw : Option (List ℕ)) (asked : Asked) (r : Answer) → is_past s.length asked.seen ≡ false → needs_token asked.call ≡ false
+    → r ≡ in_trail s (by_nobody s now draw asked.call) → Answers s now draw asked r
+tokenless s now draw asked r h n e = record { judgement = nobody; judged = rw (h, n) tt; is = rw (h, n) e }
 
 pub nobody_known : (s : Hub) (now : ℕ) (draw : Option (List ℕ)) (asked : Asked) → is_past s.length asked.seen ≡ false → needs_token asked.call ≡ true
     → caller s now asked ≡ None → Answers s now draw asked (refuses NoValidToken)

@@ -9,6 +9,15 @@ use Rattle.hub_rows.specs.declared.records.Token.{Token}
 use Rattle.hub_tables.specs.Changes.{puts_hashed}
 use Rattle.hub_tables.specs.Lookups.{is_default, next_of}
 use Rattle.shares.specs.Codes.{accept_code, expired_codes, make_code}
+use Rattle.oauth_flow.specs.Clients.{client_of}
+use Rattle.oauth_flow.specs.Codes.{expired_codes as expired_grants, made_code}
+use Rattle.oauth_flow.specs.Trades.{trade}
+use Rattle.oauth_flow.specs.declared.asks.AuthorizeAsk.{AuthorizeAsk}
+use Rattle.oauth_flow.specs.declared.asks.OAuthError.{OAuthError}
+use Rattle.oauth_flow.specs.declared.asks.TradeAsk.{TradeAsk}
+use Rattle.hub_rows.specs.declared.records.OAuthClient.{OAuthClient}
+use Rattle.hub_rows.specs.declared.records.OAuthCode.{OAuthCode}
+use Rattle.scope_filters.specs.declared.holder.Owner.{Owner}
 use Rattle.shares.specs.Granting.{grant_share, revoke_share}
 use Rattle.shares.specs.Lists.{shares_of}
 use Rattle.shares.specs.declared.allowed.ShareError.{ShareError}
@@ -37,9 +46,9 @@ use Rattle.hub_calls.specs.Calling.{done}
 use Rattle.hub_calls.specs.Facts.{user_at}
 use Rattle.hub_calls.specs.RoleCalls.{role_of}
 use Rattle.access_calls.specs.CodeCalls as on_codes
+use Rattle.access_calls.specs.GrantCalls as on_grants
 use Rattle.access_calls.specs.ShareCalls as on_shares
-use Rattle.access_calls.specs.TokenCalls.{made, new_token, post_token, token_rules}
-use Rattle.hub_calls.specs.UserCalls.{get_version}
+use Rattle.access_calls.specs.TokenCalls.{is_without_room, made, new_token, post_token, token_rules}
 use Rattle.hub_kit.specs.Hashes.{draw_text}
 use Rattle.hub_kit.specs.declared.names.ServerKey.{ServerKey}
 use Rattle.scope_filters.specs.declared.holder.Owner.TheVariants as Own
@@ -49,7 +58,7 @@ use Rattle.token_store.specs.Finding.{expired_tokens}
 use Rattle.token_store.specs.declared.issuing.TokenAsk.{TokenAsk}
 use Rattle.hub_calls.specs.Stops.{on_lease}
 use Rattle.hub_core.specs.Needs.{needs, needs_token, is_there}
-use Rattle.hub_core.specs.Answer.{Judgement, row, if_there, by_token, by_call, action_rules, caller, is_past, named}
+use Rattle.hub_core.specs.Answer.{Judgement, row, if_there, if_no_client, by_nobody, by_token, by_call, action_rules, caller, is_past, named}
 use Rattle.hub_core.specs.Current.{AreNumbered}
 use Rattle.hub_core.specs.History.{Answers, change_of}
 use Rattle.hub_core.specs.Carrying.{Carrier, Carried, MayBeDone, long_after}
@@ -64,7 +73,7 @@ use Rattle.hub_machine.specs.declared.refusal.Refusal.{Refusal}
 use Rattle.hub_machine.specs.declared.refusal.Refusal.TheVariants.{Full, Rule, SeenPast, NotFound, TrailFull, KeeperFault}
 use Rattle.hub_machine.specs.declared.call.Asked.{Asked}
 use Rattle.hub_machine.specs.declared.call.Call.{Call}
-use Rattle.hub_machine.specs.declared.call.Call.TheVariants.{PostUsers, PostUser, PatchUser, DeleteUser, PostActivity, PostServer, DeleteServer, PostToken, AcceptCode, PostShare, PatchShare, DeleteShares, PostCode, DeleteCodes, PostGroup, DeleteGroup, JoinGroup, LeaveGroup, PostService, DeleteService, PutRole, DeleteRole}
+use Rattle.hub_machine.specs.declared.call.Call.TheVariants.{PostUsers, PostUser, PatchUser, DeleteUser, PostActivity, PostServer, DeleteServer, PostToken, AcceptCode, PostShare, PatchShare, DeleteShares, PostCode, DeleteCodes, PostGroup, DeleteGroup, JoinGroup, LeaveGroup, PostService, DeleteService, PutRole, DeleteRole, GetAuthorize, PostTrade}
 
 -- ---- no row of an answer's change is found by a hash, and none is of the live servers, unless it starts a server
 
@@ -85,6 +94,7 @@ none_hashed = record {
   remove_share = λ x. refl;
   remove_code = λ x. refl;
   remove_client = λ x. refl;
+  put_grant = λ x. refl;
   remove_grant = λ x. refl;
 }
 
@@ -105,6 +115,7 @@ none_lives = record {
   remove_share = λ x. refl;
   remove_code = λ x. refl;
   remove_client = λ x. refl;
+  put_grant = λ x. refl;
   remove_grant = λ x. refl;
 }
 
@@ -139,6 +150,40 @@ code_lively s now (Some draw) server scopes life =
     told_lively s (make_code server scopes life text (next_of s.tables (codes "code")) now) (on_codes.put_code s over text)
     (λ code. lively_or s (first_refusal (on_codes.code_rules s.tables over code)) (on_codes.made code over text) tt)
 
+-- ---- codes of the grant
+
+client_lively : (s : Hub) (asks : Result OAuthClient OAuthError) (answer : OAuthClient → Answer) → ((client : OAuthClient) → Lively s (answer client)) → Lively s (on_grants.by_client asks answer)
+client_lively s (Ok client) answer h = h client
+client_lively s (Err e) answer h = tt
+
+grant_lively : (s : Hub) (now : ℕ) (text : List ℕ) (owner : Owner) (given : Option (List ℕ)) (client : OAuthClient) → Lively s (on_grants.grant_to s.tables now text owner given client)
+grant_lively s now text (Own.User user) given client =
+    let over = expired_grants s.tables now in
+    let code : OAuthCode = made_code client user text now in
+    lively_or s (first_refusal (on_grants.code_rules s.tables over code)) (on_grants.granted code over text given) tt
+grant_lively s now text (Own.Service service) given client = tt
+
+authorize_lively : (s : Hub) (now : ℕ) (draw : Option (List ℕ)) (owner : Owner) (ask : AuthorizeAsk) → Lively s (on_grants.get_authorize s now draw owner ask)
+authorize_lively s now None owner ask = tt
+authorize_lively s now (Some draw) owner ask =
+    client_lively s (client_of s.tables ask) (on_grants.grant_to s.tables now (draw_text draw) owner ask.state) (grant_lively s now (draw_text draw) owner ask.state)
+
+refused_lively : (s : Hub) (token : Option ℕ) (r : Refusal) → Lively s (on_grants.refuses_without token r)
+refused_lively s None r = tt
+refused_lively s (Some token) r = tt
+
+-- that the rows of a trade fit is shown elsewhere
+given_lively : (s : Hub) (now : ℕ) (text : List ℕ) (told : Result (OAuthCode × Token) OAuthError) → Lively s (on_grants.by_trade told (on_grants.traded s.tables now text))
+given_lively s now text (Ok given) =
+    let over = expired_tokens s.tables now given.1.owner in
+    lively_or s (first_refusal (if_so (is_without_room s.tables over) (Full 5 s.tables.limits.tokens) ∷ []))
+    (rows_then (on_grants.trade_rows given.0 given.1 over) (on_grants.bearer text)) tt
+given_lively s now text (Err e) = refused_lively s (on_grants.revoked e) (on_grants.refusal_of e)
+
+trade_lively : (s : Hub) (now : ℕ) (draw : Option (List ℕ)) (ask : TradeAsk) → Lively s (on_grants.post_trade s now draw ask)
+trade_lively s now None ask = tt
+trade_lively s now (Some draw) ask = let text = draw_text draw in given_lively s now text (trade s.tables ask text (next_of s.tables (codes "token")) now)
+
 row_lively : (s : Hub) (may : Rights) (inside : Inside) (now : ℕ) (draw : Option (List ℕ)) (k : Token) (call : Call) → AreLeased s → AreNumbered s.tables → next_generation s.tables < 2 ^ 63 → Lively s (row s may inside now draw k call)
 row_lively s may inside now draw k (PostUsers names admin) l n m = lively_by_rules s (users.add_users s.tables names admin now) _
 row_lively s may inside now draw k (PostUser user) l n m = lively_by_rules s (users.add_users s.tables (user ∷ []) false now) _
@@ -165,18 +210,24 @@ row_lively s may inside now draw k (PostService service) l n m = lively_by_rules
 row_lively s may inside now draw k (DeleteService service) l n m = lively_by_rules s (services.delete_service s.tables service) done
 row_lively s may inside now draw k (PutRole role scopes us gs vs) l n m = lively_by_rules s (roles.put_role s.tables (role_of role scopes us gs vs)) _
 row_lively s may inside now draw k (DeleteRole role) l n m = lively_by_rules s (roles.delete_role s.tables role) _
+row_lively s may inside now draw k (GetAuthorize ask) l n m = authorize_lively s now draw k.owner ask
+row_lively s may inside now draw k (PostTrade ask) l n m = trade_lively s now draw ask
 row_lively s may inside now draw k _ l n m = tt
 
 frame_lively : (s : Hub) (j : Judgement) (now : ℕ) (draw : Option (List ℕ)) (call : Call) (k : Option Token) → AreLeased s → AreNumbered s.tables → next_generation s.tables < 2 ^ 63 → Lively s (by_token s j now draw call k)
 frame_lively s j now draw call None l n m = tt
 frame_lively s j now draw call (Some k) l n m =
-    lively_or s (first_refusal (action_rules j (needs call))) (if_there s j.may j.inside now draw k call)
+    lively_or s (first_refusal (if_no_client s.tables call ∷ action_rules j (needs call))) (if_there s j.may j.inside now draw k call)
     (lively_or s (first_refusal (if_so (not (is_there s.tables call)) NotFound ∷ [])) (row s j.may j.inside now draw k call) (row_lively s j.may j.inside now draw k call l n m))
 
+nobody_lively : (s : Hub) (now : ℕ) (draw : Option (List ℕ)) (call : Call) → Lively s (by_nobody s now draw call)
+nobody_lively s now draw (PostTrade ask) = trade_lively s now draw ask
+nobody_lively s now draw _ = tt
+
 call_lively : (s : Hub) (j : Judgement) (now : ℕ) (draw : Option (List ℕ)) (call : Call) (k : Option Token) (b : Bool) → AreLeased s → AreNumbered s.tables → next_generation s.tables < 2 ^ 63
-    → Lively s (cond b (by_token s j now draw call k) get_version)
+    → Lively s (cond b (by_token s j now draw call k) (by_nobody s now draw call))
 call_lively s j now draw call k true l n m = frame_lively s j now draw call k l n m
-call_lively s j now draw call k false l n m = tt
+call_lively s j now draw call k false l n m = nobody_lively s now draw call
 
 -- ---- room
 

@@ -18,6 +18,7 @@ use Rattle.hub_rows.specs.RowKeys.{is_put}
 use Rattle.hub_rows.specs.declared.changes.RowChange.{RowChange}
 use Rattle.hub_rows.specs.declared.changes.RowChange.TheVariants.{Put, Remove}
 use Rattle.hub_rows.specs.declared.records.Next.{Next}
+use Rattle.hub_rows.specs.declared.records.OAuthCode.{OAuthCode}
 use Rattle.hub_rows.specs.declared.records.ShareCode.{ShareCode}
 use Rattle.hub_rows.specs.declared.records.Token.{Token}
 use Rattle.hub_rows.specs.declared.rows.Row.{Row}
@@ -28,6 +29,9 @@ use Rattle.hub_tables.specs.Hashes.{FitsCode}
 use Rattle.hub_tables.specs.Lookups.{code_of_hash, next_of, number_of, token_of_hash}
 use Rattle.hub_tables.specs.State.{State}
 use Rattle.hub_tables.proofs.Fresh.{fits_fresh, token_fits}
+use Rattle.oauth_flow.specs.Trades.{trade}
+use Rattle.oauth_flow.specs.declared.asks.OAuthError.{OAuthError}
+use Rattle.oauth_flow.specs.declared.asks.TradeAsk.{TradeAsk}
 use Rattle.shares.specs.Allowed.{if_refused_scope, by_rules as share_rules, if_so as if_life}
 use Rattle.shares.specs.Codes.{expired_codes, made_code, make_code}
 use Rattle.shares.specs.declared.allowed.ShareError.{ShareError}
@@ -38,12 +42,12 @@ use Rattle.token_store.specs.declared.issuing.TokenAsk.{TokenAsk}
 use Rattle.hub_view.specs.Fields.{Rights}
 use Rattle.hub_machine.specs.Apply.{change_done, is_past_trail, rows_of}
 use Rattle.hub_machine.specs.Carry.{FitsIn, touches_lives}
-use Rattle.hub_machine.specs.Replies.{Answer, refuses, refuses_with, gives, changes, works, or_refusal, first_refusal, if_so}
+use Rattle.hub_machine.specs.Replies.{Answer, refuses, refuses_with, gives, changes, works, rows_then, or_refusal, first_refusal, if_so}
 use Rattle.hub_machine.specs.State.{Hub}
 use Rattle.hub_machine.specs.Trails.{in_trail}
 use Rattle.hub_machine.specs.declared.call.Asked.{Asked}
 use Rattle.hub_machine.specs.declared.call.Call.{Call}
-use Rattle.hub_machine.specs.declared.call.Call.TheVariants.{PostCode, PostToken}
+use Rattle.hub_machine.specs.declared.call.Call.TheVariants.{PostCode, PostToken, PostTrade}
 use Rattle.hub_machine.specs.declared.change.Change.{Change}
 use Rattle.hub_machine.specs.declared.change.Change.TheVariants.{Rows}
 use Rattle.hub_machine.specs.declared.refusal.Refusal.{Refusal}
@@ -51,16 +55,18 @@ use Rattle.hub_machine.specs.declared.refusal.Refusal.TheVariants.{Exists, Full,
 use Rattle.hub_opening.specs.Opening.{next_token}
 use Rattle.access_calls.specs.CodeCalls as on_codes
 use Rattle.access_calls.specs.CodeCalls.{code_rows}
+use Rattle.access_calls.specs.GrantCalls as on_grants
 use Rattle.access_calls.specs.ShareCalls as on_shares
+use Rattle.access_calls.proofs.Traded.{IsNewToken, is_new}
 use Rattle.access_calls.specs.TokenCalls.{if_not_held, if_unknown, is_without_room, issue, made, new_token, post_token, token_rows}
 use Rattle.hub_calls.specs.UserCalls.{get_version}
-use Rattle.hub_core.specs.Answer.{Judgement, action_rules, by_call, by_token, caller, if_there, is_past, named, row}
+use Rattle.hub_core.specs.Answer.{Judgement, action_rules, by_call, by_nobody, by_token, caller, if_no_client, if_there, is_past, named, row}
 use Rattle.hub_core.specs.Current.{AreNumbered, next_code}
 use Rattle.hub_core.specs.History.{Answers, change_of}
 use Rattle.hub_core.specs.Needs.{is_there, needs, needs_token}
 use Rattle.hub_core.proofs.Calm.{issues}
 use Rattle.hub_core.proofs.Lively.{no_such, unheld}
-use Rattle.hub_core.proofs.Numbered.{IsNumbered, NumbersTokens, are_numbered, code_removed, neither, nexts_same, none_filtered, numbers, token_removed}
+use Rattle.hub_core.proofs.Numbered.{IsNumbered, NumbersTokens, are_numbered, code_removed, neither, nexts_same, none_filtered, numbers, numbers_tokens, token_removed}
 
 -- the change fits, and each token and share code that it puts is new
 abbrev pub Issued : Hub → Answer → Type 0
@@ -269,6 +275,73 @@ code_issued s now (Some draw) server scopes life numbered =
     (λ code e. put_issued s over text code numbered
     (sym (ap (λ (c : ShareCode). c.id) (asked_for (if_refused_scope server scopes ∷ if_life (nat_lt life 60) (LifeTooShort life) ∷ []) asked code e))))
 
+-- ---- a trade
+
+trade_numbers : (t : State) (code : OAuthCode) (token : Token) (over : List ℕ) → token.id ≡ next_token t → NumbersTokens (on_grants.trade_rows code token over) t
+trade_numbers t code token over is_next =
+    let removed = tokens_removed over in
+    let used : State = with_row (Row.OAuthCode code) t in
+    let t' = change_done (on_grants.trade_rows code token over) t in
+    let next : next_token t' ≡ token.id + 1 = next_after used (Row.Token token) (codes "token") token.id removed (tokens_plain over) refl in
+    let stays : next_code t' ≡ next_code t = other_after used (Row.Token token) (codes "token") token.id removed (tokens_plain over) refl (codes "code") refl in
+    let low : next_token t ≤ token.id = omega (arith, is_next) in
+    let high : token.id < next_token t' = omega (arith, next) in
+    let following : RowChange = Put (Row.Next (record { name = codes "token"; next = token.id + 1 })) in
+    record {
+      each = All-cons (IsNumbered t t') (Put (Row.OAuthCode code)) (Put (Row.Token token) ∷ following ∷ removed) tt
+          (All-cons (IsNumbered t t') (Put (Row.Token token)) (following ∷ removed) (low, high)
+          (All-cons (IsNumbered t t') following removed tt (are_numbered t t' removed (tokens_plain over))));
+      rises = omega (arith, next, is_next);
+      codes_rise = omega (arith, stays);
+    }
+
+traded_issued : (s : Hub) (text : List ℕ) (code : OAuthCode) (token : Token) (over : List ℕ) → AreNumbered s.tables → token.id ≡ next_token s.tables → token_of_hash s.tables token.hash ≡ None
+    → Issued s (rows_then (on_grants.trade_rows code token over) (on_grants.bearer text))
+traded_issued s text code token over numbered is_next new c h =
+    let t = s.tables in
+    let rows : List RowChange = on_grants.trade_rows code token over in
+    let fresh : get t.tokens token.id ≡ None = ap (get t.tokens) is_next ∙ no_such t numbered in
+    let after : State = with_row (Row.Next (record { name = codes "token"; next = token.id + 1 })) (with_row (Row.Token token) (with_row (Row.OAuthCode code) t)) in
+    subst (λ (d : Change). FitsIn s d × NumbersTokens (rows_of d) t) (same_some (Rows rows) c h) (
+      record { puts = (tt, (token_fits t.tokens token fresh new, (tt, tokens_fit over after))); apart = tokens_apart over },
+      trade_numbers t code token over is_next,
+    )
+
+-- a refused trade puts nothing
+revoked : (s : Hub) (id : ℕ) (refusal : Refusal) → Issued s (refuses_with (Rows (Remove (RowKey.Token id) ∷ [])) refusal)
+revoked s id refusal c h =
+    let rows : List RowChange = Remove (RowKey.Token id) ∷ [] in
+    subst (λ (d : Change). FitsIn s d × NumbersTokens (rows_of d) s.tables) (same_some (Rows rows) c h) (
+      record { puts = tt; apart = refl },
+      numbers_tokens rows s.tables (neither (numbers (Remove (RowKey.Token id))) false (token_removed id) refl),
+    )
+
+refused_issued : (s : Hub) (token : Option ℕ) (refusal : Refusal) → Issued s (on_grants.refuses_without token refusal)
+refused_issued s None refusal = unchanged s (refuses refusal) refl
+refused_issued s (Some id) refusal = revoked s id refusal
+
+given_issued : (s : Hub) (told : Result (OAuthCode × Token) OAuthError) (answer : OAuthCode × Token → Answer) → ((given : OAuthCode × Token) → told ≡ Ok given → Issued s (answer given))
+    → Issued s (on_grants.by_trade told answer)
+given_issued s (Ok given) answer h = h given refl
+given_issued s (Err e) answer h = refused_issued s (on_grants.revoked e) (on_grants.refusal_of e)
+
+given_rows_issued : (s : Hub) (now : ℕ) (text : List ℕ) (given : OAuthCode × Token) → AreNumbered s.tables → IsNewToken s.tables text (next_token s.tables) given.1
+    → Issued s (on_grants.traded s.tables now text given)
+given_rows_issued s now text given numbered new =
+    let t = s.tables in
+    let over = expired_tokens t now given.1.owner in
+    let none : token_of_hash t given.1.hash ≡ None = ap (token_of_hash t) new.hashed ∙ unheld (token_of_hash t (hash_text text)) new.new in
+    issued_or s (first_refusal (if_so (is_without_room t over) (Full 5 t.limits.tokens) ∷ [])) (rows_then (on_grants.trade_rows given.0 given.1 over) (on_grants.bearer text))
+    (traded_issued s text given.0 given.1 over numbered new.numbered none)
+
+trade_issued : (s : Hub) (now : ℕ) (draw : Option (List ℕ)) (ask : TradeAsk) → AreNumbered s.tables → Issued s (on_grants.post_trade s now draw ask)
+trade_issued s now None ask numbered = unchanged s (on_grants.post_trade s now None ask) refl
+trade_issued s now (Some draw) ask numbered =
+    let t = s.tables in
+    let text = draw_text draw in
+    given_issued s (trade t ask text (next_token t) now) (on_grants.traded t now text)
+    (λ given e. given_rows_issued s now text given numbered (is_new t ask text (next_token t) now given e))
+
 not_issued : (b : Bool) → b ≡ false → b ≡ true → ⊥
 not_issued true h k = cc
 not_issued false h k = cc
@@ -277,16 +350,21 @@ row_issued : (s : Hub) (may : Rights) (inside : Inside) (now : ℕ) (draw : Opti
     → Issued s (row s may inside now draw k call)
 row_issued s may inside now draw k (PostToken ask) numbered e = token_issued s now draw inside ask numbered
 row_issued s may inside now draw k (PostCode server scopes expires_in) numbered e = code_issued s now draw server scopes expires_in numbered
+row_issued s may inside now draw k (PostTrade ask) numbered e = trade_issued s now draw ask numbered
 row_issued s may inside now draw k _ numbered e = absurd (not_issued false refl e)
 
 -- ---- through the frame
 
+nobody_issued : (s : Hub) (now : ℕ) (draw : Option (List ℕ)) (call : Call) → AreNumbered s.tables → issues call ≡ true → Issued s (by_nobody s now draw call)
+nobody_issued s now draw (PostTrade ask) numbered e = trade_issued s now draw ask numbered
+nobody_issued s now draw _ numbered e = unchanged s get_version refl
+
 call_issued : (s : Hub) (j : Judgement) (now : ℕ) (draw : Option (List ℕ)) (call : Call) (k : Option Token) (b : Bool) → AreNumbered s.tables → issues call ≡ true
-    → Issued s (cond b (by_token s j now draw call k) get_version)
-call_issued s j now draw call k false numbered e = unchanged s get_version refl
+    → Issued s (cond b (by_token s j now draw call k) (by_nobody s now draw call))
+call_issued s j now draw call k false numbered e = nobody_issued s now draw call numbered e
 call_issued s j now draw call None true numbered e = unchanged s (by_token s j now draw call None) refl
 call_issued s j now draw call (Some k) true numbered e =
-    issued_or s (first_refusal (action_rules j (needs call))) (if_there s j.may j.inside now draw k call)
+    issued_or s (first_refusal (if_no_client s.tables call ∷ action_rules j (needs call))) (if_there s j.may j.inside now draw k call)
     (issued_or s (first_refusal (if_so (not (is_there s.tables call)) NotFound ∷ [])) (row s j.may j.inside now draw k call) (row_issued s j.may j.inside now draw k call numbered e))
 
 issued_if : (s : Hub) (r : Answer) (b : Bool) → Issued s r → Issued s (cond b (refuses TrailFull) r)

@@ -7,6 +7,7 @@ pub mod Done
 pub mod Numbered
 pub mod Stamped
 pub mod Tied
+pub mod Found
 pub mod Places
 pub mod Living
 pub mod OneAnswer

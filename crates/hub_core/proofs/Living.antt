@@ -156,20 +156,20 @@ steps_long s s' told told' long long' g event (Err e) faults faults' h = record 
 
 -- ---- at a place
 
-pub lived_at : (start s s' : Hub) (told told' : Option (List Change)) (long long' : ℕ) (g : ℕ) (event : LifeEvent) (came : Result Step LifeRefusal) (faults faults' : ℕ)
+pub lived_at : (start : Hub) (has : Bool) (s s' : Hub) (told told' : Option (List Change)) (long long' : ℕ) (g : ℕ) (event : LifeEvent) (came : Result Step LifeRefusal) (faults faults' : ℕ)
     → IsTied start s told long → IsTied start s' told' long' → Steps g event came s s' told told' long long' faults faults' → OnErr came (faults' ≡ faults)
-    → LivedAt (start_of start told) (listed told s.length) (listed told' s'.length) faults faults' g event came
-lived_at start s s' told told' long long' g event (Ok made) faults faults' t t' h same = record {
+    → LivedAt (start_of start has told) (listed told s.length) (listed told' s'.length) faults faults' g event came
+lived_at start has s s' told told' long long' g event (Ok made) faults faults' t t' h same = record {
   state = s;
-  reached = reached start s told long t;
+  reached = reached start has s told long t;
   owes = h.owes;
   kept = h.kept;
   noted = noted_after (Some (entry_of g event made.kept)) told told' s s' h.hub h.noted;
   length = h.length ∙ listed_length start s' told' long' t';
 }
-lived_at start s s' told told' long long' g event (Err e) faults faults' t t' h same = record {
+lived_at start has s s' told told' long long' g event (Err e) faults faults' t t' h same = record {
   state = s;
-  reached = reached start s told long t;
+  reached = reached start has s told long t;
   refused = h.refused;
   noted = same_entries told told' s s' h.hub h.noted;
   unasked = same;

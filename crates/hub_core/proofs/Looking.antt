@@ -60,8 +60,8 @@ decides s now asked k h n e = rw (h, n) e
 pub past_decides : (s : Hub) (now : ℕ) (asked : Asked) → is_past s.length asked.seen ≡ true → decider s now asked ≡ None
 past_decides s now asked h = rw h refl
 
-pub version_decides : (s : Hub) (now : ℕ) (asked : Asked) → is_past s.length asked.seen ≡ false → needs_token asked.call ≡ false → decider s now asked ≡ None
-version_decides s now asked h n = rw (h, n) refl
+pub none_decides : (s : Hub) (now : ℕ) (asked : Asked) → is_past s.length asked.seen ≡ false → needs_token asked.call ≡ false → decider s now asked ≡ None
+none_decides s now asked h n = rw (h, n) refl
 
 pub none_looked : (c : Cache) (stamp : ℕ) (k : Option Token) → k ≡ None → LookedFor c stamp k c
 none_looked c stamp k e = subst (λ (x : Option Token). LookedFor c stamp x c) (sym e) refl

@@ -5,7 +5,7 @@ use Rattle.std.specs.List.{list_any}
 use Rattle.std.specs.Cmp.{nat_cmp_total, tied_itself}
 use Rattle.std.specs.Cmp.Lexicographic.{nat_list_cmp_total}
 use Rattle.std.specs.Ordering.{nat_cmp, is_eq, eq_by_cmp}
-use Rattle.std.specs.FinMap.{FinMap, get, insert, remove, get-insert, get-remove, get-empty, nat_cmp-IsAntisymmetric}
+use Rattle.std.specs.FinMap.{FinMap, get, insert, remove, get-insert, get-remove, nat_cmp-IsAntisymmetric}
 use Rattle.std.proofs.lemmas.List.Elements.{All-nil, All-cons, All-head, All-tail, All-filter}
 use Rattle.keyed_rows.proofs.Finite.{tied}
 use Rattle.hub_rows.specs.declared.changes.RowChange.{RowChange}
@@ -19,11 +19,15 @@ use Rattle.hub_rows.specs.declared.records.Token.{Token}
 use Rattle.hub_tables.specs.Changes.{row_done, rows_done, puts_of, removals_of}
 use Rattle.hub_tables.specs.Lookups.{number_of}
 use Rattle.hub_tables.specs.State.{State}
+use Rattle.keeper.specs.Rows.{Rows}
 use Rattle.hub_machine.specs.Apply.{change_done, rows_of}
-use Rattle.hub_opening.specs.Opening.{next_token, opened_tables, added, token_row}
+use Rattle.hub_machine.specs.State.{Hub}
+use Rattle.hub_opening.specs.Kept.{with_generations}
+use Rattle.hub_opening.specs.Opening.{next_token, added, token_row, IsSetUp}
 use Rattle.hub_opening.specs.declared.config.ConfigToken.{ConfigToken}
 use Rattle.hub_opening.specs.declared.config.HubConfig.{HubConfig}
-use Rattle.hub_opening.proofs.Opened.{opened_keeps}
+use Rattle.hub_opening.proofs.Numbers.{given_numbered}
+use Rattle.hub_opening.proofs.Opened.{configured_keeps}
 use Rattle.hub_core.specs.Current.{AreNumbered, next_code}
 use Rattle.hub_core.proofs.Calm.{IsCalm}
 use Rattle.hub_machine.specs.declared.change.Change.{Change}
@@ -71,6 +75,7 @@ none_numbered = record {
   remove_share = λ x. refl;
   remove_code = λ x. refl;
   remove_client = λ x. refl;
+  put_grant = λ x. refl;
   remove_grant = λ x. refl;
 }
 
@@ -248,14 +253,15 @@ numbered_too t t' tokens share_codes nexts all = record {
   codes = λ id c e. subst (λ m. id < number_of (get m (codes "code"))) (sym nexts) (all.codes id c (ap (λ m. get m id) (sym share_codes) ∙ e));
 }
 
-pub numbered_opened : (c : HubConfig) (now : ℕ) → AreNumbered (opened_tables c now)
-numbered_opened c now = opened_keeps AreNumbered c now (record {
-  user = λ t u all. numbered_too t _ refl refl refl all;
-  group = λ t g all. numbered_too t _ refl refl refl all;
-  service = λ t v all. numbered_too t _ refl refl refl all;
-  role = λ t r all. numbered_too t _ refl refl refl all;
-  token = λ t k all. added_numbered now k t all;
-}) (record {
-  tokens = λ id k e. absurd (none_some k (sym (get-empty nat_cmp id) ∙ e));
-  codes = λ id c e. absurd (none_some c (sym (get-empty nat_cmp id) ∙ e));
-})
+-- the opened tables, since those that were kept are
+pub numbered_opened : (c : HubConfig) (now : ℕ) (Tells : Type 0) (has : Rows) (hub : Hub) → IsSetUp c now Tells has hub → AreNumbered hub.tables
+numbered_opened c now Tells has hub is =
+    let given = given_numbered c.limits c.custom_scopes Tells has is.kept is.loaded in
+    subst (λ (h : Hub). AreNumbered h.tables) (sym is.hub)
+    (configured_keeps AreNumbered c now (with_generations is.kept) (record {
+      user = λ t u all. numbered_too t _ refl refl refl all;
+      group = λ t g all. numbered_too t _ refl refl refl all;
+      service = λ t v all. numbered_too t _ refl refl refl all;
+      role = λ t r all. numbered_too t _ refl refl refl all;
+      token = λ t k all. added_numbered now k t all;
+    }) (record { tokens = given.tokens; codes = given.codes }))

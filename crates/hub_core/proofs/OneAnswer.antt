@@ -17,9 +17,8 @@ use Rattle.hub_machine.specs.State.{Hub}
 use Rattle.hub_machine.specs.Trails.{in_trail}
 use Rattle.hub_machine.specs.Replies.{Answer, rules, if_so}
 use Rattle.access_calls.specs.TokenCalls.{if_not_held, if_unknown, is_without_room, made, new_token, post_token}
-use Rattle.hub_calls.specs.UserCalls.{get_version}
 use Rattle.hub_core.specs.Needs.{needs, needs_token, is_there}
-use Rattle.hub_core.specs.Answer.{Judgement, answer, action_rules, if_there, row, by_token, caller, is_past, named}
+use Rattle.hub_core.specs.Answer.{Judgement, answer, action_rules, if_no_client, if_there, row, by_nobody, by_token, caller, is_past, named}
 use Rattle.hub_core.specs.Judged.{HeldOf, InsideOf, IsHeldBy, JudgesToken, JudgesCaller}
 use Rattle.hub_core.specs.History.{Answers}
 use Rattle.hub_core.specs.declared.need.Need.{Need}
@@ -80,7 +79,7 @@ same_there s may may' now draw k call one other e h h' =
 -- the answer, by the frame's tests and the token that is found
 abbrev answer_by : Hub → ℕ → (draw : Option (List ℕ)) → Asked → Judgement → (past needed : Bool) → Option Token → Answer
 answer_by s now draw asked j past needed k =
-    rules (if_so past (SeenPast (named asked.seen) s.length) ∷ []) (in_trail s (cond needed (by_token s j now draw asked.call k) get_version))
+    rules (if_so past (SeenPast (named asked.seen) s.length) ∷ []) (in_trail s (cond needed (by_token s j now draw asked.call k) (by_nobody s now draw asked.call)))
 
 same_by : (s : Hub) (now : ℕ) (draw : Option (List ℕ)) (asked : Asked) (j j' : Judgement) (past needed : Bool) (k : Option Token)
     → JudgesCaller s.tables asked.call j (cond past None (cond needed k None)) → JudgesCaller s.tables asked.call j' (cond past None (cond needed k None))
@@ -92,7 +91,7 @@ same_by s now draw asked j j' false true (Some k) h h' =
     let may = same_rights s.tables k asked.call j j' h h' in
     let checks = same_rules s.tables k (needs asked.call) j j' may h.held h'.held in
     let there = same_there s j.may j'.may now draw k asked.call j.inside j'.inside may h.inside h'.inside in
-    λ i. rules (if_so false (SeenPast (named asked.seen) s.length) ∷ []) (in_trail s (rules (checks i) (there i)))
+    λ i. rules (if_so false (SeenPast (named asked.seen) s.length) ∷ []) (in_trail s (rules (if_no_client s.tables asked.call ∷ checks i) (there i)))
 
 pub one_answer : (s : Hub) (now : ℕ) (draw : Option (List ℕ)) (asked : Asked) (r r' : Answer) → Answers s now draw asked r → Answers s now draw asked r' → r ≡ r'
 one_answer s now draw asked r r' here there =

@@ -40,17 +40,17 @@ listed_length start hub (Some h) long t = t.counted h refl ∙ sym (length-map h
 true_false : true ≡ false → ⊥
 true_false h = cc
 
--- a book's start, by its state at opening and its history
-abbrev pub start_of : Hub → Option (List Change) → Start
-start_of start told = record { machine = start; tells = is_some told }
+-- a book's start, by its state at opening, whether rows were told then, and its history
+abbrev pub start_of : Hub → (has_rows : Bool) → Option (List Change) → Start
+start_of start has told = record { machine = start; tells = is_some told; has_rows = has }
 
-pub reached : (start hub : Hub) (told : Option (List Change)) (long : ℕ) → IsTied start hub told long → Reached (start_of start told) (listed told hub.length) hub
-reached start hub None long t = record {
+pub reached : (start : Hub) (has : Bool) (hub : Hub) (told : Option (List Change)) (long : ℕ) → IsTied start hub told long → Reached (start_of start has told) (listed told hub.length) hub
+reached start has hub None long t = record {
   length = listed_length start hub None long t;
   told = λ e. absurd (true_false (sym e));
   blank = λ e. refl;
 }
-reached start hub (Some h) long t = record {
+reached start has hub (Some h) long t = record {
   length = listed_length start hub (Some h) long t;
   told = λ e. (h, refl, t.followed h refl);
   blank = λ e. absurd (true_false e);
@@ -85,17 +85,17 @@ says_of a s = outcome_of (long_after (change_of a) s.length) a
 said_after : (a : Answer) (s s' : Hub) → s' ≡ noted (change_of a) s → says_of a s ≡ outcome_of s'.length a
 said_after a s s' hub = ap (λ n. outcome_of n a) (sym (noted_length (change_of a) s) ∙ ap (λ (x : Hub). x.length) (sym hub))
 
-placed : (start : Hub) (now : ℕ) (draw : Option (List ℕ)) (asked : Asked) (a : Answer) (o : Outcome) (b b' : Carrier)
+placed : (start : Hub) (has : Bool) (now : ℕ) (draw : Option (List ℕ)) (asked : Asked) (a : Answer) (o : Outcome) (b b' : Carrier)
     → Answers b.hub now draw asked a → IsTied start b.hub b.told b.long → IsTied start b'.hub b'.told b'.long
     → Did (change_of a) (says_of a b.hub) o b b' ⊎ Undid (change_of a) o b b'
-    → AnsweredAt (start_of start b.told) (listed b.told b.hub.length) (listed b'.told b'.hub.length) now draw asked o
-    ⊎ FaultedAt (start_of start b.told) (listed b.told b.hub.length) (listed b'.told b'.hub.length) b.faults b'.faults now draw asked o
-placed start now draw asked a o b b' answers t t' carried =
-    elim carried as (λ _. AnsweredAt (start_of start b.told) (listed b.told b.hub.length) (listed b'.told b'.hub.length) now draw asked o
-    ⊎ FaultedAt (start_of start b.told) (listed b.told b.hub.length) (listed b'.told b'.hub.length) b.faults b'.faults now draw asked o) [
+    → AnsweredAt (start_of start has b.told) (listed b.told b.hub.length) (listed b'.told b'.hub.length) now draw asked o
+    ⊎ FaultedAt (start_of start has b.told) (listed b.told b.hub.length) (listed b'.told b'.hub.length) b.faults b'.faults now draw asked o
+placed start has now draw asked a o b b' answers t t' carried =
+    elim carried as (λ _. AnsweredAt (start_of start has b.told) (listed b.told b.hub.length) (listed b'.told b'.hub.length) now draw asked o
+    ⊎ FaultedAt (start_of start has b.told) (listed b.told b.hub.length) (listed b'.told b'.hub.length) b.faults b'.faults now draw asked o) [
       | inl d ↦ inl (record {
         state = b.hub;
-        reached = reached start b.hub b.told b.long t;
+        reached = reached start has b.hub b.told b.long t;
         answer = a;
         answers = answers;
         noted = noted_after (change_of a) b.told b'.told b.hub b'.hub d.hub d.telling;
@@ -103,7 +103,7 @@ placed start now draw asked a o b b' answers t t' carried =
       })
       | inr u ↦ inr (record {
         state = b.hub;
-        reached = reached start b.hub b.told b.long t;
+        reached = reached start has b.hub b.told b.long t;
         answer = a;
         change = u.change;
         answers = answers;
@@ -152,11 +152,11 @@ pub visited_of : {E : Type 0} (b b' : Standing) (now : ℕ) (draw : Option (List
 visited_of b b' now draw asked a (Ok o) long long' answers carried = gave b b' now draw asked a o long long' answers carried
 visited_of b b' now draw asked a (Err e) long long' answers carried = record { hub = carried.hub; told = carried.telling; stamped = carried.stamped }
 
-pub visited_at : {E : Type 0} (start : Hub) (now : ℕ) (draw : Option (List ℕ)) (asked : Asked) (a : Answer) (r : Result Outcome E) (b b' : Carrier)
+pub visited_at : {E : Type 0} (start : Hub) (has : Bool) (now : ℕ) (draw : Option (List ℕ)) (asked : Asked) (a : Answer) (r : Result Outcome E) (b b' : Carrier)
     → Answers b.hub now draw asked a → IsTied start b.hub b.told b.long → IsTied start b'.hub b'.told b'.long → Carried (change_of a) (says_of a b.hub) r b b'
-    → VisitedAt (start_of start b.told) (listed b.told b.hub.length) (listed b'.told b'.hub.length) b.faults b'.faults now draw asked r
-visited_at start now draw asked a (Ok o) b b' answers t t' carried = placed start now draw asked a o b b' answers t t' carried
-visited_at start now draw asked a (Err e) b b' answers t t' carried = same_entries b.told b'.told b.hub b'.hub carried.hub carried.telling
+    → VisitedAt (start_of start has b.told) (listed b.told b.hub.length) (listed b'.told b'.hub.length) b.faults b'.faults now draw asked r
+visited_at start has now draw asked a (Ok o) b b' answers t t' carried = placed start has now draw asked a o b b' answers t t' carried
+visited_at start has now draw asked a (Err e) b b' answers t t' carried = same_entries b.told b'.told b.hub b'.hub carried.hub carried.telling
 
 -- whether the history is told never changes
 pub tells_same : {E : Type 0} (ch : Option Change) (says : spec.Outcome) (r : Result Outcome E) (b b' : Carrier) → Carried ch says r b b' → is_some b'.told ≡ is_some b.told

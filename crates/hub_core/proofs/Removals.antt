@@ -39,8 +39,7 @@ use Rattle.hub_machine.specs.declared.change.Change.{Change}
 use Rattle.hub_machine.specs.declared.change.Change.TheVariants.{Rows, Begin, Life as Lived}
 use Rattle.hub_machine.specs.declared.refusal.Refusal.TheVariants.{NoValidToken, SeenPast}
 use Rattle.hub_machine.specs.declared.call.Call.{Call}
-use Rattle.hub_calls.specs.UserCalls.{get_version}
-use Rattle.hub_core.specs.Answer.{Judgement, by_call, caller, good_token, if_good, is_past, named}
+use Rattle.hub_core.specs.Answer.{Judgement, by_call, by_nobody, caller, good_token, if_good, is_past, named}
 use Rattle.hub_core.specs.History.{Answers, state_after}
 use Rattle.hub_core.specs.Needs.{needs_token}
 use Rattle.hub_core.specs.Removed.{PutsNoToken, IsRemoved, IsTokenRefused}
@@ -182,7 +181,7 @@ state_joined s (c ∷ h) k = state_joined (apply c s) h k
 no_token : (s : Hub) (now : ℕ) (draw : Option (List ℕ)) (j : Judgement) (call : Call) (k : Option Token) → k ≡ None → needs_token call ≡ true → in_trail s (by_call s j now draw k call) ≡ refuses NoValidToken
 no_token s now draw j call k none needed =
     ap (λ (x : Option Token). in_trail s (by_call s j now draw x call)) none
-    ∙ ap (λ b. in_trail s (cond b (refuses NoValidToken) get_version)) needed
+    ∙ ap (λ b. in_trail s (cond b (refuses NoValidToken) (by_nobody s now draw call))) needed
 
 unkept : (t : State) (now : ℕ) (text : List ℕ) (token : Option (List ℕ)) → token ≡ Some text → token_of_hash t (hash_text text) ≡ None → good_token t now token ≡ None
 unkept t now text token is none = ap (good_token t now) is ∙ ap (if_good now) none

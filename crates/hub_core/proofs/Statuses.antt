@@ -1,6 +1,6 @@
 -- What the rules answer is no 503: that status is for a keeper's refusal alone.
 use Rattle.std.proofs.Common.{◌≡◌, ◌==◌, ℕ, Bool, true, false, not, cond, [], ◌∷◌, List, Option, refl, sym, ap, ◌∙◌, subst, eq-eqb}
-use Rattle.std.specs.Prelude.{Some, None, IsSome}
+use Rattle.std.specs.Prelude.{Some, None, IsSome, Result, Ok, Err}
 use Rattle.scope_meet.specs.declared.inside.Inside.{Inside}
 use Rattle.hub_rows.specs.declared.records.Token.{Token}
 use Rattle.hub_view.specs.Fields.{Rights}
@@ -10,13 +10,18 @@ use Rattle.hub_machine.specs.Replies as replies
 use Rattle.hub_machine.specs.Replies.{Answer, refuses, refuses_with, gives, changes, works, Outcome, answered, working, Reply, if_so, outcome_of, status_of}
 use Rattle.hub_machine.specs.Trails.{in_trail}
 use Rattle.hub_calls.specs.RoleCalls.{role_of}
-use Rattle.hub_calls.specs.UserCalls.{get_version}
+use Rattle.hub_rows.specs.declared.records.OAuthClient.{OAuthClient}
+use Rattle.hub_tables.specs.State.{State}
+use Rattle.oauth_flow.specs.Clients.{client_of}
+use Rattle.oauth_flow.specs.declared.asks.OAuthError.{OAuthError}
+use Rattle.access_calls.specs.GrantCalls.{refusal_in}
 use Rattle.hub_machine.proofs.Statuses.{is_503}
 use Rattle.hub_calls.proofs.UserCalls as users
 use Rattle.hub_calls.proofs.ServerCalls as servers
 use Rattle.hub_calls.proofs.StartCalls as starts
 use Rattle.hub_calls.proofs.StopCalls as stops
 use Rattle.access_calls.proofs.CodeCalls as codes
+use Rattle.access_calls.proofs.GrantCalls as grants
 use Rattle.access_calls.proofs.ShareCalls as shares
 use Rattle.access_calls.proofs.TokenCalls as tokens
 use Rattle.hub_machine.specs.Draws.{draws}
@@ -24,7 +29,7 @@ use Rattle.hub_calls.proofs.GroupCalls as groups
 use Rattle.hub_calls.proofs.ServiceCalls as services
 use Rattle.hub_calls.proofs.RoleCalls as roles
 use Rattle.hub_core.specs.Needs.{needs, needs_token, is_there}
-use Rattle.hub_core.specs.Answer.{Judgement, row, if_there, action_rules, by_token, by_call, caller, is_past, named}
+use Rattle.hub_core.specs.Answer.{Judgement, row, if_there, if_no_client, action_rules, by_nobody, by_token, by_call, caller, is_past, named}
 use Rattle.hub_core.specs.History.{Answers}
 use Rattle.hub_core.specs.declared.need.Need.{Need}
 use Rattle.hub_core.specs.declared.need.Need.TheVariants.{GoodToken, Held, On}
@@ -32,7 +37,7 @@ use Rattle.hub_machine.specs.declared.refusal.Refusal.{Refusal}
 use Rattle.hub_machine.specs.declared.refusal.Refusal.TheVariants.{SeenPast, Needs, NotFound, TrailFull}
 use Rattle.hub_machine.specs.declared.call.Asked.{Asked}
 use Rattle.hub_machine.specs.declared.call.Call.{Call}
-use Rattle.hub_machine.specs.declared.call.Call.TheVariants.{PostUsers, PostUser, PatchUser, DeleteUser, PostActivity, PostServer, DeleteServer, PostToken, AcceptCode, PostShare, PatchShare, DeleteShares, PostCode, DeleteCodes, PostGroup, DeleteGroup, JoinGroup, LeaveGroup, PostService, DeleteService, PutRole, DeleteRole}
+use Rattle.hub_machine.specs.declared.call.Call.TheVariants.{PostUsers, PostUser, PatchUser, DeleteUser, PostActivity, PostServer, DeleteServer, PostToken, AcceptCode, PostShare, PatchShare, DeleteShares, PostCode, DeleteCodes, PostGroup, DeleteGroup, JoinGroup, LeaveGroup, PostService, DeleteService, PutRole, DeleteRole, GetAuthorize, PostTrade}
 
 -- ---- the calls
 
@@ -59,6 +64,8 @@ no_row s may inside now draw k (PostService service) h = services.post_service s
 no_row s may inside now draw k (DeleteService service) h = services.delete_service s service
 no_row s may inside now draw k (PutRole role scopes us gs vs) h = roles.put_role s (role_of role scopes us gs vs)
 no_row s may inside now draw k (DeleteRole role) h = roles.delete_role s role
+no_row s may inside now draw k (GetAuthorize ask) h = grants.get_authorize s now draw k.owner ask (h refl)
+no_row s may inside now draw k (PostTrade ask) h = grants.post_trade s now draw ask (h refl)
 no_row s may inside now draw k _ h = refl
 
 -- ---- the frame
@@ -78,6 +85,14 @@ no_action j GoodToken r h = h
 no_action j (Held a) r h = no_first (not j.is_held) (Needs a) r refl h
 no_action j (On a x) r h = no_second (not j.is_held) (not (j.may a x)) (Needs a) NotFound r refl refl h
 
+no_asking : (asks : Result OAuthClient OAuthError) (rest : List (Option Refusal)) (r : Answer) → is_503 (replies.rules rest r) ≡ false → is_503 (replies.rules (refusal_in asks ∷ rest) r) ≡ false
+no_asking (Ok client) rest r h = h
+no_asking (Err e) rest r h = grants.no_refusal e
+
+no_client : (t : State) (call : Call) (rest : List (Option Refusal)) (r : Answer) → is_503 (replies.rules rest r) ≡ false → is_503 (replies.rules (if_no_client t call ∷ rest) r) ≡ false
+no_client t (GetAuthorize ask) rest r h = no_asking (client_of t ask) rest r h
+no_client t _ rest r h = h
+
 -- what is drawn for a call that draws
 abbrev HasDraw : Call → Option (List ℕ) → Type 0
 HasDraw call draw = draws call ≡ true → IsSome draw
@@ -85,12 +100,17 @@ HasDraw call draw = draws call ≡ true → IsSome draw
 no_token : (s : Hub) (j : Judgement) (now : ℕ) (draw : Option (List ℕ)) (call : Call) (k : Option Token) → HasDraw call draw → is_503 (by_token s j now draw call k) ≡ false
 no_token s j now draw call None h = refl
 no_token s j now draw call (Some k) h =
-    no_action j (needs call) (if_there s j.may j.inside now draw k call)
-    (no_first (not (is_there s.tables call)) NotFound (row s j.may j.inside now draw k call) refl (no_row s j.may j.inside now draw k call h))
+    no_client s.tables call (action_rules j (needs call)) (if_there s j.may j.inside now draw k call)
+    (no_action j (needs call) (if_there s j.may j.inside now draw k call)
+    (no_first (not (is_there s.tables call)) NotFound (row s j.may j.inside now draw k call) refl (no_row s j.may j.inside now draw k call h)))
 
-no_call : (s : Hub) (j : Judgement) (now : ℕ) (draw : Option (List ℕ)) (call : Call) (k : Option Token) (b : Bool) → HasDraw call draw → is_503 (cond b (by_token s j now draw call k) get_version) ≡ false
+no_nobody : (s : Hub) (now : ℕ) (draw : Option (List ℕ)) (call : Call) → HasDraw call draw → is_503 (by_nobody s now draw call) ≡ false
+no_nobody s now draw (PostTrade ask) h = grants.post_trade s now draw ask (h refl)
+no_nobody s now draw _ h = refl
+
+no_call : (s : Hub) (j : Judgement) (now : ℕ) (draw : Option (List ℕ)) (call : Call) (k : Option Token) (b : Bool) → HasDraw call draw → is_503 (cond b (by_token s j now draw call k) (by_nobody s now draw call)) ≡ false
 no_call s j now draw call k true h = no_token s j now draw call k h
-no_call s j now draw call k false h = refl
+no_call s j now draw call k false h = no_nobody s now draw call h
 
 no_room : (r : Answer) (b : Bool) → is_503 r ≡ false → is_503 (cond b (refuses TrailFull) r) ≡ false
 no_room r true h = refl

@@ -18,6 +18,7 @@ use Rattle.hub_calls.specs.Stops.{delete_server}
 use Rattle.access_calls.specs.TokenCalls.{get_tokens, post_token, get_token, delete_token}
 use Rattle.access_calls.specs.ShareCalls.{get_shares, post_share, patch_share, delete_shares}
 use Rattle.access_calls.specs.CodeCalls.{accept_code, get_codes, post_code, delete_codes}
+use Rattle.access_calls.specs.GrantCalls.{client_refusal, get_authorize, post_trade}
 use Rattle.hub_calls.specs.GroupCalls.{get_groups, get_group, post_group, delete_group, join_group, leave_group}
 use Rattle.hub_calls.specs.ServiceCalls.{get_services, get_service, post_service, delete_service}
 use Rattle.hub_calls.specs.RoleCalls.{get_roles, get_role, role_of, put_role, delete_role}
@@ -27,7 +28,7 @@ use Rattle.hub_machine.specs.declared.refusal.Refusal.{Refusal}
 use Rattle.hub_machine.specs.declared.refusal.Refusal.TheVariants.{SeenPast, NoValidToken, Needs, NotFound}
 use Rattle.hub_machine.specs.declared.call.Asked.{Asked}
 use Rattle.hub_machine.specs.declared.call.Call.{Call}
-use Rattle.hub_machine.specs.declared.call.Call.TheVariants.{GetVersion, GetInfo, GetIdentity, GetUsers, PostUsers, GetUser, PostUser, PatchUser, DeleteUser, PostActivity, PostServer, DeleteServer, GetTokens, PostToken, GetToken, DeleteToken, GetShares, AcceptCode, PostShare, PatchShare, DeleteShares, GetCodes, PostCode, DeleteCodes, GetGroups, GetGroup, PostGroup, DeleteGroup, JoinGroup, LeaveGroup, GetServices, GetService, PostService, DeleteService, GetRoles, GetRole, PutRole, DeleteRole}
+use Rattle.hub_machine.specs.declared.call.Call.TheVariants.{GetVersion, GetInfo, GetIdentity, GetUsers, PostUsers, GetUser, PostUser, PatchUser, DeleteUser, PostActivity, PostServer, DeleteServer, GetTokens, PostToken, GetToken, DeleteToken, GetShares, AcceptCode, PostShare, PatchShare, DeleteShares, GetCodes, PostCode, DeleteCodes, GetGroups, GetGroup, PostGroup, DeleteGroup, JoinGroup, LeaveGroup, GetServices, GetService, PostService, DeleteService, GetRoles, GetRole, PutRole, DeleteRole, GetAuthorize, PostTrade}
 
 -- what is decided over all scopes and objects, and not by looking into the tables (see Judged)
 pub record Judgement : Type 0 where
@@ -78,6 +79,8 @@ row s may inside now draw k (GetRoles page) = get_roles s page
 row s may inside now draw k (GetRole role) = get_role s role
 row s may inside now draw k (PutRole role scopes users groups services) = put_role s (role_of role scopes users groups services)
 row s may inside now draw k (DeleteRole role) = delete_role s role
+row s may inside now draw k (GetAuthorize ask) = get_authorize s now draw k.owner ask
+row s may inside now draw k (PostTrade ask) = post_trade s now draw ask
 
 -- ---- the frame
 
@@ -87,16 +90,26 @@ action_rules j GoodToken = []
 action_rules j (Held a) = if_so (not j.is_held) (Needs a) ∷ []
 action_rules j (On a x) = if_so (not j.is_held) (Needs a) ∷ if_so (not (j.may a x)) NotFound ∷ []
 
+-- an authorization is refused before its rights are, where no client asks for it
+abbrev pub if_no_client : State → Call → Option Refusal
+if_no_client t (GetAuthorize ask) = client_refusal t ask
+if_no_client t call = None
+
 abbrev pub if_there : Hub → Rights → Inside → ℕ → Option (List ℕ) → Token → Call → Answer
 if_there s may inside now draw k call = rules (if_so (not (is_there s.tables call)) NotFound ∷ []) (row s may inside now draw k call)
 
 abbrev pub by_token : Hub → Judgement → ℕ → Option (List ℕ) → Call → Option Token → Answer
 by_token s j now draw call None = refuses NoValidToken
-by_token s j now draw call (Some k) = rules (action_rules j (needs call)) (if_there s j.may j.inside now draw k call)
+by_token s j now draw call (Some k) =
+    rules (if_no_client s.tables call ∷ action_rules j (needs call)) (if_there s j.may j.inside now draw k call)
 
--- without a token there is the version alone
+-- a trade and the version need no token
+abbrev pub by_nobody : Hub → (now : ℕ) → (draw : Option (List ℕ)) → Call → Answer
+by_nobody s now draw (PostTrade ask) = post_trade s now draw ask
+by_nobody s now draw call = get_version
+
 abbrev pub by_call : Hub → Judgement → ℕ → Option (List ℕ) → Option Token → Call → Answer
-by_call s j now draw caller call = if needs_token call then by_token s j now draw call caller else get_version
+by_call s j now draw caller call = if needs_token call then by_token s j now draw call caller else by_nobody s now draw call
 
 -- ---- whose token it is
 

@@ -9,6 +9,9 @@ use Rattle.hub_rows.specs.declared.records.ShareCode.{ShareCode}
 use Rattle.hub_rows.specs.declared.records.Token.{Token}
 use Rattle.hub_tables.specs.Lookups.{has_server, same_owner}
 use Rattle.hub_tables.specs.State.{State}
+use Rattle.oauth_flow.specs.Clients.{whose as client_owner}
+use Rattle.oauth_flow.specs.declared.clients.ClientOwner.{ClientOwner}
+use Rattle.oauth_flow.specs.declared.clients.ClientOwner.TheVariants as Whose
 use Rattle.shares.specs.Lists.{is_code_of}
 use Rattle.shares.specs.declared.lists.CodesOf.{CodesOf}
 use Rattle.shares.specs.declared.lists.CodesOf.TheVariants as Codes
@@ -18,7 +21,7 @@ use Rattle.admin_rules.specs.Roles.{is_fixed_role}
 use Rattle.hub_core.specs.declared.need.Need.{Need}
 use Rattle.hub_core.specs.declared.need.Need.TheVariants.{GoodToken, Held, On}
 use Rattle.hub_machine.specs.declared.call.Call.{Call}
-use Rattle.hub_machine.specs.declared.call.Call.TheVariants.{GetVersion, GetInfo, GetIdentity, GetUsers, PostUsers, GetUser, PostUser, PatchUser, DeleteUser, PostActivity, PostServer, DeleteServer, GetTokens, PostToken, GetToken, DeleteToken, GetShares, AcceptCode, PostShare, PatchShare, DeleteShares, GetCodes, PostCode, DeleteCodes, GetGroups, GetGroup, PostGroup, DeleteGroup, JoinGroup, LeaveGroup, GetServices, GetService, PostService, DeleteService, GetRoles, GetRole, PutRole, DeleteRole}
+use Rattle.hub_machine.specs.declared.call.Call.TheVariants.{GetVersion, GetInfo, GetIdentity, GetUsers, PostUsers, GetUser, PostUser, PatchUser, DeleteUser, PostActivity, PostServer, DeleteServer, GetTokens, PostToken, GetToken, DeleteToken, GetShares, AcceptCode, PostShare, PatchShare, DeleteShares, GetCodes, PostCode, DeleteCodes, GetGroups, GetGroup, PostGroup, DeleteGroup, JoinGroup, LeaveGroup, GetServices, GetService, PostService, DeleteService, GetRoles, GetRole, PutRole, DeleteRole, GetAuthorize, PostTrade}
 
 -- shares that a user received, those that a user gave, and those of a server
 abbrev pub needs_shares : SharesOf → Need
@@ -29,6 +32,16 @@ needs_shares (Shares.Server server) = On A.ReadShares (Ob.Server server)
 abbrev pub needs_codes : CodesOf → Need
 needs_codes (Codes.Owner user) = On A.ReadShares (Ob.User user)
 needs_codes (Codes.Server server) = On A.ReadShares (Ob.Server server)
+
+-- access to the server or the service whose client asks. An id that names neither is no client's
+abbrev pub needs_client : Option ClientOwner → Need
+needs_client (Some (Whose.Server server)) = On A.AccessServers (Ob.Server server)
+needs_client (Some (Whose.Service service)) = On A.AccessServices (Ob.Service service)
+needs_client None = On A.AccessServers Ob.Hub
+
+abbrev pub whose_client : (id : Option (List ℕ)) → Option ClientOwner
+whose_client None = None
+whose_client (Some id) = client_owner id
 
 abbrev pub needs : Call → Need
 needs GetVersion = GoodToken
@@ -69,10 +82,13 @@ needs (GetRoles page) = On A.AdminRoles Ob.Hub
 needs (GetRole role) = On A.AdminRoles Ob.Hub
 needs (PutRole role scopes users groups services) = On A.AdminRoles Ob.Hub
 needs (DeleteRole role) = On A.AdminRoles Ob.Hub
+needs (GetAuthorize ask) = needs_client (whose_client ask.client_id)
+needs (PostTrade ask) = GoodToken
 
--- the version needs no token
+-- the version needs no token, and a trade is asked by a client, who shows its secret
 abbrev pub needs_token : Call → Bool
 needs_token GetVersion = false
+needs_token (PostTrade ask) = false
 needs_token _ = true
 
 -- a token is kept under the id, and it is the user's

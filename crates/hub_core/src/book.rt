@@ -10,6 +10,7 @@ ghost use Rattle.hub_core.specs.Current.{Looked};
 ghost use Rattle.hub_core.specs.Judged.{decider};
 ghost use Rattle.hub_core.specs.Works.{IsSoundOutcome};
 ghost use Rattle.hub_core.specs.Opened.{HasOpened};
+ghost use Rattle.hub_opening.specs.Kept.{MakeTable};
 ghost use Rattle.hub_opening.specs.Opening.{IsRefused};
 ghost use Rattle.hub_core.specs.Visits.{Visited, VisitedAt, IsFollowed, Reached, entries_of};
 ghost use Rattle.hub_core.specs.Carrying.{Carried, MayBeDone, long_after};
@@ -51,6 +52,8 @@ pub struct Book<K: Keeper, T: Trail<Entry = Change>> {
     stamp: u64,
     /// The machine as it was at opening, for contracts alone.
     start: Snapshot<Machine>,
+    /// The keeper as it was then, for contracts alone.
+    found: Snapshot<K>,
     /// For the commit of an end.
     alloc: Global,
 }
@@ -59,7 +62,7 @@ pub struct Book<K: Keeper, T: Trail<Entry = Change>> {
 const CAPACITY: u32 = 1024;
 
 impl<K: Keeper, T: Trail<Entry = Change>> Model for Book<K, T> {
-    ghost use Rattle.std.specs.Prelude.{◌≤◌, is_some};
+    ghost use Rattle.std.specs.Prelude.{◌≤◌, IsTrue, is_some};
     ghost use Rattle.hub_core.specs.Current.{IsStamped};
     ghost use Rattle.hub_machine.specs.KeptRows.{Keeps};
     ghost use Rattle.hub_machine.specs.State.{owed};
@@ -72,9 +75,9 @@ impl<K: Keeper, T: Trail<Entry = Change>> Model for Book<K, T> {
 
     ghost coded = { Prim.hlevel (codes, code) };
 
-    ghost view = { λ b. record { start = record { machine = b.start.value; tells = is_some (T.told b.trail) }; hub = b.machine; told = T.told b.trail; faults = K.faults b.keeper; rights = b.rights; stamp = b.stamp } };
+    ghost view = { λ b. record { start = record { machine = b.start.value; tells = is_some (T.told b.trail); has_rows = K.is_told b.found.value }; hub = b.machine; told = T.told b.trail; faults = K.faults b.keeper; rights = b.rights; stamp = b.stamp } };
 
-    ghost invariant = { λ b. IsTied b.start.value b.machine (T.told b.trail) (T.long b.trail) × IsStamped b.rights b.machine.tables b.stamp b.machine.length × (owed b.machine.lives ≤ T.spare b.trail) × (K.Tells b.keeper → Keeps (K.rows b.keeper) b.machine.tables) };
+    ghost invariant = { λ b. IsTied b.start.value b.machine (T.told b.trail) (T.long b.trail) × IsStamped b.rights b.machine.tables b.stamp b.machine.length × (owed b.machine.lives ≤ T.spare b.trail) × (K.Tells b.keeper → Keeps (K.rows b.keeper) b.machine.tables) × (K.Tells b.keeper → IsTrue (K.is_told b.found.value)) };
 }
 
 /// Carries an answer out: its change, if it has one, and what is said at the length that it leaves.
@@ -91,6 +94,7 @@ fn carry<K: Keeper, T: Trail<Entry = Change>>(
     ensures carried { Carried (change_of (answer_view answer)) (outcome_of (long_after (change_of (answer_view answer)) machine.old.length) (answer_view answer)) result (record { hub = machine.old; told = T.told trail.old; long = T.long trail.old; stamp = stamp.old; faults = K.faults keeper.old }) (record { hub = machine.new; told = T.told trail.new; long = T.long trail.new; stamp = stamp.new; faults = K.faults keeper.new }) }
     ensures counted { K.faults keeper.old ≤ K.faults keeper.new }
     ensures spare { owed machine.old.lives ≤ T.spare trail.old → owed machine.new.lives ≤ T.spare trail.new }
+    ensures told { K.Tells keeper.new → K.Tells keeper.old }
     // the keeper goes on having the rows of the state
     ensures keeps { (K.Tells keeper.old → Keeps (K.rows keeper.old) machine.old.tables) → K.Tells keeper.new → Keeps (K.rows keeper.new) machine.new.tables }
 {
@@ -130,6 +134,7 @@ fn carry_change<K: Keeper, T: Trail<Entry = Change>>(
     ensures carried { Carried (Some change) (outcome_view says) result (record { hub = machine.old; told = T.told trail.old; long = T.long trail.old; stamp = stamp.old; faults = K.faults keeper.old }) (record { hub = machine.new; told = T.told trail.new; long = T.long trail.new; stamp = stamp.new; faults = K.faults keeper.new }) }
     ensures counted { K.faults keeper.old ≤ K.faults keeper.new }
     ensures spare { owed machine.old.lives ≤ T.spare trail.old → owed machine.new.lives ≤ T.spare trail.new }
+    ensures told { K.Tells keeper.new → K.Tells keeper.old }
     ensures keeps { (K.Tells keeper.old → Keeps (K.rows keeper.old) machine.old.tables) → K.Tells keeper.new → Keeps (K.rows keeper.new) machine.new.tables }
 {
     let of_rights = is_of_rights(machine.tables(), change.change());
@@ -159,8 +164,8 @@ fn carry_change<K: Keeper, T: Trail<Entry = Change>>(
 }
 
 impl<K: Keeper, T: Trail<Entry = Change>> Book<K, T> {
-    /// A book with the configuration's rows, which the keeper keeps from now on, over a trail that has no entry. A refusal hands the
-    /// keeper back.
+    /// A book over the keeper's rows with those of the configuration, which the keeper keeps from now on, and a trail that has no entry. A
+    /// refusal hands the keeper back.
     pub fn open(
         alloc: Global,
         keeper: K,
@@ -170,7 +175,8 @@ impl<K: Keeper, T: Trail<Entry = Change>> Book<K, T> {
     ) -> Result<Book<K, T>, (K, OpenError)>
         requires empty { T.long trail ≡ 0 }
         requires limits { config.now.limits.trail_bytes ≤ 2 ^ 62 }
-        ensures ok { IfOk result (HasOpened config.now now (T.told trail) (K.faults keeper)) }
+        requires scopes { MakeTable config.now.custom_scopes }
+        ensures ok { IfOk result (HasOpened config.now now (K.Tells keeper) (K.rows keeper) (T.told trail) (K.faults keeper)) }
         ensures err { IfErr result (λ e. IsRefused config.now now (K.Tells e.0) (K.rows keeper) (K.faults keeper) (K.faults e.0) e.1) }
         ensures counted { IfErr result (λ e. K.faults keeper ≤ K.faults e.0) }
         // a keeper that is handed back has the rows that it had
@@ -180,9 +186,11 @@ impl<K: Keeper, T: Trail<Entry = Change>> Book<K, T> {
             return Err((keeper, OpenError::Memory));
         };
         let mut keeper = keeper;
-        match open_machine(alloc, &mut keeper, config, now) {
+        let mut trail = trail;
+        match open_machine(alloc, &mut keeper, &mut trail, config, now) {
             Ok(machine) => {
                 let start = Snapshot::of(&machine);
+                let found = Snapshot::of(&keeper);
                 Ok(Book {
                     keeper,
                     trail,
@@ -190,6 +198,7 @@ impl<K: Keeper, T: Trail<Entry = Change>> Book<K, T> {
                     rights,
                     stamp: 0,
                     start,
+                    found,
                     alloc,
                 })
             }
@@ -280,6 +289,8 @@ impl<K: Keeper, T: Trail<Entry = Change>> Book<K, T> {
         ensures faults { K.faults result.0 ≡ self.faults }
         // the rows kept are those of the state, which is what the history leaves
         ensures rows { K.Tells result.0 → Keeps (K.rows result.0) self.hub.tables }
+        // what tells its rows at the end told them at the opening
+        ensures had { K.Tells result.0 → IsTrue self.start.has_rows }
         // the entries that are still owed take no memory
         ensures spare { owed self.hub.lives ≤ T.spare result.1 }
     {

@@ -15,10 +15,9 @@ ghost use Rattle.hub_core.specs.Needs as need;
 ghost use Rattle.hub_calls.specs.Rights.{may_of};
 
 use crate::caller::good_token;
-use crate::dispatch::row;
+use crate::dispatch::{by_nobody, row};
 use crate::holding::inside_of;
-use crate::needs::{action_refusal, is_held, is_there, needs, needs_token};
-use hub_calls::user_calls::get_version;
+use crate::needs::{first_refusal, is_held, is_there, needs, needs_token};
 use hub_kit::list::List;
 use hub_kit::moment::Moment;
 use hub_machine::answer::Answer;
@@ -66,7 +65,7 @@ fn by_token(
 ) -> Result<Answer, AllocError>
     ensures { IfOk result (λ answer. answer_view answer ≡ spec.by_token hub.now (record { may = may_of hub.now rights.now; is_held = is_held; inside = inside }) now draw call.now (Some token.now)) }
 {
-    match action_refusal(hub, rights, is_held, needs(call)) {
+    match first_refusal(alloc, hub, rights, is_held, call)? {
         Some(refusal) => Ok(Answer::Refuses(refusal)),
         None => if_there(alloc, hub, now, draw, token, rights, inside, call),
     }
@@ -141,7 +140,21 @@ fn after_seen(
     if needed {
         return with_token(alloc, hub, rights, stamp, now, draw, asked);
     }
-    get_version(alloc)
+    without_token(alloc, hub, now, draw, &asked.call)
+}
+
+/// The answer to a call that needs no token, where the history has room for its change.
+fn without_token(
+    alloc: Global,
+    hub: &Machine,
+    now: Moment,
+    draw: Option<[u8; 16]>,
+    call: &Call,
+) -> Result<Answer, AllocError>
+    ensures { IfOk result (λ a. answer_view a ≡ in_trail hub.now (spec.by_nobody hub.now now draw call.now)) }
+{
+    let answer = by_nobody(alloc, hub, now, draw, call)?;
+    hub.in_trail(alloc, answer)
 }
 
 /// The answer to such a call that needs a token.

@@ -6,6 +6,7 @@ ghost use Rattle.hub_calls.specs.Rights.{may_of};
 ghost use Rattle.hub_calls.specs.RoleCalls as calls;
 
 use access_calls::code_calls::{accept_code, delete_codes, get_codes, post_code};
+use access_calls::grant_calls::{get_authorize, post_trade};
 use access_calls::share_calls::{delete_shares, get_shares, patch_share, post_share};
 use access_calls::token_calls::{delete_token, get_token, get_tokens, post_token};
 use hub_calls::group_calls::{
@@ -144,5 +145,23 @@ pub(crate) fn row(
             services,
         } => put_role_with(alloc, hub, role, scopes, users, groups, services),
         Call::DeleteRole { role } => delete_role(alloc, hub, role),
+        Call::GetAuthorize { ask } => get_authorize(alloc, hub, now, draw, &token.owner, ask),
+        Call::PostTrade { ask } => post_trade(alloc, hub, now, draw, ask),
+    }
+}
+
+/// What a call answers that needs no token.
+pub(crate) fn by_nobody(
+    alloc: Global,
+    hub: &Machine,
+    now: Moment,
+    draw: Option<[u8; 16]>,
+    call: &Call,
+) -> Result<Answer, AllocError>
+    ensures { IfOk result (λ answer. answer_view answer ≡ spec.by_nobody hub.now now draw call.now) }
+{
+    match call {
+        Call::PostTrade { ask } => post_trade(alloc, hub, now, draw, ask),
+        _ => get_version(alloc),
     }
 }

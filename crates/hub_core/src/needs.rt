@@ -1,5 +1,5 @@
 //! What a call needs of its token, whether that is held and allowed, and whether what it speaks of is there.
-ghost use Rattle.std.specs.Prelude.{◌≡◌, Option, Some, None, true, false};
+ghost use Rattle.std.specs.Prelude.{◌≡◌, ◌∷◌, Option, Some, None, true, false, IfOk};
 ghost use Rattle.std.specs.FinMap as map;
 ghost use Rattle.hub_core.specs.Answer as spec;
 ghost use Rattle.hub_core.specs.Judged.{HasHeld};
@@ -12,24 +12,29 @@ ghost use Rattle.hub_tables.specs.Lookups.{has_server, same_owner};
 ghost use Rattle.scope_filters.specs.declared.holder.Owner.TheVariants as Own;
 
 use crate::need::Need;
+use access_calls::grant_calls::client_refusal;
 use admin_rules::roles::is_fixed_role;
 use hub_kit::names::{GroupName, RoleName, ServerKey, ServiceName, UserName};
+use hub_kit::text::Text;
 use hub_machine::call::Call;
 use hub_machine::machine::Machine;
 use hub_machine::refusal::Refusal;
+use oauth_flow::clients::{ClientOwner, whose as client_owner};
 use scope_filters::grant::Grant;
 use scope_filters::holder::Owner;
 use scope_filters::object::Object;
 use scope_meet::asks::{admits, holds_any};
 use scope_names::action::Action;
 use shares::lists::{CodesOf, SharesOf, is_code_of};
+use std::alloc::{AllocError, Global};
 
 /// What a call needs of its token.
 pub(crate) fn needs(call: &Call) -> Need
     ensures { result ≡ need.needs call.now }
 {
     match call {
-        Call::GetVersion | Call::GetIdentity { .. } => Need::GoodToken,
+        Call::GetVersion | Call::GetIdentity { .. } | Call::PostTrade { .. } => Need::GoodToken,
+        Call::GetAuthorize { ask } => needs_client(&whose_client(&ask.client_id)),
         Call::GetInfo => Need::On(Action::ReadHub, Object::Hub),
         Call::GetUsers { .. } => Need::Held(Action::ListUsers),
         Call::PostUsers { .. } | Call::PatchUser { .. } => Need::On(
@@ -101,12 +106,39 @@ fn needs_codes(whose: &CodesOf) -> Need
     }
 }
 
+/// Access to the server or the service whose client asks.
+fn needs_client(owner: &Option<ClientOwner>) -> Need
+    ensures { result ≡ need.needs_client owner.now }
+{
+    match owner {
+        Some(ClientOwner::Server(server)) => Need::On(
+            Action::AccessServers,
+            Object::Server(*server),
+        ),
+        Some(ClientOwner::Service(service)) => Need::On(
+            Action::AccessServices,
+            Object::Service(*service),
+        ),
+        None => Need::On(Action::AccessServers, Object::Hub),
+    }
+}
+
+/// Whose the client of an id is.
+fn whose_client(id: &Option<Text>) -> Option<ClientOwner>
+    ensures { result ≡ need.whose_client id.now }
+{
+    match id {
+        None => None,
+        Some(id) => client_owner(id),
+    }
+}
+
 /// Whether the call needs a token.
 pub(crate) fn needs_token(call: &Call) -> bool
     ensures { result ≡ need.needs_token call.now }
 {
     match call {
-        Call::GetVersion => false,
+        Call::GetVersion | Call::PostTrade { .. } => false,
         _ => true,
     }
 }
@@ -244,13 +276,34 @@ pub(crate) fn is_there(hub: &Machine, call: &Call) -> bool
     }
 }
 
-/// The first refusal of the rights, if one comes.
-pub(crate) fn action_refusal(
+/// Why no client asks for an authorization, if none does. No other call needs a client.
+fn no_client(alloc: Global, hub: &Machine, call: &Call) -> Result<Option<Refusal>, AllocError>
+    ensures { IfOk result (λ r. r ≡ spec.if_no_client hub.now.tables call.now) }
+{
+    match call {
+        Call::GetAuthorize { ask } => client_refusal(alloc, hub, ask),
+        _ => Ok(None),
+    }
+}
+
+/// The first refusal of the client that asks, and then of the rights, if one comes.
+pub(crate) fn first_refusal(
+    alloc: Global,
     hub: &Machine,
     rights: &Grant,
     is_held: bool,
-    need: Need,
-) -> Option<Refusal>
+    call: &Call,
+) -> Result<Option<Refusal>, AllocError>
+    ensures { IfOk result (λ r. r ≡ first_refusal (spec.if_no_client hub.now.tables call.now ∷ spec.action_rules (record { may = may_of hub.now rights.now; is_held = is_held; inside = Yes }) (need.needs call.now))) }
+{
+    match no_client(alloc, hub, call)? {
+        Some(refusal) => Ok(Some(refusal)),
+        None => Ok(action_refusal(hub, rights, is_held, needs(call))),
+    }
+}
+
+/// The first refusal of the rights, if one comes.
+fn action_refusal(hub: &Machine, rights: &Grant, is_held: bool, need: Need) -> Option<Refusal>
     ensures { result ≡ first_refusal (spec.action_rules (record { may = may_of hub.now rights.now; is_held = is_held; inside = Yes }) need) }
 {
     match need {

@@ -17,8 +17,8 @@ use Rattle.hub_lives.specs.declared.lives.Leased.{Leased}
 use Rattle.hub_lives.specs.Lives.{Lives, LifeStep, owed_by, step_of, step_at, leased_to}
 use Rattle.hub_lives.proofs.Found.{some_is}
 use Rattle.hub_lives.proofs.Sums.{without, with, owed_few}
-use Rattle.hub_machine.specs.State.{Hub, IsBounded, owed}
-use Rattle.hub_machine.specs.Apply.{effect, moved, stepped, of_lease, lived, cost_of, is_past_trail}
+use Rattle.hub_machine.specs.State.{Hub, IsBounded, most, owed}
+use Rattle.hub_machine.specs.Apply.{effect, moved, stepped, of_lease, lived, cost_of, is_past}
 use Rattle.hub_machine.specs.Batches.{batch_cost}
 use Rattle.hub_machine.specs.Carry.{has_commit}
 use Rattle.hub_machine.specs.Steps.{is_end, noted_event, KeptAs}
@@ -123,7 +123,7 @@ owed_as_before s g event why e = by (get s.lives g) e
 within : (n m : ℕ) → m ≤ n → nat_lt n m ≡ false
 within n m h = grind (arith, nat_tests)
 
-pub roomy : Falls → (s : Hub) (g : ℕ) (event : LifeEvent) → IsBounded s → is_outcome event ≡ true → IsOk (step_at s.lives g event) → is_past_trail s (Lived g event) ≡ false
+pub roomy : Falls → (s : Hub) (g : ℕ) (event : LifeEvent) → IsBounded s → is_outcome event ≡ true → IsOk (step_at s.lives g event) → is_past s (Lived g event) ≡ false
 roomy falls s g event t o h = by s.no_trail refl
   where
     by : (b : Bool) → s.no_trail ≡ b → past_by s (Lived g event) b ≡ false
@@ -135,7 +135,7 @@ roomy falls s g event t o h = by s.no_trail refl
         let less = fewer falls s g event o h in
         let cost : cost_of s (Lived g event) ≡ 64 = ap (λ b. if b then 0 else (64 + batch_cost [])) e in
         let room = t.within e in
-        within s.tables.limits.trail_bytes (s.cost + cost_of s (Lived g event) + 64 * owed (effect (Lived g event) s).lives) (omega (arith, less, cost, room))
+        within (most s) (s.cost + cost_of s (Lived g event) + 64 * owed (effect (Lived g event) s).lives) (omega (arith, less, cost, room))
 
 -- ---- few are owed after any change
 

@@ -1,6 +1,6 @@
 -- A machine stays of one piece through each kind of change: its bounds, the next generation, and the leases that are kept.
 use Rattle.std.proofs.Common.{◌≡◌, ℕ, ◌+◌, ◌-◌, ◌<◌, ◌≤◌, ◌^◌, Bool, true, false, not, cond, List, [], ◌∷◌, Option, Some, None, Ok, refl, sym, ap, subst, ◌∙◌, arith}
-use Rattle.std.specs.Prelude.{if◌then◌else◌}
+use Rattle.std.specs.Prelude.{length, if◌then◌else◌}
 use Rattle.std.specs.List.{list_any, find}
 use Rattle.std.specs.Cmp.{nat_cmp_total}
 use Rattle.std.specs.Option.{unwrap_or, is_some}
@@ -20,23 +20,23 @@ use Rattle.hub_lives.specs.Lives.{Lives, AreApart, is_leased, free_target, lease
 use Rattle.hub_lives.specs.LiveServers.{LiveServers, begins}
 use Rattle.hub_lives.specs.declared.lives.Leased.{Leased}
 use Rattle.hub_lives.proofs.Found.{none_some, get_same}
-use Rattle.hub_machine.specs.State.{Hub, IsBounded, KeepsLeases, next_generation}
-use Rattle.hub_machine.specs.Apply.{apply, change_done, cost_of, is_past_trail, end_rows, lived, of_lease, stepped, moved}
+use Rattle.hub_machine.specs.State.{Hub, IsBounded, KeepsLeases, next_generation, opening_next}
+use Rattle.hub_machine.specs.Apply.{apply, change_done, cost_of, is_past, is_past_trail, end_rows, lived, of_lease, stepped, moved}
 use Rattle.hub_machine.specs.Batches.{batch_cost}
 use Rattle.hub_machine.specs.Carry.{FitsBegin, BeginDone, touches_lives}
 use Rattle.hub_machine.specs.declared.change.Change.{Change}
 use Rattle.hub_machine.specs.declared.change.Change.TheVariants.{Rows, Begin, Life as Lived}
-use Rattle.hub_machine.proofs.Bounds.{bounded_after, true_false}
+use Rattle.hub_machine.proofs.Bounds.{bounded_after, in_trail, effect_fixed, true_false}
 use Rattle.hub_machine.proofs.KeptLeases.{kept_rows, next_rows, kept_begin, kept_life, kept_end, next_end}
 
 abbrev pub IsPiece : Hub → (next : ℕ) → Type 0
-IsPiece s next = IsBounded s × (next ≡ next_generation s.tables) × KeepsLeases s.tables s.lives × (next ≤ 2 ^ 61 + s.length)
+IsPiece s next = IsBounded s × (next ≡ next_generation s.tables) × KeepsLeases s.tables s.lives × (next ≤ opening_next s.pool + s.length)
 
 -- ---- rows alone
 
 pub piece_rows : (s : Hub) (next : ℕ) (rows : List RowChange) → IsPiece s next → list_any touches_lives rows ≡ false → is_past_trail s (Rows rows) ≡ false → IsPiece (apply (Rows rows) s) next
 piece_rows s next rows p calm room = (
-  bounded_after s (Rows rows) p.0 room,
+  bounded_after s (Rows rows) p.0 (in_trail s (Rows rows) room),
   p.1 ∙ sym (next_rows rows s.tables calm),
   kept_rows rows s.tables s.lives calm p.2,
   let few = p.3 in omega (arith, few),
@@ -80,7 +80,7 @@ pub piece_begin : (s : Hub) (next g : ℕ) (server : ServerKey) (rows : List Row
 piece_begin s next g server rows target p apart fits room =
     let same : next ≡ g = p.1 ∙ sym fits.generation in
     let free : target ≡ (leased_to s.pool s.lives g server).target = ap (λ o. unwrap_or o []) (sym fits.free) in (
-      bounded_after s (Begin g server rows) p.0 room,
+      bounded_after s (Begin g server rows) p.0 (in_trail s (Begin g server rows) room),
       ap (λ (n : ℕ). n + 1) same ∙ sym fits.raised,
       kept_begin s.tables (change_done rows s.tables) s.lives g (leased_to s.pool s.lives g server) (record { target = target; server = server; generation = Some g })
           (fits.leased ∙ ap (λ (x : List ℕ). insert s.tables.leases x (record { target = target; server = server; generation = Some g })) free) refl
@@ -136,26 +136,29 @@ pub lived_out : (s : Hub) (g : ℕ) (event : LifeEvent) (l : Leased) (made : Lif
     → lived g event s ≡ record s { tables = change_done (end_rows s.tables l) s.tables; lives = remove s.lives g }
 lived_out s g event l made is after over = step_taken s g event l made is after ∙ ap (λ ph. moved g l made.0 ph s) over
 
+lived_few : (s : Hub) (next g : ℕ) (event : LifeEvent) → next ≤ opening_next s.pool + s.length → next ≤ opening_next (lived g event s).pool + (s.length + 1)
+lived_few s next g event few = let same = ap (λ (pool : List (List ℕ)). length pool) (effect_fixed (Lived g event) s).2 in omega (arith, few, same)
+
 pub piece_life : (s : Hub) (next g : ℕ) (event : LifeEvent) (l : Leased) (made : Life × Todo) → IsPiece s next → get s.lives g ≡ Some l → life_after l.life g event ≡ Ok made → generation_of made.0.phase ≡ Some g
-    → is_past_trail s (Lived g event) ≡ false → IsPiece (apply (Lived g event) s) next
+    → is_past s (Lived g event) ≡ false → IsPiece (apply (Lived g event) s) next
 piece_life s next g event l made p is after own room =
     let now = lived_on s g event l made is after own in (
       bounded_after s (Lived g event) p.0 room,
       subst (λ (u : Hub). next ≡ next_generation u.tables) (sym now) p.1,
       subst (λ (u : Hub). KeepsLeases u.tables u.lives) (sym now) (kept_life s.tables s.lives g l (record l { life = made.0 }) is refl refl p.2),
-      let few = p.3 in omega (arith, few),
+      lived_few s next g event p.3,
     )
 
 -- ---- an end
 
 pub piece_end : (s : Hub) (next g : ℕ) (event : LifeEvent) (l : Leased) (made : Life × Todo) → IsPiece s next → AreApart s.pool s.lives next → get s.lives g ≡ Some l → life_after l.life g event ≡ Ok made → made.0.phase ≡ Stopped
-    → is_past_trail s (Lived g event) ≡ false → IsPiece (apply (Lived g event) s) next
+    → is_past s (Lived g event) ≡ false → IsPiece (apply (Lived g event) s) next
 piece_end s next g event l made p apart is after over room =
     let now = lived_out s g event l made is after over in (
       bounded_after s (Lived g event) p.0 room,
       subst (λ (u : Hub). next ≡ next_generation u.tables) (sym now) (p.1 ∙ sym (next_end s.tables l)),
       subst (λ (u : Hub). KeepsLeases u.tables u.lives) (sym now) (kept_end s.tables s.lives g l is (λ h a has at. apart.targets h g a l has is at) p.2),
-      let few = p.3 in omega (arith, few),
+      lived_few s next g event p.3,
     )
 
 -- ---- what was written down is a start
@@ -188,7 +191,7 @@ entered_on s next g event l made live cost is after own e paid =
     ∙ ap (λ (u : Hub). record u { length = s.length + 1; cost = s.cost + cost_of s (Lived g event) }) (sym (lived_on s g event l made is after own))
 
 pub piece_on : (s : Hub) (next g : ℕ) (event : LifeEvent) (l : Leased) (made : Life × Todo) (live : LiveServers) (cost : ℕ) → IsPiece s next → get s.lives g ≡ Some l → life_after l.life g event ≡ Ok made
-    → generation_of made.0.phase ≡ Some g → is_past_trail s (Lived g event) ≡ false → live ≡ record { pool = s.pool; lives = insert s.lives g (record l { life = made.0 }); next = next }
+    → generation_of made.0.phase ≡ Some g → is_past s (Lived g event) ≡ false → live ≡ record { pool = s.pool; lives = insert s.lives g (record l { life = made.0 }); next = next }
     → cost ≡ (if s.no_trail then 0 else 64) → IsPiece (record s { lives = live.lives; length = s.length + 1; cost = s.cost + cost; pool = live.pool }) live.next
 piece_on s next g event l made live cost p is after own room e paid =
     subst (λ (h : Hub). IsPiece h live.next) (sym (entered_on s next g event l made live cost is after own e paid))
@@ -203,7 +206,7 @@ entered_out s next g event l made t live cost is after over done e paid =
     ∙ ap (λ (u : Hub). record u { length = s.length + 1; cost = s.cost + cost_of s (Lived g event) }) (sym (lived_out s g event l made is after over))
 
 pub piece_out : (s : Hub) (next g : ℕ) (event : LifeEvent) (l : Leased) (made : Life × Todo) (t : State) (live : LiveServers) (cost : ℕ) → IsPiece s next → AreApart s.pool s.lives next → get s.lives g ≡ Some l
-    → life_after l.life g event ≡ Ok made → made.0.phase ≡ Stopped → is_past_trail s (Lived g event) ≡ false → t ≡ change_done (end_rows s.tables l) s.tables
+    → life_after l.life g event ≡ Ok made → made.0.phase ≡ Stopped → is_past s (Lived g event) ≡ false → t ≡ change_done (end_rows s.tables l) s.tables
     → live ≡ record { pool = s.pool; lives = remove s.lives g; next = next } → cost ≡ (if s.no_trail then 0 else 64)
     → IsPiece (record s { tables = t; lives = live.lives; length = s.length + 1; cost = s.cost + cost; pool = live.pool }) live.next
 piece_out s next g event l made t live cost p apart is after over room done e paid =

@@ -21,7 +21,7 @@ use Rattle.hub_tables.specs.Changes.{rows_done, puts_of, removals_of}
 use Rattle.hub_tables.specs.Lookups.{tokens_of}
 use Rattle.hub_tables.specs.State.{State}
 use Rattle.hub_machine.specs.Batches.{batch_cost}
-use Rattle.hub_machine.specs.State.{Hub, owed}
+use Rattle.hub_machine.specs.State.{Hub, most, owed}
 use Rattle.hub_machine.specs.declared.change.Change.{Change}
 use Rattle.hub_machine.specs.declared.change.Change.TheVariants.{Rows, Begin, Life as Lived}
 use Rattle.hub_lives.specs.Lives.{leased_to}
@@ -106,6 +106,13 @@ effect (Lived g event) s = lived g event s
 -- its effect, one entry more, and its cost
 abbrev pub apply : Change → Hub → Hub
 apply c s = record (effect c s) { length = s.length + 1; cost = s.cost + cost_of s c }
+
+-- the entry, and those that are owed after it, cost more than a history may. What was owed before it has that room
+abbrev pub is_past : Hub → Change → Bool
+is_past s c =
+    if s.no_trail
+    then nat_lt (2 ^ 62) (s.length + 1 + owed (effect c s).lives)
+    else nat_lt (most s) (s.cost + cost_of s c + 64 * owed (effect c s).lives)
 
 -- the entry, and those that are owed after it, don't fit
 abbrev pub is_past_trail : Hub → Change → Bool

@@ -1,13 +1,13 @@
 -- What is answered, and how a reply says it.
 use Rattle.std.specs.Prelude.{ℕ, Bool, false, if◌then◌else◌, List, [], ◌∷◌, ◌++◌, decimal, codes, Option, Some, None}
 use Rattle.scope_names.specs.Actions.{text_of}
-use Rattle.hub_view.specs.Json.{Json, message_body}
+use Rattle.hub_view.specs.Json.{Json, line, message_body, pairs}
 use Rattle.hub_rows.specs.declared.changes.RowChange.{RowChange}
 use Rattle.hub_machine.specs.declared.change.Change.{Change}
 use Rattle.hub_machine.specs.declared.change.Change.TheVariants.{Rows}
 use Rattle.hub_machine.specs.declared.work.Work.{Work}
 use Rattle.hub_machine.specs.declared.refusal.Refusal.{Refusal}
-use Rattle.hub_machine.specs.declared.refusal.Refusal.TheVariants.{SeenPast, NoValidToken, Needs, NotFound, NotHeld, Rule, Exists, AllLeased, Full, TrailFull, NoDraw, KeeperFault, SpawnerFault, ProxyFault, StoppedWhileStarting}
+use Rattle.hub_machine.specs.declared.refusal.Refusal.TheVariants.{SeenPast, NoValidToken, Needs, NotFound, NotHeld, NeedsUser, Rule, Grant, Exists, AllLeased, Full, TrailFull, NoDraw, KeeperFault, SpawnerFault, ProxyFault, StoppedWhileStarting}
 
 abbrev pub status_of : Refusal → ℕ
 status_of (SeenPast seen length) = 412
@@ -15,7 +15,9 @@ status_of NoValidToken = 403
 status_of (Needs action) = 403
 status_of NotFound = 404
 status_of (NotHeld scope) = 403
+status_of NeedsUser = 403
 status_of (Rule text) = 400
+status_of (Grant word) = 400
 status_of (Exists key) = 409
 status_of (AllLeased live pool) = 429
 status_of (Full kind limit) = 500
@@ -41,7 +43,9 @@ message_of NoValidToken = codes "no valid token"
 message_of (Needs action) = codes "needs " ++ text_of action
 message_of NotFound = codes "not found"
 message_of (NotHeld scope) = codes "not held: " ++ scope
+message_of NeedsUser = codes "needs a user"
 message_of (Rule text) = text
+message_of (Grant word) = word
 message_of (Exists key) = codes "exists: " ++ key
 message_of (AllLeased live pool) = leased_message live pool
 message_of (Full kind limit) = full_message kind limit
@@ -52,8 +56,22 @@ message_of SpawnerFault = codes "spawner"
 message_of ProxyFault = codes "proxy"
 message_of StoppedWhileStarting = codes "stopped while starting"
 
+-- the word of a refusal of the grant
+abbrev pub word_of : Refusal → Option (List ℕ)
+word_of (Grant word) = Some word
+word_of r = None
+
+-- the body of RFC 6749, section 5.2
+abbrev pub error_body : (word : List ℕ) → Json
+error_body word = pairs ((codes "error", line word) ∷ [])
+
+-- a word has that body, and any other refusal its message and its status
+abbrev pub body_with : (word : Option (List ℕ)) → Refusal → Json
+body_with (Some word) r = error_body word
+body_with None r = message_body (status_of r) (message_of r)
+
 abbrev pub refusal_body : Refusal → Json
-refusal_body r = message_body (status_of r) (message_of r)
+refusal_body r = body_with (word_of r) r
 
 -- the Ok of a call
 pub record Good : Type 0 where

@@ -1,5 +1,5 @@
 -- The state of the hub: its rows, its live servers, the length and the cost of its history, and what is fixed.
-use Rattle.std.specs.Prelude.{◌≡◌, ℕ, ◌+◌, ◌*◌, ◌≤◌, ◌^◌, Bool, false, List, codes, Option, Some, option_map, ◌↔◌}
+use Rattle.std.specs.Prelude.{◌≡◌, ℕ, ◌+◌, ◌*◌, ◌≤◌, ◌^◌, max, Bool, false, List, length, codes, Option, Some, option_map, ◌↔◌}
 use Rattle.std.specs.FinMap.{get}
 use Rattle.hub_kit.specs.declared.names.ServerKey.{ServerKey}
 use Rattle.server_life.specs.Pools.{IsPool}
@@ -27,13 +27,21 @@ next_generation t = next_of t (codes "generation")
 
 -- ---- what is true of every hub
 
--- A history costs at least a byte for each entry, and with 64 for each that is owed no more than the limit. Without a trail its length
--- alone is limited.
+-- What a history may cost: the limit, or what the adoptions of an opening owe, which are never asked for room: four entries for each target
+abbrev pub most : Hub → ℕ
+most s = max s.tables.limits.trail_bytes (256 * length s.pool)
+
+-- the greatest next generation of an opening: a kept number is at most 2 ^ 61, and each lease may take one more
+abbrev pub opening_next : (pool : List (List ℕ)) → ℕ
+opening_next pool = 2 ^ 61 + length pool
+
+-- A history costs at least a byte for each entry, and with 64 for each that is owed no more than it may. Without a trail its length alone
+-- is limited.
 pub record IsBounded (s : Hub) : Type 0 where
   pub length : s.length + owed s.lives ≤ 2 ^ 62
   pub counted : s.no_trail ≡ false → s.length ≤ s.cost
-  pub within : s.no_trail ≡ false → s.cost + 64 * owed s.lives ≤ s.tables.limits.trail_bytes
-  pub limit : s.tables.limits.trail_bytes ≤ 2 ^ 62
+  pub within : s.no_trail ≡ false → s.cost + 64 * owed s.lives ≤ most s
+  pub limit : most s ≤ 2 ^ 62
 
 -- the server that the row of a target names
 abbrev pub holder : State → List ℕ → Option ServerKey
@@ -52,4 +60,4 @@ pub record AreLeased (s : Hub) : Type 0 where
   pub apart : AreApart s.pool s.lives (next_generation s.tables)
   pub kept : KeepsLeases s.tables s.lives
   -- so a generation that is still to come is below 2 ^ 63
-  pub few : next_generation s.tables ≤ 2 ^ 61 + s.length
+  pub few : next_generation s.tables ≤ opening_next s.pool + s.length

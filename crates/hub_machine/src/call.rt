@@ -5,13 +5,14 @@ use hub_kit::names::{GroupName, RoleName, ServerKey, ServerName, ServiceName, Us
 use hub_kit::text::Text;
 use hub_rows::keys::Recipient;
 use hub_view::Page;
+use oauth_flow::asks::{AuthorizeAsk, TradeAsk};
 use scope_filters::scope::RawScope;
 use shares::lists::{CodesOf, SharesOf};
 use token_store::issuing::TokenAsk;
 
 /// A call of JupyterHub's REST API, named by its method and what it is on. The fields are the path's names, the query's keys and
-/// the body's keys, in this order; of a list that can be paged it is the page, of a new token all that is asked, and of whom a server is
-/// shared with the recipient, where exactly one is named.
+/// the body's keys, in this order; of a list that can be paged it is the page, of a new token and of the authorization code grant all
+/// that is asked, and of whom a server is shared with the recipient, where exactly one is named.
 #[derive(Drop)]
 pub enum Call {
     /// `GET /`: the version. It needs no token.
@@ -186,6 +187,14 @@ pub enum Call {
     /// `DELETE /roles/{role}`
     DeleteRole {
         role: RoleName,
+    },
+    /// `GET /oauth2/authorize`. It draws.
+    GetAuthorize {
+        ask: AuthorizeAsk,
+    },
+    /// `POST /oauth2/token`. It needs no token, and it draws.
+    PostTrade {
+        ask: TradeAsk,
     },
 }
 

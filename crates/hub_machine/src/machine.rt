@@ -28,7 +28,7 @@ pub struct Machine {
 impl Model for Machine {
     ghost use Rattle.std.specs.Coded.{codes};
     ghost use Rattle.std.specs.FinMap.{code};
-    ghost use Rattle.hub_machine.specs.State.{Hub, IsBounded, KeepsLeases, next_generation};
+    ghost use Rattle.hub_machine.specs.State.{Hub, IsBounded, KeepsLeases, next_generation, opening_next};
     ghost use Rattle.std.specs.Prelude.{◌≡◌, ◌≤◌, ◌+◌, ◌^◌};
 
     ghost Value = { Hub };
@@ -38,7 +38,7 @@ impl Model for Machine {
     ghost view = { λ m. record { tables = m.tables; lives = m.lives.lives; length = m.length; cost = m.cost; pool = m.lives.pool; hub_url = m.hub_url; no_trail = m.no_trail } };
 
     ghost invariant = { λ m. IsBounded (record { tables = m.tables; lives = m.lives.lives; length = m.length; cost = m.cost; pool = m.lives.pool; hub_url = m.hub_url; no_trail = m.no_trail })
-        × (m.lives.next ≡ next_generation m.tables) × KeepsLeases m.tables m.lives.lives × (m.lives.next ≤ 2 ^ 61 + m.length) };
+        × (m.lives.next ≡ next_generation m.tables) × KeepsLeases m.tables m.lives.lives × (m.lives.next ≤ opening_next m.lives.pool + m.length) };
 }
 
 impl Machine {

@@ -1,10 +1,12 @@
 //! Why the hub refuses a call.
 ghost use Rattle.std.specs.Prelude.{◌≡◌, ◌++◌, IfOk};
+ghost use Rattle.std.specs.Option.{option_copied};
 ghost use Rattle.hub_view.specs.Body.{body_tokens};
+ghost use Rattle.hub_view.specs.Json.{message_body};
 ghost use Rattle.hub_machine.specs.Replies as spec;
 
 use hub_kit::text::Text;
-use hub_view::Body;
+use hub_view::{Body, add_member, line};
 use scope_names::action::{Action, action_text};
 use std::alloc::{AllocError, Global};
 
@@ -21,8 +23,12 @@ pub enum Refusal {
     NotFound,
     /// The scope that a token asks for and its owner doesn't hold, as its text: 403.
     NotHeld(Text),
+    /// An authorization is asked for with a token of a service: 403.
+    NeedsUser,
     /// A rule of the call, in its own words: 400.
     Rule(Text),
+    /// A rule of the authorization code grant, by its word in RFC 6749, section 5.2: 400, with a body of its own.
+    Grant(Text),
     /// What the call would make is there: 409.
     Exists(Text),
     /// Each target of the pool is leased: 429.
@@ -49,9 +55,10 @@ impl Refusal {
     {
         match self {
             Refusal::SeenPast { .. } => 412,
-            Refusal::NoValidToken | Refusal::Needs(_) | Refusal::NotHeld(_) => 403,
+            Refusal::NoValidToken | Refusal::Needs(_) | Refusal::NotHeld(_) | Refusal::NeedsUser =>
+                403,
             Refusal::NotFound => 404,
-            Refusal::Rule(_) => 400,
+            Refusal::Rule(_) | Refusal::Grant(_) => 400,
             Refusal::Exists(_) | Refusal::StoppedWhileStarting => 409,
             Refusal::AllLeased { .. } => 429,
             Refusal::Full { .. } | Refusal::TrailFull => 500,
@@ -69,7 +76,8 @@ impl Refusal {
             Refusal::Needs(action) => joined(alloc, "needs ", action_text(action)),
             Refusal::NotFound => Text::from_str(alloc, "not found"),
             Refusal::NotHeld(scope) => joined(alloc, "not held: ", scope.as_str()),
-            Refusal::Rule(text) => text.copy(alloc),
+            Refusal::NeedsUser => Text::from_str(alloc, "needs a user"),
+            Refusal::Rule(text) | Refusal::Grant(text) => text.copy(alloc),
             Refusal::Exists(key) => joined(alloc, "exists: ", key.as_str()),
             Refusal::AllLeased { live, pool } => leased_message(alloc, *live, *pool),
             Refusal::Full { kind, limit } => full_message(alloc, *kind, *limit),
@@ -82,13 +90,41 @@ impl Refusal {
         }
     }
 
-    /// The message and the status.
+    /// The word of a refusal of the grant, or else the message and the status.
     pub fn body(&self, alloc: Global) -> Result<Body, AllocError>
         ensures { IfOk result (λ body. body_tokens body ≡ spec.refusal_body self.now) }
+    {
+        match self.grant_word() {
+            Some(word) => error_body(alloc, word.as_str()),
+            None => self.message_body(alloc),
+        }
+    }
+
+    /// The word of a refusal of the grant.
+    fn grant_word(&self) -> Option<&Text>
+        ensures { option_copied result ≡ spec.word_of self.now }
+    {
+        match self {
+            Refusal::Grant(word) => Some(word),
+            _ => None,
+        }
+    }
+
+    fn message_body(&self, alloc: Global) -> Result<Body, AllocError>
+        ensures { IfOk result (λ body. body_tokens body ≡ message_body (spec.status_of self.now) (spec.message_of self.now)) }
     {
         let message = self.message(alloc)?;
         hub_view::message_body(alloc, self.status(), message.as_str())
     }
+}
+
+/// The body of a refusal of the grant.
+fn error_body(alloc: Global, word: &str) -> Result<Body, AllocError>
+    ensures { IfOk result (λ body. body_tokens body ≡ spec.error_body word.now) }
+{
+    let mut fields = Vec::new(alloc);
+    add_member(alloc, &mut fields, true, "error", line(alloc, word)?)?;
+    Ok(Body::Pairs(fields))
 }
 
 /// A rule's refusal in words, which stand in two parts.

@@ -37,6 +37,8 @@ pub enum Path {
     Service,
     Roles,
     Role,
+    Authorize,
+    Trade,
 }
 
 impl Path {
@@ -70,16 +72,20 @@ impl Path {
             Path::Service => "/hub/api/services/{service}",
             Path::Roles => "/hub/api/roles",
             Path::Role => "/hub/api/roles/{role}",
+            Path::Authorize => "/hub/api/oauth2/authorize",
+            Path::Trade => "/hub/api/oauth2/token",
         }
     }
 }
 
 /// All paths, in the order of a router's rows.
-static PATHS: [Path; 25] = [
+static PATHS: [Path; 27] = [
     Path::Members,
     Path::Group,
     Path::Groups,
     Path::Info,
+    Path::Authorize,
+    Path::Trade,
     Path::Role,
     Path::Roles,
     Path::Service,

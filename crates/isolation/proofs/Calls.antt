@@ -35,7 +35,7 @@ use Rattle.hub_machine.specs.declared.refusal.Refusal.{Refusal}
 use Rattle.hub_machine.specs.declared.refusal.Refusal.TheVariants.{Needs, NotFound, NoValidToken, SeenPast}
 use Rattle.hub_machine.specs.declared.call.Asked.{Asked}
 use Rattle.hub_machine.specs.declared.call.Call.{Call}
-use Rattle.hub_machine.specs.declared.call.Call.TheVariants.{GetVersion, GetInfo, GetIdentity, GetUsers, GetUser, GetTokens, GetToken, GetShares, GetCodes, GetGroups, GetGroup, GetServices, GetService, GetRoles, GetRole}
+use Rattle.hub_machine.specs.declared.call.Call.TheVariants.{GetVersion, GetInfo, GetIdentity, GetUsers, GetUser, GetTokens, GetToken, GetShares, GetCodes, GetGroups, GetGroup, GetServices, GetService, GetRoles, GetRole, PostTrade}
 use Rattle.hub_calls.specs.Facts.{body_of_user, body_of_group, body_of_role, user_body, group_body, service_body, users_shown, groups_shown, services_shown}
 use Rattle.hub_calls.specs.UserCalls.{get_version, get_info, identity, identity_of_user}
 use Rattle.access_calls.specs.TokenCalls.{token_at}
@@ -44,7 +44,7 @@ use Rattle.access_calls.specs.CodeCalls.{code_at, codes_path}
 use Rattle.hub_core.specs.Needs.{has_token, has_sharer, has_offerer, needs_token}
 use Rattle.hub_tables.specs.Ends.{is_over}
 use Rattle.scope_meet.specs.declared.inside.Inside.TheVariants.{Yes}
-use Rattle.hub_core.specs.Answer.{Judgement, answer, by_call, caller, good_token, if_good, is_past, named}
+use Rattle.hub_core.specs.Answer.{Judgement, answer, by_call, by_nobody, caller, good_token, if_good, is_past, named}
 use Rattle.hub_core.specs.Judged.{Judged, JudgesToken, JudgesCaller, HeldOf}
 use Rattle.hub_core.specs.History.{Answers}
 use Rattle.hub_core.specs.declared.need.Need.TheVariants.{Held}
@@ -310,14 +310,22 @@ judged_by h now j asked c reached is judged =
     let by : Bool → Option Token → Type 0 = λ b x. JudgesCaller h.tables asked.call j (cond b None (cond (needs_token asked.call) x None)) in
     subst (by false) is (subst (λ b. by b (caller h now asked)) reached judged)
 
--- without a good token a call gets the same in all states
-without : (s t : Hub) (now : ℕ) (draw draw' : Option (List ℕ)) (j j' : Judgement) (call : Call) → in_trail s (by_call s j now draw None call) ≡ in_trail t (by_call t j' now draw' None call)
-without s t now draw draw' j j' call = elim (needs_token call) as (λ b. in_trail s (cond b (refuses NoValidToken) get_version) ≡ in_trail t (cond b (refuses NoValidToken) get_version)) [ true ↦ refl | false ↦ refl ]
+-- what a GET gets that needs no token
+nobody : (s : Hub) (now : ℕ) (draw : Option (List ℕ)) (call : Call) → IsTrue (is_get call) → by_nobody s now draw call ≡ get_version
+nobody s now draw (PostTrade ask) get = absurd (cc)
+nobody s now draw _ get = refl
+
+-- without a good token a GET gets the same in all states
+without : (s t : Hub) (now : ℕ) (draw draw' : Option (List ℕ)) (j j' : Judgement) (call : Call) → IsTrue (is_get call) → in_trail s (by_call s j now draw None call) ≡ in_trail t (by_call t j' now draw' None call)
+without s t now draw draw' j j' call get =
+    ap (λ r. in_trail s (cond (needs_token call) (refuses NoValidToken) r)) (nobody s now draw call get)
+    ∙ elim (needs_token call) as (λ b. in_trail s (cond b (refuses NoValidToken) get_version) ≡ in_trail t (cond b (refuses NoValidToken) get_version)) [ true ↦ refl | false ↦ refl ]
+    ∙ sym (ap (λ r. in_trail t (cond (needs_token call) (refuses NoValidToken) r)) (nobody t now draw' call get))
 
 by_caller : (s t : Hub) (now : ℕ) (draw draw' : Option (List ℕ)) (j j' : Judgement) (asked : Asked) (k : Token) (over : Bool) → SeesSame k s t → IsTrue (is_get asked.call) → Finds s asked k → Finds t asked k
     → caller s now asked ≡ cond over None (Some k) → caller t now asked ≡ cond over None (Some k) → Judged s now asked j → Judged t now asked j'
     → in_trail s (by_call s j now draw (cond over None (Some k)) asked.call) ≡ in_trail t (by_call t j' now draw' (cond over None (Some k)) asked.call)
-by_caller s t now draw draw' j j' asked k true seen get a b from from' judged judged' = without s t now draw draw' j j' asked.call
+by_caller s t now draw draw' j j' asked k true seen get a b from from' judged judged' = without s t now draw draw' j j' asked.call get
 by_caller s t now draw draw' j j' asked k false seen get a b from from' judged judged' =
     by_get k s t seen a.own b.own now draw draw' j j' asked.call get (judged_by s now j asked (Some k) a.reached from judged) (judged_by t now j' asked (Some k) b.reached from' judged')
 

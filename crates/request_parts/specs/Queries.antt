@@ -1,4 +1,4 @@
--- The values of a query (URL Standard, 5.1).
+-- The values of a query, and of a body that is a form (URL Standard, 5.1).
 use Rattle.std.specs.Prelude.{ℕ, List, [], ◌∷◌, bytes_eq, Option, Some, None, if◌then◌else◌}
 use Rattle.std.specs.Str.Lossy.{utf8_lossy}
 use Rattle.form_urlencoded.specs.Form.{raw_pairs, decode}
@@ -15,7 +15,7 @@ abbrev pub value_of : List ℕ → List (List ℕ × List ℕ) → Option (List 
 value_of key [] = None
 value_of key (pair ∷ rest) = if bytes_eq (text_of pair.0) key then Some (text_of pair.1) else value_of key rest
 
--- the first value of a key in a query
+-- the first value of a key in a query or a form
 unfoldable pub query_value : List ℕ → List ℕ → Option (List ℕ)
 query_value key query = value_of key (raw_pairs query)
 

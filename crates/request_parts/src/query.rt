@@ -1,4 +1,4 @@
-//! The values of a query (URL Standard, 5.1). Of equal keys the first counts.
+//! The values of a query, and of a body that is a form (URL Standard, 5.1). Of equal keys the first counts.
 ghost use Rattle.std.specs.Prelude.{◌≡◌, bytes_eq, Some, None, if◌then◌else◌, IfOk};
 ghost use Rattle.request_parts.specs.Queries as spec;
 
@@ -7,11 +7,18 @@ use hub_kit::text::Text;
 use std::alloc::{AllocError, Global};
 
 /// The first value of a key in a query.
-#[tactic(auto, unfolding(crate::specs::Queries::query_value))]
 pub fn query_value(alloc: Global, query: &str, key: &str) -> Result<Option<Text>, AllocError>
     ensures { IfOk result (λ value. value ≡ spec.query_value key.now query.now) }
 {
-    for pair in form_urlencoded::parse(alloc, query.as_bytes()) {
+    form_value(alloc, query.as_bytes(), key)
+}
+
+/// The first value of a key in a form.
+#[tactic(auto, unfolding(crate::specs::Queries::query_value))]
+pub fn form_value(alloc: Global, form: &[u8], key: &str) -> Result<Option<Text>, AllocError>
+    ensures { IfOk result (λ value. value ≡ spec.query_value key.now form.now) }
+{
+    for pair in form_urlencoded::parse(alloc, form) {
         let (name, value) = pair?;
         let found = value_under(alloc, key, name.as_str(), value.as_str());
         drop(name);

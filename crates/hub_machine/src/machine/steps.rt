@@ -3,7 +3,7 @@ ghost use Rattle.std.specs.Prelude.{◌≡◌, ◌≢◌, ◌<◌, ◌≤◌, �
 ghost use Rattle.hub_devices.specs.Faults.{Rises};
 ghost use Rattle.server_life.specs.Lives.{is_outcome};
 ghost use Rattle.server_life.specs.declared.life.LifeEvent.{LifeEvent};
-ghost use Rattle.hub_machine.specs.Apply.{apply, is_past_trail, lived, step_at};
+ghost use Rattle.hub_machine.specs.Apply.{apply, is_past, lived, step_at};
 ghost use Rattle.hub_machine.specs.KeptRows.{Keeps};
 ghost use Rattle.hub_machine.specs.State.{owed};
 ghost use Rattle.hub_machine.specs.Steps as spec;
@@ -29,7 +29,7 @@ fn is_end(event: LifeEvent) -> bool
 impl Machine {
     /// That the history has room for each outcome, and is owed less after it. It does nothing.
     fn has_room(&self)
-        ensures room { (g : ℕ) (event : LifeEvent) → is_outcome event ≡ true → IsOk (step_at self.now.lives g event) → is_past_trail self.now (Life g event) ≡ false }
+        ensures room { (g : ℕ) (event : LifeEvent) → is_outcome event ≡ true → IsOk (step_at self.now.lives g event) → is_past self.now (Life g event) ≡ false }
         ensures fewer { (g : ℕ) (event : LifeEvent) → is_outcome event ≡ true → IsOk (step_at self.now.lives g event) → owed (lived g event self.now).lives < owed self.now.lives }
     {
         let _length = self.length;
@@ -38,7 +38,7 @@ impl Machine {
 
     /// Takes a step of a life that isn't over then. Takes no memory.
     pub(crate) fn live(&mut self, generation: u64, event: LifeEvent)
-        requires room { is_past_trail self.old (Life generation event) ≡ false }
+        requires room { is_past self.old (Life generation event) ≡ false }
         requires may { IsOk (step_at self.old.lives generation event) }
         requires goes_on { spec.is_end event ≡ false }
         ensures hub { self.new ≡ apply (Life generation event) self.old }
@@ -63,7 +63,7 @@ impl Machine {
         generation: u64,
         event: LifeEvent,
     ) -> Kept
-        requires room { is_past_trail self.old (Life generation event) ≡ false }
+        requires room { is_past self.old (Life generation event) ≡ false }
         requires may { IsOk (step_at self.old.lives generation event) }
         requires over { spec.is_end event ≡ true }
         ensures asked { result ≢ Of.NotAsked }

@@ -14,15 +14,16 @@ invariant_of-self g c = (
       (g.K.Keeper.faults c.self.inside.keeper) (g.K.Keeper.faults c.step.new.keeper) c.step.ensures.steps c.self.invariant.1,
   c.step.ensures.room,
   λ tells. c.step.ensures.keeps tells (c.self.invariant.3 (c.step.ensures.told tells)),
+  λ tells. c.self.invariant.4 (c.step.ensures.told tells),
 )
 
 pub returns-clause-start : goal.returns-clause-start
 returns-clause-start g c =
-    let P : Standing → Type 0 = λ b. (record { machine = c.self.inside.start.value; tells = is_some (g.T.Trail.told c.step.new.trail) }) ≡ b.start in
+    let P : Standing → Type 0 = λ b. (record { machine = c.self.inside.start.value; tells = is_some (g.T.Trail.told c.step.new.trail); has_rows = g.K.Keeper.is_told c.self.inside.found.value }) ≡ b.start in
     let same = told_stepped c.self.inside.machine c.step.new.self (g.T.Trail.told c.self.inside.trail) (g.T.Trail.told c.step.new.trail)
     (g.T.Trail.long c.self.inside.trail) (g.T.Trail.long c.step.new.trail) c.args.generation c.args.event c.step.result
     (g.K.Keeper.faults c.self.inside.keeper) (g.K.Keeper.faults c.step.new.keeper) c.step.ensures.steps in
-    subst P c.self.view_is (λ i. record { machine = c.self.inside.start.value; tells = same i })
+    subst P c.self.view_is (λ i. record { machine = c.self.inside.start.value; tells = same i; has_rows = g.K.Keeper.is_told c.self.inside.found.value })
 
 pub returns-clause-followed : goal.returns-clause-followed
 returns-clause-followed g c =
@@ -33,7 +34,7 @@ returns-clause-followed g c =
 pub returns-clause-lives : goal.returns-clause-lives
 returns-clause-lives g c =
     let new : Standing = (record {
-      start = record { machine = c.self.inside.start.value; tells = is_some (g.T.Trail.told c.step.new.trail) };
+      start = record { machine = c.self.inside.start.value; tells = is_some (g.T.Trail.told c.step.new.trail); has_rows = g.K.Keeper.is_told c.self.inside.found.value };
       hub = c.step.new.self;
       told = g.T.Trail.told c.step.new.trail;
       faults = g.K.Keeper.faults c.step.new.keeper;
@@ -59,7 +60,7 @@ returns-clause-placed g c =
     (g.T.Trail.long c.self.inside.trail) (g.T.Trail.long c.step.new.trail) c.args.generation c.args.event c.step.result
     (g.K.Keeper.faults c.self.inside.keeper) (g.K.Keeper.faults c.step.new.keeper) c.requires.outcome c.self.invariant.0 c.step.ensures.steps in
     subst P c.self.view_is
-    (lived_at c.self.inside.start.value c.self.inside.machine c.step.new.self (g.T.Trail.told c.self.inside.trail) (g.T.Trail.told c.step.new.trail)
+    (lived_at c.self.inside.start.value (g.K.Keeper.is_told c.self.inside.found.value) c.self.inside.machine c.step.new.self (g.T.Trail.told c.self.inside.trail) (g.T.Trail.told c.step.new.trail)
     (g.T.Trail.long c.self.inside.trail) (g.T.Trail.long c.step.new.trail) c.args.generation c.args.event c.step.result
     (g.K.Keeper.faults c.self.inside.keeper) (g.K.Keeper.faults c.step.new.keeper) c.self.invariant.0 tied c.step.ensures.steps
     (same_count c.step.result (ap g.K.Keeper.faults) c.step.ensures.untouched))

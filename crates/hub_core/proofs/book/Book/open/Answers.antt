@@ -1,22 +1,38 @@
-use Rattle.std.proofs.Common.{◌≤◌, ap, sym, subst, arith}
-use Rattle.hub_machine.specs.KeptRows.{Keeps}
+use Rattle.std.proofs.Common.{◌≤◌, ◌∙◌, IsTrue, ap, is_some, refl, sym, subst, arith}
 use Rattle.hub_machine.specs.State.{Hub}
-use Rattle.hub_opening.proofs.Opened.{owed_spare}
-use Rattle.hub_core.specs.Current.{AreNumbered}
 use Rattle.hub_core.proofs.Looking.{current_empty}
 use Rattle.hub_core.proofs.Numbered.{numbered_opened}
+use Rattle.hub_core.proofs.Found.{set_up_where}
 use Rattle.hub_core.proofs.Tied.{tied_opening}
 use Rattle.hub_core.proofs.book.Book.open.Goals as goal
 
 pub invariant_of-result : goal.invariant_of-result
 invariant_of-result g c = (
-  tied_opening c.of-start.result.value c.in-Ok-open_machine.machine (g.T.Trail.told c.args.trail) (g.T.Trail.long c.args.trail)
-      c.of-start.ensures (ap (λ (hub : Hub). hub.length) c.in-Ok-open_machine.ensures.ok.hub) c.requires.empty (g.met.T.Trail.counted c.args.trail),
+  tied_opening c.of-start.result.value c.in-Ok-open_machine.machine (g.T.Trail.told c.open_machine.new.trail) (g.T.Trail.long c.open_machine.new.trail)
+      c.of-start.ensures (ap (λ (hub : Hub). hub.length) c.in-Ok-open_machine.ensures.ok.hub) (c.open_machine.ensures.trail.1 ∙ c.requires.empty) (g.met.T.Trail.counted c.open_machine.new.trail),
   record {
     current = current_empty c.in-Ok.rights c.in-Ok-open_machine.machine.tables 0 1024 c.in-Ok.ensures;
-    numbered = subst (λ (hub : Hub). AreNumbered hub.tables) (sym c.in-Ok-open_machine.ensures.ok.hub) (numbered_opened c.args.config.now c.args.now);
+    numbered = numbered_opened c.args.config.now c.args.now (g.K.Keeper.Tells c.open_machine.new.keeper) (g.K.Keeper.rows c.args.keeper) c.in-Ok-open_machine.machine c.in-Ok-open_machine.ensures.ok;
     room = let none : 0 ≤ c.in-Ok-open_machine.machine.length = omega arith in none;
   },
-  owed_spare c.in-Ok-open_machine.machine.lives (g.T.Trail.spare c.args.trail) (ap (λ (hub : Hub). hub.lives) c.in-Ok-open_machine.ensures.ok.hub),
-  λ tells. subst (λ (hub : Hub). Keeps (g.K.Keeper.rows c.open_machine.new.keeper) hub.tables) (sym c.in-Ok-open_machine.ensures.ok.hub) (c.in-Ok-open_machine.ensures.keeps tells),
+  c.in-Ok-open_machine.ensures.room,
+  c.in-Ok-open_machine.ensures.keeps,
+  λ tells. subst (λ k. IsTrue (g.K.Keeper.is_told k)) (sym c.of-found.ensures) ((g.met.K.Keeper.decides c.open_machine.new.keeper).0 tells),
 )
+
+pub returns-in-Ok-open_machine-clause-ok : goal.returns-in-Ok-open_machine-clause-ok
+returns-in-Ok-open_machine-clause-ok g c =
+    let decides = g.met.K.Keeper.decides c.open_machine.new.keeper in
+    let was : IsTrue (g.K.Keeper.is_told c.of-found.result.value) → g.K.Keeper.Tells c.open_machine.new.keeper =
+    λ has. decides.1 (subst (λ k. IsTrue (g.K.Keeper.is_told k)) c.of-found.ensures has) in
+    record {
+      set_up = set_up_where c.args.config.now c.args.now (IsTrue (g.K.Keeper.is_told c.of-found.result.value)) (g.K.Keeper.Tells c.open_machine.new.keeper) (g.K.Keeper.rows c.args.keeper)
+          c.of-start.result.value c.in-Ok-open_machine.machine c.of-start.ensures was c.in-Ok-open_machine.ensures.ok;
+      was_told = λ has. c.open_machine.ensures.told (was has);
+      tells = ap is_some c.open_machine.ensures.trail.0;
+      hub = sym c.of-start.ensures;
+      told = c.open_machine.ensures.trail.0;
+      counted = c.open_machine.ensures.counted;
+      rights = c.in-Ok.ensures;
+      stamp = refl;
+    }

@@ -6,4 +6,4 @@ use Rattle.hub_core.proofs.book.Book.stands.Goals as goal
 pub returns : goal.returns
 returns g c =
     subst (λ (b : Standing). Reached b.start (entries_of b) b.hub) c.self.view_is
-    (reached c.self.inside.start.value c.self.inside.machine (g.T.Trail.told c.self.inside.trail) (g.T.Trail.long c.self.inside.trail) c.self.invariant.0)
+    (reached c.self.inside.start.value (g.K.Keeper.is_told c.self.inside.found.value) c.self.inside.machine (g.T.Trail.told c.self.inside.trail) (g.T.Trail.long c.self.inside.trail) c.self.invariant.0)

@@ -31,21 +31,22 @@ invariant_of-self-2 g c = (
       (record { current = c.decide.ensures.current; numbered = c.self.invariant.1.numbered; room = c.self.invariant.1.room }),
   c.carry.ensures.spare c.self.invariant.2,
   c.carry.ensures.keeps c.self.invariant.3,
+  λ tells. c.self.invariant.4 (c.carry.ensures.told tells),
 )
 
 pub returns-clause-start : goal.returns-clause-start
 returns-clause-start g c =
-    let P : Standing → Type 0 = λ b. (record { machine = c.self.inside.start.value; tells = is_some (g.T.Trail.told c.carry.new.trail) }) ≡ b.start in
+    let P : Standing → Type 0 = λ b. (record { machine = c.self.inside.start.value; tells = is_some (g.T.Trail.told c.carry.new.trail); has_rows = g.K.Keeper.is_told c.self.inside.found.value }) ≡ b.start in
     let same = tells_same (change_of (answer_view c.in_ok-answer.answer)) (says_of (answer_view c.in_ok-answer.answer) c.self.inside.machine) c.carry.result
     (record { hub = c.self.inside.machine; told = g.T.Trail.told c.self.inside.trail; long = g.T.Trail.long c.self.inside.trail; stamp = c.self.inside.stamp; faults = g.K.Keeper.faults c.self.inside.keeper })
     (record { hub = c.carry.new.machine; told = g.T.Trail.told c.carry.new.trail; long = g.T.Trail.long c.carry.new.trail; stamp = c.carry.new.stamp; faults = g.K.Keeper.faults c.carry.new.keeper })
     c.carry.ensures.carried in
-    subst P c.self.view_is (λ i. record { machine = c.self.inside.start.value; tells = same i })
+    subst P c.self.view_is (λ i. record { machine = c.self.inside.start.value; tells = same i; has_rows = g.K.Keeper.is_told c.self.inside.found.value })
 
 pub returns-clause-visited : goal.returns-clause-visited
 returns-clause-visited g c =
     let after : Standing = (record {
-      start = record { machine = c.self.inside.start.value; tells = is_some (g.T.Trail.told c.carry.new.trail) };
+      start = record { machine = c.self.inside.start.value; tells = is_some (g.T.Trail.told c.carry.new.trail); has_rows = g.K.Keeper.is_told c.self.inside.found.value };
       hub = c.carry.new.machine;
       told = g.T.Trail.told c.carry.new.trail;
       faults = g.K.Keeper.faults c.carry.new.keeper;
@@ -86,7 +87,7 @@ returns-clause-placed g c =
     (record { hub = c.carry.new.machine; told = g.T.Trail.told c.carry.new.trail; long = g.T.Trail.long c.carry.new.trail; stamp = c.carry.new.stamp; faults = g.K.Keeper.faults c.carry.new.keeper })
     c.in_ok-answer.ensures.answers c.self.invariant.0 c.carry.ensures.carried) in
     subst P c.self.view_is
-    (visited_at c.self.inside.start.value c.args.now c.args.draw c.args.asked.now (answer_view c.in_ok-answer.answer) c.carry.result
+    (visited_at c.self.inside.start.value (g.K.Keeper.is_told c.self.inside.found.value) c.args.now c.args.draw c.args.asked.now (answer_view c.in_ok-answer.answer) c.carry.result
     (record { hub = c.self.inside.machine; told = g.T.Trail.told c.self.inside.trail; long = g.T.Trail.long c.self.inside.trail; stamp = c.self.inside.stamp; faults = g.K.Keeper.faults c.self.inside.keeper })
     (record { hub = c.carry.new.machine; told = g.T.Trail.told c.carry.new.trail; long = g.T.Trail.long c.carry.new.trail; stamp = c.carry.new.stamp; faults = g.K.Keeper.faults c.carry.new.keeper })
     c.in_ok-answer.ensures.answers c.self.invariant.0 tied c.carry.ensures.carried)

@@ -1,7 +1,7 @@
 use Rattle.std.proofs.Common.{◌≡◌, refl, ap, sym, ◌∙◌, arith}
 use Rattle.std.proofs.lemmas.Grind.{common_steps}
 use Rattle.std.specs.Prelude.{if◌then◌else◌, IsOk, is_ok}
-use Rattle.hub_machine.specs.Apply.{is_past_trail, step_at}
+use Rattle.hub_machine.specs.Apply.{is_past, step_at}
 use Rattle.hub_machine.specs.State.{Hub}
 use Rattle.hub_machine.specs.declared.change.Change.TheVariants.{Life}
 use Rattle.hub_machine.specs.declared.step.Kept.TheVariants as Of
@@ -20,7 +20,7 @@ invariant_of-self g c =
     let kept : c.carry_end-kept.result ≡ Of.Kept = grind (arith, common_steps) in
     piece_out s c.self.inside.lives.next c.args.generation c.args.event c.in-Some.lease.now m.0 c.carry_end-kept.new.tables c.end.new.self c.entry_cost-cost.result c.self.invariant c.are_apart.ensures.apart
     (sym c.in-Some.ensures) after (is_over c.in-Some.lease.now.life c.args.generation c.args.event m.0 c.requires.over after)
-    (ap (λ (h : Hub). is_past_trail h (Life c.args.generation c.args.event)) c.self.view_is ∙ c.requires.room)
+    (ap (λ (h : Hub). is_past h (Life c.args.generation c.args.event)) c.self.view_is ∙ c.requires.room)
     (ended c.in-Some.lease.now c.carry_end-kept.result c.self.inside.tables c.carry_end-kept.new.tables c.carry_end-kept.ensures.done kept) c.end.ensures
     (c.entry_cost-cost.ensures ∙ ap (λ (h : Hub). if h.no_trail then 0 else 64) (sym c.self.view_is))
 
