@@ -1,2 +1,4 @@
-pub mod Refusals
+pub mod Both
+pub mod Numbers
 pub mod Simple
+pub mod Taken

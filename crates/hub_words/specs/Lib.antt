@@ -1,1 +1,9 @@
-pub mod Words
+pub mod Arguments
+pub mod Commands
+pub mod Cull
+pub mod Guard
+pub mod Load
+pub mod Proxy
+pub mod Serve
+pub mod Session
+pub mod Values

@@ -1,6 +1,16 @@
-//! The words of the hub's commands.
-//! The contract of `session::read_session` carries it: the words are read as their definition says, or refused. The commands of
-//! `hub_main` stand above.
+//! The words of the hub's commands, a module and a struct for each command.
+//! The contract of each reader, as `session::read_session`, carries it: words are read as their definition says, or refused. The
+//! commands of `hub_main` stand above.
 #![tactic(auto)]
 
+mod address;
+mod command;
+pub mod cull;
+mod from_word;
+pub mod guard;
+pub mod load;
+pub mod proxy;
+pub mod serve;
 pub mod session;
+mod values;
+pub mod word_error;

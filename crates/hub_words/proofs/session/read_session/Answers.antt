@@ -1,13 +1,27 @@
-use Rattle.std.proofs.Common.{rules, ◌≡◌, ◌≢◌, ◌∙◌, [], map, ap, codes, List, ℕ, true, subst}
-use Rattle.clap.specs.Faults.{fault_of}
-use Rattle.hub_words.specs.declared.session.WordError.TheVariants.{Refused}
-use Rattle.hub_words.specs.Words.{begins, session_app}
-use Rattle.hub_words.proofs.Refusals.{refused}
+use Rattle.std.proofs.Common.{rules, ◌≡◌, ◌∙◌, true, ap, map, codes}
+use Rattle.clap.specs.Faults.{is_simple_and_free}
+use Rattle.clap.specs.Simple.{is_simple}
+use Rattle.hub_words.specs.Commands.{begins}
+use Rattle.hub_words.specs.Session.{session_app, session_of}
+use Rattle.hub_words.proofs.Simple.{session_is_free, session_is_simple}
+use Rattle.hub_words.proofs.Taken.{taken, refused}
 use Rattle.hub_words.proofs.session.read_session.Goals as goal
+
+pub matches_in-requires-clause-free : goal.matches_in-requires-clause-free
+matches_in-requires-clause-free c = ap is_simple_and_free c.in-Ok-session_command.ensures ∙ session_is_free
+
+pub matches_in-requires-clause-simple : goal.matches_in-requires-clause-simple
+matches_in-requires-clause-simple c = ap is_simple c.in-Ok-session_command.ensures ∙ session_is_simple
+
+pub returns-in-Ok-matches_in : goal.returns-in-Ok-matches_in
+returns-in-Ok-matches_in c =
+    let first : begins (codes "session") c.args.words.now ≡ true = search rules in
+    let same : map (λ s. s.now) c.as_slice.result.now ≡ c.args.words.now = ap (map (λ s. s.now)) c.as_slice.ensures.value ∙ c.in-Ok.ensures in
+    let known = c.in-Ok-matches_in.ensures in
+    taken (codes "session") session_app session_of c.args.words.now _ _ _ c.session_of.result first c.in-Ok-session_command.ensures same known.taken known.rows c.session_of.ensures
 
 pub returns : goal.returns
 returns c =
     let first : begins (codes "session") c.args.words.now ≡ true = search rules in
     let same : map (λ s. s.now) c.as_slice.result.now ≡ c.args.words.now = ap (map (λ s. s.now)) c.as_slice.ensures.value ∙ c.in-Ok.ensures in
-    let P : List (List ℕ) → Type 0 = λ words. c.in-Err.error ≡ Refused → fault_of session_app words ≢ [] in
-    refused c.args.words.now c.in-Err.error first (subst P same c.in-Err.ensures.err)
+    refused (codes "session") session_app session_of c.args.words.now _ _ c.in-Err.error first c.in-Ok-session_command.ensures same c.in-Err.ensures.err

@@ -2,7 +2,8 @@ use Rattle.std.proofs.Common.{rules, ap₂, codes, ◌≡◌, ◌∙◌}
 use Rattle.std.proofs.lemmas.Result.{IfOk-weaker}
 use Rattle.clap.specs.Walk.{rule_of}
 use Rattle.clap.specs.Simple.{app_of, new_app, with_rule}
-use Rattle.hub_words.specs.Words.{session_app, positional_rule, flag_rule}
+use Rattle.hub_words.specs.Commands.{positional_rule, flag_rule, choice_rule}
+use Rattle.hub_words.specs.Session.{session_app}
 use Rattle.hub_words.proofs.session.session_command.Goals as goal
 
 pub returns : goal.returns
@@ -12,8 +13,14 @@ returns c =
     let a2 : rule_of c.positional-2.result ≡ positional_rule (codes "USER") = search rules in
     let a3 : rule_of c.positional-3.result ≡ positional_rule (codes "TOKEN") = search rules in
     let a4 : rule_of c.flag.result ≡ flag_rule (codes "admin") = search rules in
+    let a5 : rule_of c.choice.result ≡ choice_rule (codes "config") = search rules in
+    let a6 : rule_of c.choice-2.result ≡ choice_rule (codes "db") = search rules in
+    let a7 : rule_of c.flag-2.result ≡ flag_rule (codes "no-trail") = search rules in
     let s0 : app_of c.new.result ≡ new_app (codes "session") = search rules in
     let s1 = c.in_ok-command.ensures ∙ ap₂ with_rule s0 a1 in
     let s2 = c.in_ok-command-2.ensures ∙ ap₂ with_rule s1 a2 in
     let s3 = c.in_ok-command-3.ensures ∙ ap₂ with_rule s2 a3 in
-    IfOk-weaker c.with-4.result _ _ (λ r h. h ∙ ap₂ with_rule s3 a4) c.with-4.ensures
+    let s4 = c.in_ok-command-4.ensures ∙ ap₂ with_rule s3 a4 in
+    let s5 = c.in_ok-command-5.ensures ∙ ap₂ with_rule s4 a5 in
+    let s6 = c.in_ok-command-6.ensures ∙ ap₂ with_rule s5 a6 in
+    IfOk-weaker c.with-7.result _ _ (λ r h. h ∙ ap₂ with_rule s6 a7) c.with-7.ensures

@@ -1,7 +1,7 @@
 use Rattle.std.proofs.Common.{rules, ◌≡◌, true}
-use Rattle.hub_words.specs.Words.{is_number}
-use Rattle.hub_words.proofs.Refusals.{past_u64}
-use Rattle.hub_words.proofs.session.moment_in.Goals as goal
+use Rattle.hub_words.specs.Values.{is_number}
+use Rattle.hub_words.proofs.Numbers.{past_u64}
+use Rattle.hub_words.proofs.values.number_in.Goals as goal
 
 pub returns-in-Err : goal.returns-in-Err
 returns-in-Err c =

@@ -1,0 +1,28 @@
+use Rattle.std.proofs.Common.{rules, ap₂, codes, ◌≡◌, ◌∙◌}
+use Rattle.std.proofs.lemmas.Result.{IfOk-weaker}
+use Rattle.clap.specs.Walk.{rule_of}
+use Rattle.clap.specs.Simple.{app_of, new_app, with_rule}
+use Rattle.hub_words.specs.Commands.{needed_choice_rule, choice_rule, flag_rule}
+use Rattle.hub_words.specs.Cull.{cull_app}
+use Rattle.hub_words.proofs.cull.cull_command.Goals as goal
+
+pub returns : goal.returns
+unfolding cull_app
+returns c =
+    let a1 : rule_of c.needed_choice.result ≡ needed_choice_rule (codes "hub") = search rules in
+    let a2 : rule_of c.needed_choice-2.result ≡ needed_choice_rule (codes "token-file") = search rules in
+    let a3 : rule_of c.choice.result ≡ choice_rule (codes "timeout") = search rules in
+    let a4 : rule_of c.choice-2.result ≡ choice_rule (codes "max-age") = search rules in
+    let a5 : rule_of c.flag.result ≡ flag_rule (codes "cull-users") = search rules in
+    let a6 : rule_of c.flag-2.result ≡ flag_rule (codes "remove-named-servers") = search rules in
+    let a7 : rule_of c.choice-3.result ≡ choice_rule (codes "cull-every") = search rules in
+    let a8 : rule_of c.choice-4.result ≡ choice_rule (codes "rounds") = search rules in
+    let s0 : app_of c.new.result ≡ new_app (codes "cull") = search rules in
+    let s1 = c.in_ok-command.ensures ∙ ap₂ with_rule s0 a1 in
+    let s2 = c.in_ok-command-2.ensures ∙ ap₂ with_rule s1 a2 in
+    let s3 = c.in_ok-command-3.ensures ∙ ap₂ with_rule s2 a3 in
+    let s4 = c.in_ok-command-4.ensures ∙ ap₂ with_rule s3 a4 in
+    let s5 = c.in_ok-command-5.ensures ∙ ap₂ with_rule s4 a5 in
+    let s6 = c.in_ok-command-6.ensures ∙ ap₂ with_rule s5 a6 in
+    let s7 = c.in_ok-command-7.ensures ∙ ap₂ with_rule s6 a7 in
+    IfOk-weaker c.with-8.result _ _ (λ r h. h ∙ ap₂ with_rule s7 a8) c.with-8.ensures

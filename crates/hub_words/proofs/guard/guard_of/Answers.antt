@@ -1,0 +1,12 @@
+use Rattle.std.proofs.Common.{Some, ◌∙◌, ap, sym}
+use Rattle.hub_words.specs.Guard.{guard_with}
+use Rattle.hub_words.proofs.Both.{mapped, unmapped}
+use Rattle.hub_words.proofs.guard.guard_of.Goals as goal
+
+pub returns-in-Ok : goal.returns-in-Ok
+returns-in-Ok c =
+    mapped guard_with _ _ _ (c.both-values.ensures _ _ (c.both.ensures _ _ c.needed.ensures c.needed-2.ensures) (c.both-2.ensures _ _ c.needed-3.ensures c.needed-4.ensures)) c.in-Ok.is ∙ ap Some (sym c.guard_with.ensures)
+
+pub returns-in-Err : goal.returns-in-Err
+returns-in-Err c =
+    unmapped guard_with _ _ _ (c.both-values.ensures _ _ (c.both.ensures _ _ c.needed.ensures c.needed-2.ensures) (c.both-2.ensures _ _ c.needed-3.ensures c.needed-4.ensures)) c.in-Err.is

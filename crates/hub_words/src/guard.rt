@@ -1,0 +1,95 @@
+//! The words of the command `guard`.
+ghost use Rattle.std.specs.Prelude.{◌≡◌, IfOk};
+ghost use Rattle.clap.specs.Matches.{found_of};
+ghost use Rattle.clap.specs.Simple.{app_of};
+ghost use Rattle.clap.specs.Walk.{rows_of};
+ghost use Rattle.hub_words.specs.Commands.{Answers};
+ghost use Rattle.hub_words.specs.Guard as spec;
+
+use crate::command::{begins, matches_in, needed_choice, texts_of, with};
+use crate::from_word::{both, needed};
+use crate::word_error::WordError;
+use addresses::address::Address;
+use clap::{ArgMatches, Command};
+use hub_kit::names::ServerKey;
+use hub_kit::target::Target;
+use hub_kit::text::Text;
+use std::alloc::{AllocError, Global};
+
+/// What the words of `guard` say: whose server is guarded, and where all stand.
+#[derive(Drop)]
+pub struct GuardWords {
+    /// The address of the guard.
+    pub listen: Text,
+    /// The server that is guarded.
+    pub server: ServerKey,
+    pub hub: Target,
+    /// Where the server listens.
+    pub target: Target,
+}
+
+/// Reads the words `guard --listen A --for U/S --hub T --target T`, of which `guard` is the first. An address A is `HOST:PORT`, of
+/// which `http://HOST:PORT` is a target, U/S the key of a server, and T a target.
+pub fn read_guard(alloc: Global, words: &[Text]) -> Result<GuardWords, WordError>
+    ensures { Answers (spec.guard_read words.now) result }
+{
+    if !begins(words, "guard") {
+        return Err(WordError::Refused);
+    }
+    let Ok(texts) = texts_of(alloc, words) else {
+        return Err(WordError::Memory);
+    };
+    let Ok(command) = guard_command(alloc) else {
+        return Err(WordError::Memory);
+    };
+    match matches_in(command, texts.as_slice()) {
+        Ok(matches) => guard_of(alloc, &matches),
+        Err(error) => Err(error),
+    }
+}
+
+/// The command `guard`.
+fn guard_command<'a>(alloc: Global) -> Result<Command<'a>, AllocError>
+    ensures { IfOk result (λ command. app_of command ≡ spec.guard_app) }
+{
+    let command = with(Command::new(alloc, "guard"), needed_choice(alloc, "listen"))?;
+    let command = with(command, needed_choice(alloc, "for"))?;
+    let command = with(command, needed_choice(alloc, "hub"))?;
+    with(command, needed_choice(alloc, "target"))
+}
+
+/// The address and the server, and the two targets.
+type GuardValues = ((Address, ServerKey), (Target, Target));
+
+/// What the matches say.
+fn guard_of(alloc: Global, matches: &ArgMatches) -> Result<GuardWords, WordError>
+    ensures { Answers (spec.guard_of (rows_of (found_of matches.now))) result }
+{
+    let values = both(
+        both(
+            needed::<Address>(alloc, matches, "listen"),
+            needed::<ServerKey>(alloc, matches, "for"),
+        ),
+        both(
+            needed::<Target>(alloc, matches, "hub"),
+            needed::<Target>(alloc, matches, "target"),
+        ),
+    );
+    match values {
+        Ok(values) => Ok(guard_with(values)),
+        Err(error) => Err(error),
+    }
+}
+
+/// The words of these values.
+fn guard_with(values: GuardValues) -> GuardWords
+    ensures { result ≡ spec.guard_with values }
+{
+    let ((listen, server), (hub, target)) = values;
+    GuardWords {
+        listen: listen.into_text(),
+        server,
+        hub,
+        target,
+    }
+}

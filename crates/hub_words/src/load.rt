@@ -1,0 +1,82 @@
+//! The words of the command `load`.
+ghost use Rattle.std.specs.Prelude.{◌≡◌, IfOk};
+ghost use Rattle.clap.specs.Matches.{found_of};
+ghost use Rattle.clap.specs.Simple.{app_of};
+ghost use Rattle.clap.specs.Walk.{rows_of};
+ghost use Rattle.hub_words.specs.Commands.{Answers};
+ghost use Rattle.hub_words.specs.Load as spec;
+
+use crate::command::{begins, matches_in, positional, texts_of, with};
+use crate::from_word::{both, needed};
+use crate::values::within;
+use crate::word_error::WordError;
+use clap::{ArgMatches, Command};
+use hub_kit::text::Text;
+use std::alloc::{AllocError, Global};
+
+/// What the words of `load` say.
+#[derive(Drop)]
+pub struct LoadWords {
+    /// 0 to 65,536.
+    pub seed: u32,
+    /// How many users there are: 1 to 20,000.
+    pub users: u32,
+}
+
+/// Reads the words `load SEED N`, of which `load` is the first. Both are numbers of 1 to 20 decimal digits, SEED up to 65,536 and N
+/// from 1 to 20,000.
+pub fn read_load(alloc: Global, words: &[Text]) -> Result<LoadWords, WordError>
+    ensures { Answers (spec.load_read words.now) result }
+{
+    if !begins(words, "load") {
+        return Err(WordError::Refused);
+    }
+    let Ok(texts) = texts_of(alloc, words) else {
+        return Err(WordError::Memory);
+    };
+    let Ok(command) = load_command(alloc) else {
+        return Err(WordError::Memory);
+    };
+    match matches_in(command, texts.as_slice()) {
+        Ok(matches) => load_of(alloc, &matches),
+        Err(error) => Err(error),
+    }
+}
+
+/// The command `load`.
+fn load_command<'a>(alloc: Global) -> Result<Command<'a>, AllocError>
+    ensures { IfOk result (λ command. app_of command ≡ spec.load_app) }
+{
+    let command = with(Command::new(alloc, "load"), positional(alloc, "SEED"))?;
+    with(command, positional(alloc, "N"))
+}
+
+/// SEED and N.
+type LoadValues = (u64, u64);
+
+/// What the matches say.
+fn load_of(alloc: Global, matches: &ArgMatches) -> Result<LoadWords, WordError>
+    ensures { Answers (spec.load_of (rows_of (found_of matches.now))) result }
+{
+    let values = both(
+        needed::<u64>(alloc, matches, "SEED"),
+        needed::<u64>(alloc, matches, "N"),
+    );
+    match values {
+        Ok(values) => match load_within(values) {
+            Some(words) => Ok(words),
+            None => Err(WordError::Refused),
+        },
+        Err(error) => Err(error),
+    }
+}
+
+/// The words of these values, where they are within their bounds.
+fn load_within(values: LoadValues) -> Option<LoadWords>
+    ensures { result ≡ spec.load_within values }
+{
+    let (seed, users) = values;
+    let seed = within(seed, 0, 65536)?;
+    let users = within(users, 1, 20000)?;
+    Some(LoadWords { seed, users })
+}

@@ -1,0 +1,103 @@
+//! The words of the command `serve`.
+ghost use Rattle.std.specs.Prelude.{◌≡◌, IfOk};
+ghost use Rattle.clap.specs.Matches.{found_of};
+ghost use Rattle.clap.specs.Simple.{app_of};
+ghost use Rattle.clap.specs.Walk.{rows_of};
+ghost use Rattle.hub_words.specs.Commands.{Answers};
+ghost use Rattle.hub_words.specs.Serve as spec;
+
+use crate::command::{begins, choice, flag, is_given, matches_in, needed_choice, texts_of, with};
+use crate::from_word::{both, needed, optional};
+use crate::values::within;
+use crate::word_error::WordError;
+use clap::{ArgMatches, Command};
+use hub_kit::text::Text;
+use std::alloc::{AllocError, Global};
+
+/// What the words of `serve` say.
+#[derive(Drop)]
+pub struct ServeWords {
+    /// The name of the file of configuration.
+    pub config: Text,
+    /// The place of the store.
+    pub db: Option<Text>,
+    /// Whether no trail is kept.
+    pub no_trail: bool,
+    /// How many connections are served at once: 1 to 16.
+    pub workers: u32,
+    /// After how many connections the hub ends.
+    pub connections: u64,
+}
+
+/// Reads the words `serve --config F [--db F] [--no-trail] [--workers N] [--connections N]`, of which `serve` is the first. A number
+/// has 1 to 20 decimal digits and fits a `u64`. The workers are 1 to 16, and 4 where they lack; the connections are as many as a
+/// `u64` counts where they lack.
+pub fn read_serve(alloc: Global, words: &[Text]) -> Result<ServeWords, WordError>
+    ensures { Answers (spec.serve_read words.now) result }
+{
+    if !begins(words, "serve") {
+        return Err(WordError::Refused);
+    }
+    let Ok(texts) = texts_of(alloc, words) else {
+        return Err(WordError::Memory);
+    };
+    let Ok(command) = serve_command(alloc) else {
+        return Err(WordError::Memory);
+    };
+    match matches_in(command, texts.as_slice()) {
+        Ok(matches) => serve_of(alloc, &matches),
+        Err(error) => Err(error),
+    }
+}
+
+/// The command `serve`.
+fn serve_command<'a>(alloc: Global) -> Result<Command<'a>, AllocError>
+    ensures { IfOk result (λ command. app_of command ≡ spec.serve_app) }
+{
+    let command = with(Command::new(alloc, "serve"), needed_choice(alloc, "config"))?;
+    let command = with(command, choice(alloc, "db"))?;
+    let command = with(command, flag(alloc, "no-trail"))?;
+    let command = with(command, choice(alloc, "workers"))?;
+    with(command, choice(alloc, "connections"))
+}
+
+/// The two texts, and the two numbers.
+type ServeValues = ((Text, Option<Text>), (Option<u64>, Option<u64>));
+
+/// What the matches say.
+fn serve_of(alloc: Global, matches: &ArgMatches) -> Result<ServeWords, WordError>
+    ensures { Answers (spec.serve_of (rows_of (found_of matches.now))) result }
+{
+    let values = both(
+        both(
+            needed::<Text>(alloc, matches, "config"),
+            optional::<Text>(alloc, matches, "db"),
+        ),
+        both(
+            optional::<u64>(alloc, matches, "workers"),
+            optional::<u64>(alloc, matches, "connections"),
+        ),
+    );
+    match values {
+        Ok(values) => match serve_with(matches, values) {
+            Some(words) => Ok(words),
+            None => Err(WordError::Refused),
+        },
+        Err(error) => Err(error),
+    }
+}
+
+/// The words of these values and of the flag, where there are at most 16 workers.
+fn serve_with(matches: &ArgMatches, values: ServeValues) -> Option<ServeWords>
+    ensures { result ≡ spec.serve_with (rows_of (found_of matches.now)) values }
+{
+    let ((config, db), (workers, connections)) = values;
+    let workers = within(workers.unwrap_or(4), 1, 16)?;
+    Some(ServeWords {
+        config,
+        db,
+        no_trail: is_given(matches, "no-trail"),
+        workers,
+        connections: connections.unwrap_or(u64::MAX),
+    })
+}
