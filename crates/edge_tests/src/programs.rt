@@ -1,0 +1,86 @@
+//! What programs of servers do, and the clock, the random source and the files of the system.
+use hub_devices::clock::Clock;
+use hub_devices::files::Files;
+use hub_devices::random::Random;
+use hub_devices::spawner::Spawner;
+use hub_edge::clock::SystemClock;
+use hub_edge::files::SystemFiles;
+use hub_edge::programs::Programs;
+use hub_edge::random::SystemRandom;
+use hub_kit::names::read_key;
+use hub_kit::targets::read_target;
+use hub_kit::text::Text;
+use std::alloc::{AllocError, Global};
+use std::sync::{Mutex, Wait};
+use std::thread::Threads;
+
+/// The words of a program that the shell runs.
+fn shell(alloc: Global, script: &str) -> Result<Vec<Text>, AllocError> {
+    let mut words = Vec::new(alloc);
+    for word in ["/bin/sh", "-c", script] {
+        words.push(Text::from_str(alloc, word)?)?;
+    }
+    Ok(words)
+}
+
+/// Whether a start, a question, a stop and another question succeed, and what the questions tell.
+fn life<H: Threads + Wait>(
+    rt: HostRuntime,
+    handle: &H,
+    script: &str,
+) -> Result<[Option<bool>; 4], AllocError> {
+    let started = Mutex::new(Vec::new(rt.alloc()));
+    let words = shell(rt.alloc(), script)?;
+    let mut programs = Programs::new(rt, handle, &started, words.as_slice());
+    let secret = Text::from_str(rt.alloc(), "secret-word")?;
+    // nobody listens there
+    let (Ok(key), Ok(target)) = (
+        read_key(b"ann/lab"),
+        read_target(rt.alloc(), b"http://127.0.0.1:1"),
+    ) else {
+        return Err(AllocError);
+    };
+    let begins = programs.start(7, &key, &target, &secret).is_ok();
+    let runs = programs.poll(7, &target).ok();
+    let ends = programs.stop(7, &target).is_ok();
+    let after = programs.poll(7, &target).ok();
+    Ok([Some(begins), runs, Some(ends), after])
+}
+
+#[test]
+fn a_program_starts_and_ends(rt: HostRuntime) -> Result<(), AllocError> {
+    let told = life(
+        rt,
+        &rt,
+        "read s; test \"$s\" = secret-word && echo ready; sleep 100",
+    )?;
+    assert_eq!(rt; told, [Some(true), Some(true), Some(true), Some(false)]);
+    Ok(())
+}
+
+#[test]
+fn a_program_is_never_ready(rt: HostRuntime) -> Result<(), AllocError> {
+    for script in ["echo steady; sleep 100", "exit 3", "read s"] {
+        let told = life(rt, &rt, script)?;
+        assert_eq!(rt;
+            told,
+            [Some(false), Some(false), Some(true), Some(false)],
+            "{script}"
+        );
+    }
+    Ok(())
+}
+
+#[test]
+fn clock_random_and_files(rt: HostRuntime) -> Result<(), AllocError> {
+    assert!(rt; SystemClock::new(rt).now().seconds() > 1577836800);
+    let mut random = SystemRandom::new(rt);
+    let (first, second) = (random.draw().ok(), random.draw().ok());
+    assert!(rt; first.is_some() && first != second);
+    let mut files = SystemFiles::new(rt);
+    let stat = Text::from_str(rt.alloc(), "/proc/self/stat")?;
+    let none = Text::from_str(rt.alloc(), "/dev/null")?;
+    assert!(rt; files.text(&stat, 10).is_ok_and(|bytes| bytes.len() == 11));
+    assert!(rt; files.text(&none, 10).is_err() && files.cause().is_some());
+    Ok(())
+}

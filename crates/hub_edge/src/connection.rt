@@ -1,0 +1,210 @@
+//! A TCP connection as a source and a sink, both owned. They tell no bytes.
+ghost use Rattle.std.specs.Prelude.{◌≡◌, ◌≤◌, ℕ, length, None, false, IfOk};
+
+use crate::limits::{HEAD_SECONDS, READ_OR_WRITE_SECONDS, REQUEST_SECONDS};
+use crate::line::Line;
+use crate::listener::Door;
+use crate::waiting::{comes_within, time_left};
+use hub_devices::sink::Sink;
+use hub_devices::source::{Failed, Source};
+use std::alloc::{AllocError, Global};
+use std::io::{self, ErrorKind, Read, Write};
+use std::net::TcpStream;
+use std::sync::Arc;
+use std::time::{Duration, Instant};
+
+/// How often a read or a write is tried that a signal interrupts.
+const TRIES: u32 = 1000;
+
+/// Where the head of a request ends, by its lines.
+#[derive(Clone, Copy)]
+struct HeadEnd {
+    line_is_empty: bool,
+    is_past: bool,
+}
+
+impl HeadEnd {
+    fn new() -> HeadEnd {
+        HeadEnd {
+            line_is_empty: false,
+            is_past: false,
+        }
+    }
+
+    /// Takes the next bytes: an empty line ends the head.
+    fn note(&mut self, bytes: &[u8]) {
+        if self.is_past {
+            return;
+        }
+        for b in bytes {
+            match *b {
+                b'\n' if self.line_is_empty => {
+                    self.is_past = true;
+                    return;
+                }
+                b'\n' => self.line_is_empty = true,
+                b'\r' => {}
+                _ => self.line_is_empty = false,
+            }
+        }
+    }
+
+    /// How long a request may have taken by now.
+    fn limit(self) -> Duration {
+        Duration::from_secs(if self.is_past {
+            REQUEST_SECONDS
+        } else {
+            HEAD_SECONDS
+        })
+    }
+}
+
+/// The side of a connection that gives bytes.
+#[derive(Drop)]
+pub struct SocketSource {
+    rt: HostRuntime,
+    line: Arc<Line, Global>,
+    /// When the request began that is being read.
+    begun: Option<Instant>,
+    head: HeadEnd,
+    faults: u64,
+}
+
+impl SocketSource {
+    /// Waits until bytes are there, or the end. It is false where the peer was silent between two requests for as long as it may be.
+    fn awaits_bytes(&mut self) -> io::Result<bool>
+        ensures { self.new.faults ≡ self.old.faults }
+    {
+        if self.line.is_between_requests() {
+            self.begun = None;
+            self.head = HeadEnd::new();
+        }
+        let Some(begun) = self.begun else {
+            return self.line.awaits_request();
+        };
+        let most = Duration::from_secs(READ_OR_WRITE_SECONDS);
+        match time_left(&self.rt, begun, self.head.limit())? {
+            Some(left) if comes_within(self.line.stream(), left.min(most)) => Ok(true),
+            _ => Err(io::Error::from(ErrorKind::TimedOut)),
+        }
+    }
+
+    /// The next bytes, or 0 at the end of input.
+    fn next_bytes(&mut self, into: &mut [u8]) -> io::Result<usize>
+        ensures fits { IfOk result (λ n. n ≤ length into.new) }
+        ensures same { self.new.faults ≡ self.old.faults }
+    {
+        if !self.awaits_bytes()? {
+            return Ok(0);
+        }
+        let count = read_some(self.line.stream(), into)?;
+        if self.begun.is_none() {
+            self.begun = Some(Instant::now(&self.rt)?);
+        }
+        self.head.note(&into[..count]);
+        Ok(count)
+    }
+}
+
+/// One read of a stream.
+fn read_some(stream: &TcpStream, into: &mut [u8]) -> io::Result<usize>
+    ensures { IfOk result (λ n. n ≤ length into.new) }
+{
+    let mut input = stream;
+    for _ in 0..TRIES {
+        match input.read(into) {
+            Err(error) if error.kind() == ErrorKind::Interrupted => {}
+            read => return read,
+        }
+    }
+    Err(io::Error::from(ErrorKind::Interrupted))
+}
+
+impl Source for SocketSource {
+    ghost left = { λ _. None };
+
+    ghost faults = { λ s. s.faults };
+
+    fn read(&mut self, into: &mut [u8]) -> Result<usize, Failed> {
+        match self.next_bytes(into) {
+            Ok(count) => Ok(count),
+            Err(_) => {
+                self.faults = self.faults.saturating_add(1);
+                Err(Failed)
+            }
+        }
+    }
+}
+
+/// The side of a connection that takes bytes.
+#[derive(Drop)]
+pub struct SocketSink {
+    line: Arc<Line, Global>,
+    faults: u64,
+}
+
+impl SocketSink {
+    /// Tells the peer that no more bytes come.
+    pub fn shut(&mut self) {
+        self.line.shut();
+    }
+}
+
+/// One write of bytes, of which there are some. It writes at least one.
+fn write_some(stream: &TcpStream, from: &[u8]) -> io::Result<usize>
+    ensures { IfOk result (λ n. (n ≤ length from.now) × (1 ≤ n)) }
+{
+    let mut output = stream;
+    for _ in 0..TRIES {
+        match output.write(from) {
+            Ok(0) => return Err(io::Error::from(ErrorKind::WriteZero)),
+            Err(error) if error.kind() == ErrorKind::Interrupted => {}
+            written => return written,
+        }
+    }
+    Err(io::Error::from(ErrorKind::Interrupted))
+}
+
+impl Sink for SocketSink {
+    ghost held = { λ _. None };
+
+    ghost faults = { λ s. s.faults };
+
+    ghost closed = { λ _. false };
+
+    fn write(&mut self, from: &[u8]) -> Result<usize, Failed> {
+        if from.is_empty() {
+            return Ok(0);
+        }
+        self.line.note_reply(from);
+        match write_some(self.line.stream(), from) {
+            Ok(count) => Ok(count),
+            Err(_) => {
+                self.faults = self.faults.saturating_add(1);
+                Err(Failed)
+            }
+        }
+    }
+}
+
+/// The two sides of a stream.
+pub(crate) fn sides(
+    rt: HostRuntime,
+    stream: TcpStream,
+    door: Option<Arc<Door, Global>>,
+) -> Result<(SocketSource, SocketSink), AllocError> {
+    let line = Arc::new(rt.alloc(), Line::new(rt, stream, door))?;
+    let other = Arc::try_clone(&line)?;
+    let source = SocketSource {
+        rt,
+        line,
+        begun: None,
+        head: HeadEnd::new(),
+        faults: 0,
+    };
+    let sink = SocketSink {
+        line: other,
+        faults: 0,
+    };
+    Ok((source, sink))
+}

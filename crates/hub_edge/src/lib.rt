@@ -1,0 +1,19 @@
+//! The outside of the program: the system's sockets, clock, random source, files, programs and standard streams as the devices that
+//! the hub asks. No clause can say what they give or take, so each counts its faults, tells no content and is tested. `limits` says how long
+//! each of them may keep the hub waiting.
+//! The program stands above it.
+#![tactic(auto)]
+
+pub mod clock;
+pub mod connection;
+pub mod files;
+mod groups;
+pub mod limits;
+mod line;
+pub mod listener;
+pub mod programs;
+pub mod random;
+pub mod standard;
+pub mod starting;
+pub mod targets;
+mod waiting;

@@ -1,0 +1,40 @@
+//! How long the outside may keep the hub waiting, and how much of it is taken. docs/RUNNING.md has them as a table.
+
+/// How many seconds one read or write of a connection may wait.
+pub const READ_OR_WRITE_SECONDS: u64 = 30;
+
+/// How many seconds a head may take from its first byte on.
+pub const HEAD_SECONDS: u64 = 30;
+
+/// How many seconds a request may take from its first byte on.
+pub const REQUEST_SECONDS: u64 = 300;
+
+/// How many seconds a connection may be silent between two requests.
+pub const SILENT_SECONDS: u64 = 15;
+
+/// How many milliseconds it may be silent there while a caller waits and no worker is free.
+pub const CROWDED_MILLIS: u64 = 100;
+
+/// How many milliseconds a peer has to take a refusal whose request wasn't read to its end.
+pub const LINGER_MILLIS: u64 = 2000;
+
+/// How many bytes of such a request are still read.
+pub const LINGER_BYTES: usize = 1048576;
+
+/// How many connections may wait for a worker. The system refuses more, or lets them try again.
+pub const WAITING_CALLERS: i32 = 1024;
+
+/// How many milliseconds pass before the next try where a connection can't be taken, as for want of descriptors.
+pub const ACCEPT_AGAIN_MILLIS: u64 = 50;
+
+/// How many times in a row this may be so before the listener has failed.
+pub const ACCEPT_TRIES: u32 = 1200;
+
+/// How many seconds a connection to a target may take to be made.
+pub const CONNECT_SECONDS: u64 = 10;
+
+/// How many seconds a program may take to say that it is ready.
+pub const READY_SECONDS: u64 = 60;
+
+/// How many seconds a program has to end in peace.
+pub const END_SECONDS: u64 = 10;

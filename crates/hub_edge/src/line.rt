@@ -1,0 +1,171 @@
+//! What the two sides of a connection share: its socket, what was last written, and who waits at the listener.
+use crate::limits::{CROWDED_MILLIS, LINGER_BYTES, LINGER_MILLIS, SILENT_SECONDS};
+use crate::listener::Door;
+use crate::waiting::{awaited, comes_within, is_there, millis_of, time_left};
+use libc::net::poll;
+use std::alloc::Global;
+use std::io::{self, Read};
+use std::net::{Shutdown, TcpStream};
+use std::sync::Arc;
+use std::sync::atomic::{AtomicBool, Ordering};
+use std::time::{Duration, Instant};
+
+/// A connection's socket. A connection to a target has no door: nobody waits for it.
+pub(crate) struct Line {
+    rt: HostRuntime,
+    stream: TcpStream,
+    door: Option<Arc<Door, Global>>,
+    /// Whether a reply was the last thing, and nothing was read since.
+    replied: AtomicBool,
+    /// Whether that reply was a refusal.
+    refused: AtomicBool,
+}
+
+/// Who came first while a connection was silent.
+#[derive(Clone, Copy)]
+enum Came {
+    Peer,
+    Caller,
+    Nobody,
+}
+
+impl Line {
+    pub(crate) fn new(rt: HostRuntime, stream: TcpStream, door: Option<Arc<Door, Global>>) -> Line {
+        Line {
+            rt,
+            stream,
+            door,
+            replied: AtomicBool::new(true),
+            refused: AtomicBool::new(false),
+        }
+    }
+
+    pub(crate) fn stream(&self) -> &TcpStream {
+        &self.stream
+    }
+
+    /// Notes bytes that are written. A reply begins with the line of its status.
+    pub(crate) fn note_reply(&self, bytes: &[u8]) {
+        self.replied.store(true, Ordering::SeqCst);
+        if let [
+            b'H',
+            b'T',
+            b'T',
+            b'P',
+            b'/',
+            b'1',
+            b'.',
+            b'1',
+            b' ',
+            class,
+            ..
+        ] = bytes
+        {
+            self.refused
+                .store(*class == b'4' || *class == b'5', Ordering::SeqCst);
+        }
+    }
+
+    /// Whether a reply was the last thing, or nothing was read yet. A read follows, so from then on neither is so.
+    pub(crate) fn is_between_requests(&self) -> bool {
+        self.refused.store(false, Ordering::SeqCst);
+        self.replied.swap(false, Ordering::SeqCst)
+    }
+
+    /// Waits for the first bytes of a request, or the end. It is false where the connection is silent for too long, or where others wait.
+    pub(crate) fn awaits_request(&self) -> io::Result<bool> {
+        let begun = Instant::now(&self.rt)?;
+        let limit = Duration::from_secs(SILENT_SECONDS);
+        // each round but the last takes as long as a silent connection has while others wait
+        for _ in 0..1000 {
+            let Some(left) = time_left(&self.rt, begun, limit)? else {
+                return Ok(false);
+            };
+            match self.first_to_come(left) {
+                Came::Peer => return Ok(true),
+                Came::Nobody => return Ok(false),
+                Came::Caller => {
+                    if comes_within(&self.stream, Duration::from_millis(CROWDED_MILLIS)) {
+                        return Ok(true);
+                    }
+                    if self.is_crowded() {
+                        return Ok(false);
+                    }
+                }
+            }
+        }
+        Ok(false)
+    }
+
+    /// Waits for the peer, or for a caller at the listener.
+    fn first_to_come(&self, limit: Duration) -> Came {
+        let Some(door) = &self.door else {
+            return if comes_within(&self.stream, limit) {
+                Came::Peer
+            } else {
+                Came::Nobody
+            };
+        };
+        let mut asked = [awaited(&self.stream), awaited(door.listener())];
+        let count = poll(&mut asked, millis_of(limit));
+        if count == 0 {
+            Came::Nobody
+        } else if asked[0].revents != 0 {
+            Came::Peer
+        } else {
+            Came::Caller
+        }
+    }
+
+    /// Whether a caller waits and no worker is free to serve it.
+    fn is_crowded(&self) -> bool {
+        match &self.door {
+            Some(door) => door.has_no_free_worker() && is_there(door.listener()),
+            None => false,
+        }
+    }
+
+    /// Tells the peer that no more bytes come.
+    pub(crate) fn shut(&self) {
+        let _ = self.stream.shutdown(Shutdown::Write);
+    }
+}
+
+impl Drop for Line {
+    /// A socket that is closed with unread bytes is reset, and its peer may lose the reply. So after a refusal the sending side is shut, and
+    /// a bounded rest is read.
+    fn drop(self) {
+        if self.refused.load(Ordering::SeqCst) {
+            self.shut();
+            let _ = read_rest(&self.rt, &self.stream);
+        }
+        let Line {
+            rt: _,
+            stream: _,
+            door: _,
+            replied: _,
+            refused: _,
+        } = self;
+    }
+}
+
+/// Reads what a peer still sends until it ends, for a bounded time and up to a bounded length.
+fn read_rest(rt: &HostRuntime, stream: &TcpStream) -> io::Result<()> {
+    let mut input = stream;
+    let mut buf = [0u8; 4096];
+    let mut count = 0usize;
+    let begun = Instant::now(rt)?;
+    for _ in 0..LINGER_BYTES {
+        let Some(left) = time_left(rt, begun, Duration::from_millis(LINGER_MILLIS))? else {
+            break;
+        };
+        if count >= LINGER_BYTES || !comes_within(stream, left) {
+            break;
+        }
+        match input.read(&mut buf)? {
+            0 => break,
+            more => count = count.saturating_add(more),
+        }
+    }
+    Ok(())
+}

@@ -1,0 +1,196 @@
+//! The programs of single-user servers.
+ghost use Rattle.std.specs.Prelude.{None};
+
+use crate::groups::{end, has_ended};
+use crate::starting::{StartFault, await_ready, drain, start_program, tell_secret};
+use crate::targets::is_served;
+use hub_devices::source::Failed;
+use hub_devices::spawner::Spawner;
+use hub_kit::names::ServerKey;
+use hub_kit::target::Target;
+use hub_kit::text::Text;
+use std::io::{self, ErrorKind};
+use std::os::unix::net::UnixStream;
+use std::process::Child;
+use std::sync::{Mutex, Wait};
+use std::thread::{Builder, Threads};
+
+/// The least stack that a thread may have.
+const SMALL_STACK: usize = 131072;
+
+/// A program that was started, and its generation.
+#[derive(Drop)]
+pub struct Started {
+    generation: u64,
+    child: Child,
+}
+
+/// Starts a program for each generation of a server. Each worker has its own of these, over one list of programs.
+#[derive(Drop)]
+pub struct Programs<'a, H: Threads + Wait> {
+    rt: HostRuntime,
+    handle: &'a H,
+    started: &'a Mutex<Vec<Started>>,
+    /// The program and its words. Without any, each start fails.
+    command: &'a [Text],
+    faults: u64,
+}
+
+impl<'a, H: Threads + Wait> Programs<'a, H> {
+    /// The programs of a command. In each of its words `{port}`, `{user}` and `{server}` stand for those of the server.
+    pub fn new(
+        rt: HostRuntime,
+        handle: &'a H,
+        started: &'a Mutex<Vec<Started>>,
+        command: &'a [Text],
+    ) -> Programs<'a, H> {
+        Programs {
+            rt,
+            handle,
+            started,
+            command,
+            faults: 0,
+        }
+    }
+
+    /// Tells a new program its secret, waits for its line and has its output drained.
+    fn greet(
+        &self,
+        child: &mut Child,
+        output: UnixStream,
+        secret: &Text,
+    ) -> Result<(), StartFault> {
+        tell_secret(self.rt.alloc(), child, secret)?;
+        await_ready(&self.rt, &output)?;
+        Builder::new()
+            .stack_size(SMALL_STACK)
+            .spawn(self.handle, move || drain(output))?;
+        Ok(())
+    }
+
+    /// Puts a program on the list. One for which there is no memory is ended.
+    fn keep(&self, generation: u64, child: Child) -> Result<(), StartFault> {
+        let mut started = self.started.lock(self.handle);
+        match started.push(Started { generation, child }) {
+            Ok(()) => Ok(()),
+            Err(mut refused) => {
+                end(&self.rt, &mut refused.value.child)?;
+                Err(StartFault::System(ErrorKind::OutOfMemory))
+            }
+        }
+    }
+
+    fn run(
+        &self,
+        generation: u64,
+        key: &ServerKey,
+        target: &Target,
+        secret: &Text,
+    ) -> Result<(), StartFault> {
+        let (mut child, output) = start_program(&self.rt, self.command, key, target)?;
+        if let Err(fault) = self.greet(&mut child, output, secret) {
+            end(&self.rt, &mut child)?;
+            return Err(fault);
+        }
+        self.keep(generation, child)
+    }
+
+    /// Says on standard error why a program wasn't started.
+    fn say(&self, key: &ServerKey, fault: StartFault) {
+        let program = match self.command {
+            [program, ..] => program.as_str(),
+            [] => "",
+        };
+        let (user, server) = (key.user.as_str(), key.server.as_str());
+        let _ = eprintln!(self.rt;
+            "hub: the program {program} of the server {user}/{server} is not started: {fault}"
+        );
+    }
+
+    /// Takes a generation's program from the list.
+    fn take(&self, generation: u64) -> Option<Started> {
+        let mut started = self.started.lock(self.handle);
+        let all = &mut *started;
+        for at in 0..all.len() {
+            if all[at].generation == generation {
+                return Some(all.swap_remove(at));
+            }
+        }
+        None
+    }
+
+    /// The number of a generation's program, where it is on the list.
+    fn number_of(&self, generation: u64) -> Option<u32> {
+        let started = self.started.lock(self.handle);
+        for each in started.iter() {
+            if each.generation == generation {
+                return Some(each.child.id());
+            }
+        }
+        None
+    }
+
+    /// Ends the program of a generation. One that another run of the hub started is none of this process: it has to be over.
+    fn quit(&self, generation: u64, target: &Target) -> io::Result<()> {
+        if let Some(mut started) = self.take(generation) {
+            return end(&self.rt, &mut started.child);
+        }
+        if is_served(&self.rt, target)? {
+            return Err(io::Error::from(ErrorKind::ResourceBusy));
+        }
+        Ok(())
+    }
+
+    /// Whether a generation runs. One that another run of the hub started does where it serves.
+    fn ask(&self, generation: u64, target: &Target) -> io::Result<bool> {
+        match self.number_of(generation) {
+            Some(number) => Ok(!has_ended(&self.rt, number)?),
+            None => is_served(&self.rt, target),
+        }
+    }
+}
+
+impl<'a, H: Threads + Wait> Spawner for Programs<'a, H> {
+    ghost calls = { λ _. None };
+
+    ghost may_run = { λ _. None };
+
+    ghost faults = { λ s. s.faults };
+
+    fn start(
+        &mut self,
+        g: u64,
+        key: &ServerKey,
+        target: &Target,
+        secret: &Text,
+    ) -> Result<(), Failed> {
+        match self.run(g, key, target, secret) {
+            Ok(()) => Ok(()),
+            Err(fault) => {
+                self.say(key, fault);
+                self.faults = self.faults.saturating_add(1);
+                Err(Failed)
+            }
+        }
+    }
+
+    fn stop(&mut self, g: u64, target: &Target) -> Result<(), Failed> {
+        match self.quit(g, target) {
+            Ok(()) => Ok(()),
+            Err(_) => {
+                self.faults = self.faults.saturating_add(1);
+                Err(Failed)
+            }
+        }
+    }
+
+    fn poll(&mut self, g: u64, target: &Target) -> Result<bool, Failed> {
+        match self.ask(g, target) {
+            Ok(runs) => Ok(runs),
+            Err(_) => {
+                self.faults = self.faults.saturating_add(1);
+                Err(Failed)
+            }
+        }
+    }
+}

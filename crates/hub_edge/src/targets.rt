@@ -1,0 +1,42 @@
+//! Connections to targets.
+use crate::connection::{SocketSink, SocketSource, sides};
+use crate::limits::CONNECT_SECONDS;
+use crate::listener::set_options;
+use hub_kit::target::Target;
+use std::io::{self, ErrorKind};
+use std::net::{TcpStream, ToSocketAddrs};
+use std::time::Duration;
+
+/// `HOST:PORT` of a target.
+pub(crate) fn address_of(target: &Target) -> &str {
+    let text = target.as_text().as_str();
+    text.strip_prefix("http://").unwrap_or(text)
+}
+
+/// A stream to the first address of the target that answers, or the last error.
+fn stream_to(rt: &HostRuntime, target: &Target) -> io::Result<TcpStream> {
+    let mut last = io::Error::from(ErrorKind::InvalidInput);
+    for address in address_of(target).to_socket_addrs(rt)? {
+        match TcpStream::connect_timeout(rt, &address, Duration::from_secs(CONNECT_SECONDS)) {
+            Ok(stream) => return Ok(stream),
+            Err(error) => last = error,
+        }
+    }
+    Err(last)
+}
+
+/// Whether somebody listens at the target. It isn't known where no connection is made, and none is refused.
+pub(crate) fn is_served(rt: &HostRuntime, target: &Target) -> io::Result<bool> {
+    match stream_to(rt, target) {
+        Ok(_) => Ok(true),
+        Err(error) if error.kind() == ErrorKind::ConnectionRefused => Ok(false),
+        Err(error) => Err(error),
+    }
+}
+
+/// A connection to a target.
+pub fn connect(rt: HostRuntime, target: &Target) -> io::Result<(SocketSource, SocketSink)> {
+    let stream = stream_to(&rt, target)?;
+    set_options(&stream)?;
+    Ok(sides(rt, stream, None)?)
+}

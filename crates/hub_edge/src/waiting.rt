@@ -1,0 +1,42 @@
+//! Waits with a limit.
+use libc::net::{POLLIN, poll};
+use libc::types::pollfd;
+use std::io;
+use std::os::fd::{AsRawFd, RawFd};
+use std::time::{Duration, Instant};
+
+/// What is left of a time that began at an instant. `None`: it is over.
+pub(crate) fn time_left(
+    rt: &HostRuntime,
+    begun: Instant,
+    limit: Duration,
+) -> io::Result<Option<Duration>> {
+    Ok(match limit.checked_sub(begun.elapsed(rt)?) {
+        Some(left) if !left.is_zero() => Some(left),
+        _ => None,
+    })
+}
+
+/// A descriptor whose bytes, connections or end are waited for.
+pub(crate) fn awaited(fd: &impl AsRawFd) -> pollfd {
+    pollfd {
+        fd: fd.as_raw_fd(),
+        events: POLLIN,
+        revents: 0,
+    }
+}
+
+/// Milliseconds as `poll` takes them, at least one, so that a wait of less doesn't spin.
+pub(crate) fn millis_of(limit: Duration) -> i32 {
+    limit.as_millis().clamp(1, 1_000_000) as i32
+}
+
+/// Whether something comes within this time. A signal counts as something.
+pub(crate) fn comes_within(fd: &impl AsRawFd, limit: Duration) -> bool {
+    poll(&mut [awaited(fd)], millis_of(limit)) != 0
+}
+
+/// Whether something is there.
+pub(crate) fn is_there(fd: &impl AsRawFd) -> bool {
+    poll(&mut [awaited(fd)], 0) > 0
+}

@@ -1,0 +1,135 @@
+//! Stores in files of SQLite.
+ghost use Rattle.std.specs.Prelude.{◌≡◌, IfOk};
+ghost use Rattle.sqlite_wal.specs.Files.{image_at};
+ghost use Rattle.hub_store.specs.Files.{IsOver, IsResumed};
+
+use crate::places::Places;
+use hub_kit::text::Text;
+use keeper::keeper::KeeperError;
+use keeper_sqlite::sqlite_keeper::SqliteKeeper;
+use sqlite::{Alter, Connection, Error, ErrorCode, FileFrom, FileStore, Start};
+use std::alloc::Global;
+
+/// Why a file isn't taken as a store. All but want of memory are faults.
+#[derive(Clone, Copy, Debug, PartialEq, Eq)]
+pub enum FileError {
+    Memory,
+    /// Another hub has the file open.
+    Busy,
+    /// There is no such folder, or the file may not be opened.
+    CannotOpen,
+    /// The disk failed.
+    Disk,
+    /// The file is no database, or a damaged one.
+    NoDatabase,
+    /// The file is a database of another program.
+    Foreign,
+    /// The one file was opened already.
+    Twice,
+}
+
+impl FileError {
+    fn cause(self) -> KeeperError {
+        match self {
+            FileError::Memory => KeeperError::Memory,
+            _ => KeeperError::Failed,
+        }
+    }
+}
+
+/// Opens one file of SQLite, and the log beside it. `S` names what is supposed of what the two hold, and of the disk: `main` passes
+/// `Unknown`.
+#[derive(Drop)]
+pub struct FilePlaces<S: Start> {
+    rt: HostRuntime,
+    start: Option<S>,
+    refusal: Option<FileError>,
+}
+
+/// A keeper over a file.
+pub type FileKeeper<S> = SqliteKeeper<FileStore<FileFrom<S>>>;
+
+impl<S: Start> FilePlaces<S> {
+    pub fn new(rt: HostRuntime, start: S) -> FilePlaces<S> {
+        FilePlaces {
+            rt,
+            start: Some(start),
+            refusal: None,
+        }
+    }
+
+    /// Why the last opening was refused, if it was.
+    pub fn refusal(&self) -> Option<FileError> {
+        self.refusal
+    }
+}
+
+impl<S: Start> Places for FilePlaces<S> {
+    type Kept = FileKeeper<S>;
+
+    ghost Opens = { λ place kept. IsOver (image_at S.Start) kept.connection kept.faults kept.is_own };
+
+    fn open(&mut self, place: &Text) -> Result<FileKeeper<S>, KeeperError> {
+        let Some(start) = self.start.take() else {
+            self.refusal = Some(FileError::Twice);
+            return Err(KeeperError::Failed);
+        };
+        match open_file(&self.rt, place.as_str(), start) {
+            Ok(kept) => Ok(kept),
+            Err(error) => {
+                self.refusal = Some(error);
+                Err(error.cause())
+            }
+        }
+    }
+}
+
+/// Closes the file of a keeper: the log is copied into it. Where the keeper is let go instead, the log stays beside the file and
+/// belongs to it.
+pub fn close<S: Start>(kept: FileKeeper<S>) -> Result<(), FileError> {
+    match kept.into_connection().close() {
+        Ok(()) => Ok(()),
+        Err(error) => Err(refusal_of(error)),
+    }
+}
+
+/// The keeper over the database at a path, which is made where there is none.
+fn open_file<S: Start>(rt: &HostRuntime, path: &str, start: S) -> Result<FileKeeper<S>, FileError>
+    ensures { IfOk result (λ kept. IsOver (image_at S.Start) kept.connection kept.faults kept.is_own) }
+{
+    match Connection::open_from(rt, path, false, start) {
+        Ok(connection) => keeper_over(rt.alloc(), connection),
+        Err((error, _)) => Err(refusal_of(error)),
+    }
+}
+
+/// The keeper over a database of this program, or over an empty one.
+fn keeper_over<S: Alter + Drop>(
+    alloc: Global,
+    connection: Connection<S>,
+) -> Result<SqliteKeeper<S>, FileError>
+    ensures { IfOk result (λ kept. IsResumed S.Store connection kept.connection kept.faults kept.is_own) }
+{
+    match SqliteKeeper::resume(alloc, connection) {
+        Ok(kept) => {
+            if kept.is_own() {
+                Ok(kept)
+            } else {
+                Err(FileError::Foreign)
+            }
+        }
+        Err((KeeperError::Memory, _)) => Err(FileError::Memory),
+        Err((KeeperError::Failed, _)) => Err(FileError::Disk),
+    }
+}
+
+/// What a refusal to open says of the file.
+fn refusal_of(error: Error) -> FileError {
+    match error {
+        Error::SqliteFailure(ErrorCode::OutOfMemory) => FileError::Memory,
+        Error::SqliteFailure(ErrorCode::DatabaseBusy) => FileError::Busy,
+        Error::SqliteFailure(ErrorCode::CannotOpen) => FileError::CannotOpen,
+        Error::SqliteFailure(ErrorCode::SystemIoFailure | ErrorCode::DiskFull) => FileError::Disk,
+        _ => FileError::NoDatabase,
+    }
+}

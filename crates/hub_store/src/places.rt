@@ -1,0 +1,17 @@
+//! Where stores are opened by their places.
+ghost use Rattle.std.specs.Prelude.{ℕ, List, IfOk};
+
+use hub_kit::text::Text;
+use keeper::keeper::{Keeper, KeeperError};
+
+/// Opens the stores at places, each as a keeper.
+pub trait Places: Drop {
+    type Kept: Keeper;
+
+    /// What the keeper of the store at a place may be.
+    ghost Opens: { List ℕ → Self.Kept → Type 0 };
+
+    /// The keeper of the store at a place.
+    fn open(&mut self, place: &Text) -> Result<Self::Kept, KeeperError>
+        ensures { IfOk result (Opens place.now) };
+}

@@ -1,0 +1,227 @@
+#!/bin/sh
+# What `session .. --db FILE` does with a file, which no clause can say: that each acknowledged change is there after the program was killed,
+# that a second hub is refused, how long an opening over many users takes, and how many changes a second it acknowledges beside the stock sqlite3.
+# usage: docs/bench/files.sh [PROGRAM [FOLDER]]
+# PROGRAM is the program `hub` as `rt run` leaves it (crates/hub/out/hub if none is named: run `./run` first). The files are made in FOLDER, which
+# decides what a sync costs (a new one under /tmp if none is named), and removed at the end. It needs the stock sqlite3, takes some minutes, and
+# stands outside the gate. It ends with status 1 at the first thing that isn't as it should be.
+set -eu
+top=$(cd "$(dirname "$0")/../.." && pwd)
+program=${1:-$top/crates/hub/out/hub}
+command -v sqlite3 >/dev/null || { echo 'the stock sqlite3 is not installed'; exit 1; }
+folder=$(mktemp -d "${2:-/tmp}/hub-files.XXXXXX")
+trap 'rm -rf "$folder"' EXIT
+cd "$folder"
+python3 - "$program" <<'PYTHON'
+import hashlib, os, random, signal, sqlite3, subprocess, sys, time
+
+program = sys.argv[1]
+WORDS = [program, "session", "1700000000", "ann", "secret-token-ann", "--admin"]
+KILLS = 50
+CHANGES = 1000
+
+
+def fail(why):
+    sys.exit(f"not as it should be: {why}")
+
+
+def request(method, path, body=b""):
+    head = b"%s %s HTTP/1.1\r\nHost: hub\r\nAuthorization: token secret-token-ann\r\n" % (method, path)
+    if body:
+        head += b"Content-Length: %d\r\n" % len(body)
+    return head + b"\r\n" + body
+
+
+def new_user(name):
+    return request(b"POST", b"/hub/api/users/" + name.encode())
+
+
+def session(file, *more, **pipes):
+    return subprocess.Popen([*WORDS, "--db", file, *more], stdin=subprocess.PIPE, stdout=subprocess.PIPE, stderr=subprocess.PIPE, bufsize=0, **pipes)
+
+
+def reply(hub):
+    """The status of the next whole reply, or None where the output ended before."""
+    head = b""
+    while not head.endswith(b"\r\n\r\n"):
+        byte = hub.stdout.read(1)
+        if not byte:
+            return None
+        head += byte
+    lines = head.split(b"\r\n")
+    length = next((int(line.split(b":")[1]) for line in lines if line.lower().startswith(b"content-length:")), 0)
+    while length:
+        part = hub.stdout.read(length)
+        if not part:
+            return None
+        length -= len(part)
+    return int(lines[0].split()[1])
+
+
+def ask(hub, text):
+    hub.stdin.write(text)
+    return reply(hub)
+
+
+def stock(file, statement):
+    return subprocess.run(["sqlite3", file, statement], stdout=subprocess.PIPE, stderr=subprocess.STDOUT, text=True).stdout.strip()
+
+
+def end(hub, status=0):
+    hub.stdin.close()
+    said = hub.stderr.read().decode()
+    if hub.wait() != status:
+        fail(f"status {hub.returncode}, not {status}: {said}")
+    return said.strip()
+
+
+# ---- killed at random places
+
+
+def killed(file, kept, first, count, seed):
+    """Makes users one after the other, and kills the hub while it works on the last one. Gives those that were acknowledged, and that last one."""
+    hub = session(file)
+    names = [f"k{first + n:06d}" for n in range(count)]
+    for name in names[:-1]:
+        if ask(hub, new_user(name)) != 201:
+            fail(f"the user {name} isn't made: {hub.stderr.read().decode()}")
+    hub.stdin.write(new_user(names[-1]))
+    time.sleep(seed.random() * 0.004)
+    hub.send_signal(signal.SIGKILL)
+    if reply(hub) == 201:
+        kept.add(names[-1])
+    kept.update(names[:-1])
+    hub.wait()
+    return names[-1]
+
+
+def kill_many():
+    seed, kept, acknowledged, unsaid = random.Random(20261128), {"ann"}, 0, 0
+    for turn in range(KILLS):
+        before = len(kept)
+        last = killed("killed.db", kept, turn * CHANGES // KILLS, CHANGES // KILLS, seed)
+        acknowledged += len(kept) - before
+        if stock("killed.db", "PRAGMA integrity_check") != "ok":
+            fail(f"sqlite3 finds the file damaged after kill {turn}")
+        found = set(stock("killed.db", "SELECT key FROM row WHERE kind = 1").split("\n"))
+        if found not in (kept, kept | {last}):
+            fail(f"after kill {turn} {sorted(kept - found)} lack and {sorted(found - kept - {last})} are too many")
+        unsaid += len(found) - len(kept)
+        kept = found
+    print(f"killed {KILLS} times: {acknowledged} changes acknowledged, all there; {unsaid} more were kept and not acknowledged; sqlite3 says ok each time", flush=True)
+
+
+# ---- refused files
+
+
+def refused(file, why):
+    hub = session(file)
+    said = end(hub, 4)
+    if why not in said or "\n" in said:
+        fail(f"{file}: {said!r} doesn't say {why!r}")
+    print(f"{file}: status 4, {said!r}", flush=True)
+
+
+def refuse():
+    open("text", "w").write("abc\n")
+    os.mkdir("folder")
+    stock("foreign.db", "CREATE TABLE row (kind INTEGER, key TEXT); INSERT INTO row VALUES (1, 2)")
+    refused("text", "no database")
+    refused("folder", "may not be opened")
+    refused("nowhere/hub.db", "no such folder")
+    refused("foreign.db", "another program")
+    hub = session("busy.db")
+    if ask(hub, new_user("bob")) != 201:
+        fail("the first hub doesn't serve")
+    refused("busy.db", "another hub")
+    if ask(hub, new_user("eve")) != 201:
+        fail("the first hub doesn't serve on")
+    end(hub)
+    if stock("busy.db", "SELECT group_concat(key) FROM (SELECT key FROM row WHERE kind = 1 ORDER BY key)") != "ann,bob,eve":
+        fail("the first hub's rows aren't there")
+
+
+# ---- opening over many users
+
+
+def fill(file, count):
+    """A file of the hub's with so many users more, each with a token."""
+    end(session(file))
+    kept = sqlite3.connect(file)
+    for n in range(count):
+        user = f"u{n:06d}"
+        digest = hashlib.sha256(f"token-{n:06d}".encode()).hexdigest()
+        kept.execute("INSERT INTO row VALUES (1, ?, ?)", (user, '{"admin":false,"created":1700000000,"last_activity":null}'))
+        kept.execute(
+            "INSERT INTO row VALUES (5, ?, ?)",
+            (str(n + 2), f'{{"client":null,"created":1700000000,"expires_at":null,"hash":"{digest}","issued_for":null,"note":"","owner":"user:{user}","scopes":["inherit"]}}'),
+        )
+    kept.execute("""UPDATE row SET text = ? WHERE kind = 12 AND key = 'token'""", (f'{{"next":{count + 2}}}',))
+    kept.commit()
+    kept.close()
+
+
+def opened(file):
+    """Processor seconds and megabytes of a hub that opens and ends, the least of five."""
+    figures = []
+    for _ in range(5):
+        hub = session(file)
+        hub.stdin.close()
+        said = hub.stderr.read().decode()
+        _, status, used = os.wait4(hub.pid, 0)
+        hub.returncode = os.waitstatus_to_exitcode(status)
+        if hub.returncode:
+            fail(f"{file} isn't opened: {said}")
+        figures.append((used.ru_utime + used.ru_stime, used.ru_maxrss / 1024))
+    return min(figures)
+
+
+def open_many():
+    for count, goal in [(1000, ""), (10_000, ", goal 0.15"), (100_000, ", goal 1.5")]:
+        fill(f"many{count}.db", count)
+        seconds, megabytes = opened(f"many{count}.db")
+        print(f"opening {count} users with a token each: {seconds:.3f} s of processor time{goal}; {megabytes:.1f} MB", flush=True)
+        hub = session(f"many{count}.db")
+        if ask(hub, request(b"GET", f"/hub/api/users/u{count - 1:06d}".encode())) != 200:
+            fail("the last user isn't found")
+        end(hub)
+
+
+# ---- changes a second
+
+
+def changes(count, file):
+    """Changes a second that a hub acknowledges, the requests standing on its input."""
+    text = b"".join(new_user(f"c{n:06d}") for n in range(count))
+    before = time.monotonic()
+    ran = subprocess.run([*WORDS, "--db", file, "--no-trail"], input=text, stdout=subprocess.PIPE, stderr=subprocess.PIPE)
+    took = time.monotonic() - before
+    if ran.returncode or ran.stdout.count(b"HTTP/1.1 201") != count:
+        fail(f"status {ran.returncode}, {ran.stdout.count(b'HTTP/1.1 201')} of {count} made: {ran.stderr.decode()}")
+    return count / took
+
+
+def stock_changes(count, file):
+    """Commits a second of the stock sqlite3, with the same journal and syncs."""
+    text = '{"admin":false,"created":1700000000,"last_activity":null}'
+    lines = ["PRAGMA journal_mode = wal;", "PRAGMA synchronous = full;", "CREATE TABLE row (kind INTEGER, key TEXT, text TEXT, PRIMARY KEY (kind, key)) STRICT;"]
+    for n in range(count):
+        lines.append(f"BEGIN; INSERT INTO row (kind, key, text) VALUES (1, 'c{n:06d}', '{text}') ON CONFLICT (kind, key) DO UPDATE SET text = excluded.text; COMMIT;")
+    before = time.monotonic()
+    subprocess.run(["sqlite3", file], input="\n".join(lines), stdout=subprocess.DEVNULL, text=True, check=True)
+    return count / (time.monotonic() - before)
+
+
+def race():
+    ours, theirs = [], []
+    for turn in range(5):
+        ours.append(changes(2000, f"ours{turn}.db"))
+        theirs.append(stock_changes(2000, f"theirs{turn}.db"))
+    print(f"changes a second: {max(ours):.0f}, sqlite3 {max(theirs):.0f}: {max(ours) / max(theirs):.2f} of it, goal 0.9", flush=True)
+
+
+kill_many()
+refuse()
+open_many()
+race()
+PYTHON
