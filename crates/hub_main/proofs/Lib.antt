@@ -1,1 +1,6 @@
-pub mod SessionLemmas
+pub mod Moved
+pub mod Books
+pub mod Configurations
+pub mod Passes
+pub mod Commands
+pub mod GoodSessions

@@ -1,8 +1,16 @@
 //! The hub's commands: the words of a command line, a session over the outside that the program makes, and its exit status.
-//! The contract of `run` carries it: a session's output is that of `hub_run::serve_connection` over a new book with the user
-//! and the token of the words, and the status is that of its end. The program `hub` stands above.
+//! The contract of `run` carries it: a session is set up by its words and its file, opened over the rows of the chosen store, and is
+//! served by `hub_adopt::adopt` and `hub_run::serve_connection`; the status is that of its end. The program `hub` stands above.
 #![tactic(auto)]
 
+pub mod cause;
+mod configured;
+pub mod end;
+pub mod explain;
+pub mod known_names;
+pub mod laws;
 mod opening;
+mod refused_words;
 pub mod run;
-pub mod system_random;
+mod serving;
+pub mod world;

@@ -1,78 +1,91 @@
-//! The book of a session: what it is set up with, over the store that is handed in and a trail in memory.
-ghost use Rattle.std.specs.Prelude.{◌≡◌, ◌≤◌, [], Some, IfOk, IfErr};
-ghost use Rattle.hub_core.specs.Opened.{HasOpened};
-ghost use Rattle.hub_main.specs.Sessions as spec;
+//! The book of a session: the store that is chosen for it, and what it is opened with.
+ghost use Rattle.std.specs.Prelude.{◌≡◌, ◌≤◌, ◌^◌, ℕ, true, IfOk, IfErr, OnOk, OnErr};
+ghost use Rattle.hub_opening.specs.Kept.{MakeTable};
+ghost use Rattle.hub_opening.specs.declared.config.HubConfig.{HubConfig};
+ghost use Rattle.keeper.specs.Rows.{Lists};
+ghost use Rattle.hub_main.specs.Opened as spec;
 
+use crate::cause::Cause;
+use crate::known_names::unknown_name;
 use hub_core::book::Book;
-use hub_kit::list::List;
+use hub_kit::moment::Moment;
+use hub_kit::text::Text;
 use hub_machine::change::Change;
-use hub_opening::config::{ConfigToken, ConfigUser, HubConfig, greatest_limits};
+use hub_opening::config::HubConfig;
 use hub_opening::open_error::OpenError;
-use hub_words::session::SessionWords;
-use keeper::keeper::Keeper;
-use keeper::trail::ListTrail;
-use scope_filters::holder::Owner;
-use scope_filters::scope::RawScope;
-use server_life::Pool;
-use std::alloc::{AllocError, Global};
+use keeper::keeper::{Keeper, KeeperError, Row};
+use keeper::trail::Trail;
+use std::alloc::Global;
 
-/// One user, and one token of this user that holds all that the user holds.
-fn config_of(alloc: Global, words: SessionWords) -> Result<HubConfig, AllocError>
-    ensures { IfOk result (λ config. config ≡ spec.config_of words) }
+/// Has the store take the one at a place, or stay as it is.
+pub(crate) fn choose<K: Keeper>(store: &mut K, place: &Option<Text>) -> Result<(), Cause>
+    ensures ok { OnOk result (spec.IsChosen K.Tells K.rows K.faults K.Chooses place.now store.old store.new) }
+    ensures err { IfErr result (spec.IsUnchosen (K.faults store.old) (K.faults store.new)) }
+    ensures stays { OnErr result (spec.Stays K.Tells K.rows store.old store.new) }
+    ensures counted { K.faults store.old ≤ K.faults store.new }
 {
-    let scopes = vec![in alloc; RawScope::Inherit]?;
-    let token = ConfigToken {
-        text: words.token,
-        owner: Owner::User(words.user),
-        scopes: List::from_vec(scopes),
-    };
-    let tokens = vec![in alloc; token]?;
-    let owner = ConfigUser {
-        name: words.user,
-        admin: words.admin,
-    };
-    let users = vec![in alloc; owner]?;
-    Ok(HubConfig {
-        pool: Pool::empty(alloc),
-        hub_url: None,
-        limits: greatest_limits(),
-        no_trail: false,
-        users: List::from_vec(users),
-        groups: List::new(alloc),
-        services: List::new(alloc),
-        roles: List::new(alloc),
-        tokens: List::from_vec(tokens),
-    })
+    match store.choose(place.as_ref()) {
+        Ok(()) => Ok(()),
+        Err(KeeperError::Failed) => Err(Cause::NoStore),
+        Err(KeeperError::Memory) => Err(Cause::Memory),
+    }
 }
 
-/// A new book with the user and the token of the words, the user made at NOW, whose rows the store keeps from now on. A refusal
-/// hands the store back.
-pub(crate) fn open_book<K: Keeper>(
+fn load<K: Keeper>(store: &mut K) -> Result<Vec<Row>, Cause>
+    ensures ok { IfOk result (λ kept. K.Tells store.new → Lists (K.rows store.old) kept.items) }
+    ensures err { (config : HubConfig) (now : ℕ) → IfErr result (spec.IsUnopened K.Tells K.rows K.faults config now store.old store.new) }
+    ensures stays { spec.Stays K.Tells K.rows store.old store.new }
+    ensures counted { K.faults store.old ≤ K.faults store.new }
+{
+    match store.load() {
+        Ok(kept) => Ok(kept),
+        Err(KeeperError::Failed) => Err(Cause::NotOpened(OpenError::KeeperFault)),
+        Err(KeeperError::Memory) => Err(Cause::Memory),
+    }
+}
+
+/// Refuses a configuration with a name in a list that is neither configured nor that of a row of the store.
+fn refuse_unknown<K: Keeper>(alloc: Global, store: &mut K, config: &HubConfig) -> Result<(), Cause>
+    ensures ok { OnOk result (spec.AreNames true config.now (K.Tells store.new) (K.rows store.old)) }
+    ensures err { (now : ℕ) → IfErr result (spec.IsUnopened K.Tells K.rows K.faults config.now now store.old store.new) }
+    ensures stays { spec.Stays K.Tells K.rows store.old store.new }
+    ensures counted { K.faults store.old ≤ K.faults store.new }
+{
+    let kept = match load(store) {
+        Ok(kept) => kept,
+        Err(cause) => return Err(cause),
+    };
+    let unknown = unknown_name(alloc, config, kept.as_slice());
+    drop(kept);
+    match unknown {
+        Ok(None) => Ok(()),
+        Ok(Some(name)) => Err(Cause::UnknownName(name)),
+        Err(_) => Err(Cause::Memory),
+    }
+}
+
+/// A book over the store with the configuration. A refusal hands the store back, with the rows that it had.
+pub(crate) fn open_book<K: Keeper, T: Trail<Entry = Change>>(
     alloc: Global,
     store: K,
-    words: SessionWords,
-) -> Result<Book<K, ListTrail<Change>>, (K, OpenError)>
-    ensures ok { IfOk result (HasOpened (spec.config_of words) words.now (Some []) (K.faults store)) }
-    ensures err { IfErr result (λ e. spec.IsUnopened K.Tells K.rows K.faults words store e.0 e.1) }
+    trail: T,
+    config: &HubConfig,
+    now: Moment,
+) -> Result<Book<K, T>, (K, Cause)>
+    requires empty { T.long trail ≡ 0 }
+    requires limits { config.now.limits.trail_bytes ≤ 2 ^ 62 }
+    requires scopes { MakeTable config.now.custom_scopes }
+    ensures ok { IfOk result (spec.Opens config.now now (T.told trail) (K.rows store) (K.faults store)) }
+    ensures err { IfErr result (λ e. spec.IsUnopened K.Tells K.rows K.faults config.now now store e.0 e.1) }
+    ensures stays { IfErr result (λ e. spec.Stays K.Tells K.rows store e.0) }
     ensures counted { IfErr result (λ e. K.faults store ≤ K.faults e.0) }
 {
-    let now = words.now;
-    let Ok(config) = config_of(alloc, words) else {
-        return Err((store, OpenError::Memory));
-    };
-    let opened = Book::open(alloc, store, ListTrail::new(alloc), &config, now);
-    // in one call, since it has many parts
-    drop(config);
-    opened
-}
-
-/// The exit status where no book was opened.
-pub(crate) fn refusal_status(error: &OpenError) -> u8
-    ensures { result ≡ spec.refusal_status error.now }
-{
-    match error {
-        OpenError::Full { .. } => 3,
-        OpenError::KeeperFault | OpenError::BadRow { .. } => 4,
-        OpenError::Memory => 7,
+    let mut store = store;
+    if let Err(cause) = refuse_unknown(alloc, &mut store, config) {
+        return Err((store, cause));
+    }
+    match Book::open(alloc, store, trail, config, now) {
+        Ok(book) => Ok(book),
+        Err((store, error)) => Err((store, Cause::NotOpened(error))),
     }
 }

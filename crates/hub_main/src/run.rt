@@ -1,194 +1,181 @@
 //! The hub's commands, over the outside that the program makes.
-ghost use Rattle.std.specs.Prelude.{◌≡◌, ◌≢◌, ◌≤◌, true, Some, IsSome};
-ghost use Rattle.hub_core.specs.declared.start.Start.{Start};
-ghost use Rattle.hub_devices.specs.Faults.{Rises};
-ghost use Rattle.hub_main.specs.Sessions.{RunEnds, SessionEnds, IsServed, IsBad, told_by, view_with};
+ghost use Rattle.std.specs.Prelude.{◌≡◌, ◌≤◌, ◌^◌, not, Some, IsSome, is_some};
 ghost use Rattle.hub_main.specs.Sessions as spec;
-ghost use Rattle.hub_words.specs.Words.{session_read};
+ghost use Rattle.hub_main.specs.Told.{sides, kit_told, files_told};
+ghost use Rattle.hub_opening.specs.Kept.{MakeTable};
+ghost use Rattle.hub_words.specs.Session.{session_read};
 
-use crate::opening::{open_book, refusal_status};
-use desk::{Desk, Pass};
-use http_wire::error::SessionFault;
-use hub_core::book::Book;
-use hub_devices::mem_clock::FixedClock;
-use hub_devices::random::Random;
-use hub_devices::route_link::RouteLink;
-use hub_devices::sink::Sink;
-use hub_devices::source::Source;
-use hub_devices::spawner::Spawner;
+use crate::cause::Cause;
+use crate::configured::config_of;
+use crate::end::{End, status_of};
+use crate::opening::{choose, open_book};
+use crate::serving::serve_book;
+use crate::world::{Outside, World};
 use hub_kit::moment::Moment;
 use hub_kit::text::Text;
 use hub_machine::change::Change;
-use hub_run::{HubKit, Served, serve_connection};
-use hub_words::session::{SessionWords, WordError, read_session};
-use keeper::keeper::Keeper;
-use keeper::trail::ListTrail;
+use hub_opening::config::HubConfig;
+use hub_words::session::{SessionWords, read_session};
+use hub_words::word_error::WordError;
+use keeper::trail::{CountTrail, ListTrail, Trail};
 use std::alloc::Global;
 use std::sync::Wait;
 
-/// What the program hands to a command. Members are added as commands come.
-#[derive(Drop)]
-pub struct Outside<
-    I: Source + Drop,
-    O: Sink + Drop,
-    K: Keeper + Drop,
-    S: Spawner + Drop,
-    P: RouteLink + Drop,
-    R: Random + Drop,
-> {
-    pub input: I,
-    pub output: O,
-    /// What keeps the rows. There is one before each command and after it.
-    pub store: Option<K>,
-    /// The devices of a connection. A session sets its clock.
-    pub kit: HubKit<S, P, FixedClock, R>,
-}
-
-/// The exit status of a session: 0 where it was served to its end, 10 where the input ended inside a request, and 5 and 6
-/// for a fault of the input and of the output.
-fn status_of(served: &Result<Served, SessionFault>) -> u8
-    ensures { result ≡ spec.status_of served.now }
-{
-    match served {
-        Ok(Served::Ended(_)) | Ok(Served::Closed(_)) => 0,
-        Ok(Served::Cut(_)) => 10,
-        Err(SessionFault::ReadFault(_)) => 5,
-        Err(SessionFault::WriteFault(_)) => 6,
-    }
-}
-
-/// Serves one connection from the input to the output, over a new book with the user and the token of the words, by a clock
-/// that stands still. It gives the status and the store.
-fn run_session<I: Source, O: Sink, K: Keeper, S: Spawner, P: RouteLink, R: Random, W: Wait>(
-    rt: &W,
+/// A session over a chosen store, with this trail.
+fn run_over<W: World, T: Trail<Entry = Change>, R: Wait>(
+    rt: &R,
     alloc: Global,
-    words: SessionWords,
-    store: K,
-    input: &mut I,
-    output: &mut O,
-    kit: &mut HubKit<S, P, FixedClock, R>,
-) -> (u8, K)
-    ensures ends { SessionEnds K.Tells K.rows K.faults words
-        (record { left = I.left input.old; held = O.held output.old; kit = told_by R.left S.calls P.calls R.faults S.faults P.faults kit.old; store = store })
-        (record { left = I.left input.new; held = O.held output.new; kit = told_by R.left S.calls P.calls R.faults S.faults P.faults kit.new; store = result.1 }) result.0 }
-    ensures reads { I.faults input.old ≤ I.faults input.new }
-    ensures writes { O.faults output.old ≤ O.faults output.new }
-    ensures counted { K.faults store ≤ K.faults result.1 }
-    ensures read_fault { result.0 ≡ 5 → Rises (I.faults input.old) (I.faults input.new) }
-    ensures write_fault { result.0 ≡ 6 → Rises (O.faults output.old) (O.faults output.new) }
-    ensures bad { result.0 ≡ 4 → IsBad K.Tells K.rows K.faults store result.1 }
-{
-    let now = words.now;
-    let book = match open_book(alloc, store, words) {
-        Ok(book) => book,
-        Err((store, error)) => return (refusal_status(&error), store),
-    };
-    match Desk::open(alloc, book) {
-        Ok((desk, pass)) => serve_alone(rt, alloc, desk, pass, now, input, output, kit),
-        Err((book, _)) => {
-            let (store, trail) = book.into_parts();
-            drop(trail);
-            (7, store)
-        }
-    }
-}
-
-/// The session by the first pass of its desk, which stays alone. It gives the status, and the store that the book kept its rows in.
-fn serve_alone<I: Source, O: Sink, K: Keeper, S: Spawner, P: RouteLink, R: Random, W: Wait>(
-    rt: &W,
-    alloc: Global,
-    desk: Desk<Book<K, ListTrail<Change>>>,
-    mut pass: Pass<Book<K, ListTrail<Change>>>,
+    config: &HubConfig,
     now: Moment,
-    input: &mut I,
-    output: &mut O,
-    kit: &mut HubKit<S, P, FixedClock, R>,
-) -> (u8, K)
-    requires of { pass.of ≡ desk }
-    requires alone { pass.alone ≡ true }
-    ensures ends { (start : Start) (store : K) → pass.base ≡ Some start
-        → IsServed K.Tells K.rows K.faults start (view_with pass now (told_by R.left S.calls P.calls R.faults S.faults P.faults kit.old))
-        (record { left = I.left input.old; held = O.held output.old; kit = told_by R.left S.calls P.calls R.faults S.faults P.faults kit.old; store = store })
-        (record { left = I.left input.new; held = O.held output.new; kit = told_by R.left S.calls P.calls R.faults S.faults P.faults kit.new; store = result.1 }) result.0 }
-    ensures reads { I.faults input.old ≤ I.faults input.new }
-    ensures writes { O.faults output.old ≤ O.faults output.new }
-    ensures counted { pass.faults ≤ K.faults result.1 }
-    ensures read_fault { result.0 ≡ 5 → Rises (I.faults input.old) (I.faults input.new) }
-    ensures write_fault { result.0 ≡ 6 → Rises (O.faults output.old) (O.faults output.new) }
-    ensures other { result.0 ≢ 4 }
+    trail: T,
+    store: W::Store,
+    outside: &mut Outside<W>,
+) -> (End, W::Store)
+    requires empty { T.long trail ≡ 0 }
+    requires told { is_some (T.told trail) ≡ not config.now.no_trail }
+    requires limits { config.now.limits.trail_bytes ≤ 2 ^ 62 }
+    requires scopes { MakeTable config.now.custom_scopes }
+    ensures ends { spec.EndsChosen W.Store.Tells W.Store.rows W.Store.faults config.now now
+        (sides W.In.left W.In.faults W.Out.held W.Out.faults outside.old.input outside.old.output (kit_told W.Draws.left W.Starts.calls W.Paths.calls W.Draws.faults W.Starts.faults W.Paths.faults outside.old.kit))
+        (sides W.In.left W.In.faults W.Out.held W.Out.faults outside.new.input outside.new.output (kit_told W.Draws.left W.Starts.calls W.Paths.calls W.Draws.faults W.Starts.faults W.Paths.faults outside.new.kit)) store result.1 result.0 }
+    ensures files { outside.new.files ≡ outside.old.files }
+    ensures reads { W.In.faults outside.old.input ≤ W.In.faults outside.new.input }
+    ensures writes { W.Out.faults outside.old.output ≤ W.Out.faults outside.new.output }
+    ensures counted { W.Store.faults store ≤ W.Store.faults result.1 }
 {
-    kit.clock = FixedClock(now);
-    let served = serve_connection(rt, alloc, &desk, &mut pass, input, output, kit);
-    let (store, trail) = desk.close(rt, pass).into_parts();
-    drop(trail);
-    (status_of(&served), store)
+    match open_book(alloc, store, trail, config, now) {
+        Ok(book) => serve_book(rt, alloc, book, now, outside),
+        Err((store, cause)) => (Err(cause), store),
+    }
 }
 
-/// Runs the command that the words name: `Err` of their reading is answered with nothing done.
-fn run_words<I: Source, O: Sink, K: Keeper, S: Spawner, P: RouteLink, R: Random, W: Wait>(
-    rt: &W,
+/// A session with this configuration.
+fn run_configured<W: World, R: Wait>(
+    rt: &R,
+    alloc: Global,
+    words: &SessionWords,
+    config: &HubConfig,
+    store: W::Store,
+    outside: &mut Outside<W>,
+) -> (End, W::Store)
+    requires limits { config.now.limits.trail_bytes ≤ 2 ^ 62 }
+    requires scopes { MakeTable config.now.custom_scopes }
+    ensures ends { spec.EndsConfigured W.Store.Tells W.Store.rows W.Store.faults W.Store.Chooses words.entry.now.db config.now words.entry.now.now
+        (sides W.In.left W.In.faults W.Out.held W.Out.faults outside.old.input outside.old.output (kit_told W.Draws.left W.Starts.calls W.Paths.calls W.Draws.faults W.Starts.faults W.Paths.faults outside.old.kit))
+        (sides W.In.left W.In.faults W.Out.held W.Out.faults outside.new.input outside.new.output (kit_told W.Draws.left W.Starts.calls W.Paths.calls W.Draws.faults W.Starts.faults W.Paths.faults outside.new.kit)) store result.1 result.0 }
+    ensures files { outside.new.files ≡ outside.old.files }
+    ensures reads { W.In.faults outside.old.input ≤ W.In.faults outside.new.input }
+    ensures writes { W.Out.faults outside.old.output ≤ W.Out.faults outside.new.output }
+    ensures counted { W.Store.faults store ≤ W.Store.faults result.1 }
+{
+    let mut store = store;
+    if let Err(cause) = choose(&mut store, &words.db) {
+        return (Err(cause), store);
+    }
+    if config.no_trail {
+        run_over(
+            rt,
+            alloc,
+            config,
+            words.now,
+            CountTrail::new(),
+            store,
+            outside,
+        )
+    } else {
+        run_over(
+            rt,
+            alloc,
+            config,
+            words.now,
+            ListTrail::new(alloc),
+            store,
+            outside,
+        )
+    }
+}
+
+/// The session that these words say.
+fn run_session<W: World, R: Wait>(
+    rt: &R,
+    alloc: Global,
+    words: &SessionWords,
+    store: W::Store,
+    outside: &mut Outside<W>,
+) -> (End, W::Store)
+    ensures ends { spec.SessionEnds W.Store.Tells W.Store.rows W.Store.faults W.Store.Chooses words.entry.now (files_told W.Reads.files W.Reads.faults outside.old.files) (files_told W.Reads.files W.Reads.faults outside.new.files)
+        (sides W.In.left W.In.faults W.Out.held W.Out.faults outside.old.input outside.old.output (kit_told W.Draws.left W.Starts.calls W.Paths.calls W.Draws.faults W.Starts.faults W.Paths.faults outside.old.kit))
+        (sides W.In.left W.In.faults W.Out.held W.Out.faults outside.new.input outside.new.output (kit_told W.Draws.left W.Starts.calls W.Paths.calls W.Draws.faults W.Starts.faults W.Paths.faults outside.new.kit)) store result.1 result.0 }
+    ensures files { W.Reads.files outside.new.files ≡ W.Reads.files outside.old.files }
+    ensures reads { W.In.faults outside.old.input ≤ W.In.faults outside.new.input }
+    ensures writes { W.Out.faults outside.old.output ≤ W.Out.faults outside.new.output }
+    ensures looked { W.Reads.faults outside.old.files ≤ W.Reads.faults outside.new.files }
+    ensures counted { W.Store.faults store ≤ W.Store.faults result.1 }
+{
+    match config_of(alloc, &mut outside.files, words) {
+        Ok(config) => {
+            let ended = run_configured(rt, alloc, words, &config, store, outside);
+            // in one call, since it has many parts
+            drop(config);
+            ended
+        }
+        Err(cause) => (Err(cause), store),
+    }
+}
+
+/// The command that the words name. Words that are refused do nothing.
+fn run_words<W: World, R: Wait>(
+    rt: &R,
     alloc: Global,
     words: &[Text],
-    store: K,
-    input: &mut I,
-    output: &mut O,
-    kit: &mut HubKit<S, P, FixedClock, R>,
-) -> (u8, K)
-    ensures ends { RunEnds K.Tells K.rows K.faults (session_read words.now)
-        (record { left = I.left input.old; held = O.held output.old; kit = told_by R.left S.calls P.calls R.faults S.faults P.faults kit.old; store = store })
-        (record { left = I.left input.new; held = O.held output.new; kit = told_by R.left S.calls P.calls R.faults S.faults P.faults kit.new; store = result.1 }) result.0 }
-    ensures reads { I.faults input.old ≤ I.faults input.new }
-    ensures writes { O.faults output.old ≤ O.faults output.new }
-    ensures counted { K.faults store ≤ K.faults result.1 }
-    ensures read_fault { result.0 ≡ 5 → Rises (I.faults input.old) (I.faults input.new) }
-    ensures write_fault { result.0 ≡ 6 → Rises (O.faults output.old) (O.faults output.new) }
-    ensures bad { result.0 ≡ 4 → IsBad K.Tells K.rows K.faults store result.1 }
+    store: W::Store,
+    outside: &mut Outside<W>,
+) -> (End, W::Store)
+    ensures ends { spec.CommandEnds W.Store.Tells W.Store.rows W.Store.faults W.Store.Chooses (session_read words.now) (files_told W.Reads.files W.Reads.faults outside.old.files) (files_told W.Reads.files W.Reads.faults outside.new.files)
+        (sides W.In.left W.In.faults W.Out.held W.Out.faults outside.old.input outside.old.output (kit_told W.Draws.left W.Starts.calls W.Paths.calls W.Draws.faults W.Starts.faults W.Paths.faults outside.old.kit))
+        (sides W.In.left W.In.faults W.Out.held W.Out.faults outside.new.input outside.new.output (kit_told W.Draws.left W.Starts.calls W.Paths.calls W.Draws.faults W.Starts.faults W.Paths.faults outside.new.kit)) store result.1 result.0 }
+    ensures files { W.Reads.files outside.new.files ≡ W.Reads.files outside.old.files }
+    ensures reads { W.In.faults outside.old.input ≤ W.In.faults outside.new.input }
+    ensures writes { W.Out.faults outside.old.output ≤ W.Out.faults outside.new.output }
+    ensures looked { W.Reads.faults outside.old.files ≤ W.Reads.faults outside.new.files }
+    ensures counted { W.Store.faults store ≤ W.Store.faults result.1 }
 {
     match read_session(alloc, words) {
-        Ok(session) => run_session(rt, alloc, session, store, input, output, kit),
-        Err(WordError::Refused) => (2, store),
-        Err(WordError::Memory) => (7, store),
+        Ok(session) => {
+            let ended = run_session(rt, alloc, &session, store, outside);
+            drop(session);
+            ended
+        }
+        Err(WordError::Refused) => (Err(Cause::Words), store),
+        Err(WordError::Memory) => (Err(Cause::Memory), store),
     }
 }
 
 /// Runs the command that the words name, over the store that the outside has, which is put back at the end, whatever the status.
-/// The status is 2 where the words are refused, 7 where memory is wanting before the session, and 3 or 4 where the opening refuses
-/// the rows or the keeper fails; nothing is read or written then, and the rows are as they were. Otherwise it is that of the
-/// session, and the rows are those of the last state of its history.
-pub fn run<
-    I: Source + Drop,
-    O: Sink + Drop,
-    K: Keeper + Drop,
-    S: Spawner + Drop,
-    P: RouteLink + Drop,
-    R: Random + Drop,
-    W: Wait,
->(rt: &W, alloc: Global, words: &[Text], outside: &mut Outside<I, O, K, S, P, R>) -> u8
+///
+/// The status is 2 where the words are refused; 3 where the file of configuration can't be read, is none, or has a name in a list that is
+/// neither kept nor configured, where a running server has a target that the pool hasn't, or a table would pass its limit; 4 where the
+/// store doesn't take its place, fails at opening, or has a row that doesn't read; 7 where memory is wanting before the session. Nothing
+/// is read or written then, and the rows are as they were. Otherwise running servers are taken back and the status is that of the session,
+/// and the rows are those of the last state of its history.
+pub fn run<W: World, R: Wait>(rt: &R, alloc: Global, words: &[Text], outside: &mut Outside<W>) -> u8
     requires store { IsSome outside.old.store }
     ensures store { IsSome outside.new.store }
-    ensures ends { (k k' : K) → outside.old.store ≡ Some k → outside.new.store ≡ Some k'
-        → RunEnds K.Tells K.rows K.faults (session_read words.now)
-        (record { left = I.left outside.old.input; held = O.held outside.old.output; kit = told_by R.left S.calls P.calls R.faults S.faults P.faults outside.old.kit; store = k })
-        (record { left = I.left outside.new.input; held = O.held outside.new.output; kit = told_by R.left S.calls P.calls R.faults S.faults P.faults outside.new.kit; store = k' }) result }
-    ensures reads { I.faults outside.old.input ≤ I.faults outside.new.input }
-    ensures writes { O.faults outside.old.output ≤ O.faults outside.new.output }
-    ensures counted { (k k' : K) → outside.old.store ≡ Some k → outside.new.store ≡ Some k' → K.faults k ≤ K.faults k' }
-    ensures read_fault { result ≡ 5 → Rises (I.faults outside.old.input) (I.faults outside.new.input) }
-    ensures write_fault { result ≡ 6 → Rises (O.faults outside.old.output) (O.faults outside.new.output) }
-    ensures bad { (k k' : K) → outside.old.store ≡ Some k → outside.new.store ≡ Some k' → result ≡ 4 → IsBad K.Tells K.rows K.faults k k' }
+    ensures ends { (k k' : W.Store) → outside.old.store ≡ Some k → outside.new.store ≡ Some k' → spec.RunEnds W.Store.Tells W.Store.rows W.Store.faults W.Store.Chooses (session_read words.now) (files_told W.Reads.files W.Reads.faults outside.old.files) (files_told W.Reads.files W.Reads.faults outside.new.files)
+        (sides W.In.left W.In.faults W.Out.held W.Out.faults outside.old.input outside.old.output (kit_told W.Draws.left W.Starts.calls W.Paths.calls W.Draws.faults W.Starts.faults W.Paths.faults outside.old.kit))
+        (sides W.In.left W.In.faults W.Out.held W.Out.faults outside.new.input outside.new.output (kit_told W.Draws.left W.Starts.calls W.Paths.calls W.Draws.faults W.Starts.faults W.Paths.faults outside.new.kit)) k k' result }
+    ensures files { W.Reads.files outside.new.files ≡ W.Reads.files outside.old.files }
+    ensures reads { W.In.faults outside.old.input ≤ W.In.faults outside.new.input }
+    ensures writes { W.Out.faults outside.old.output ≤ W.Out.faults outside.new.output }
+    ensures looked { W.Reads.faults outside.old.files ≤ W.Reads.faults outside.new.files }
+    ensures counted { (k k' : W.Store) → outside.old.store ≡ Some k → outside.new.store ≡ Some k' → W.Store.faults k ≤ W.Store.faults k' }
 {
     let Some(store) = outside.store.take() else {
         unreachable!()
     };
-    let (status, store) = run_words(
-        rt,
-        alloc,
-        words,
-        store,
-        &mut outside.input,
-        &mut outside.output,
-        &mut outside.kit,
-    );
+    let (end, store) = run_words(rt, alloc, words, store, outside);
+    let status = status_of(&end);
     outside.store = Some(store);
+    outside.end = Some(end);
     status
 }

@@ -1,0 +1,169 @@
+-- What is true of each configuration of a session: it has no more bytes for its trail than the greatest, and its custom scopes make a table.
+use Rattle.std.proofs.Common.{◌≡◌, ◌≤◌, ◌^◌, ℕ, ℤ, pos, negsuc, Bool, true, false, nat_le, List, Option, Some, None, Result, Ok, Err, IfErr, option_map, option_and_then, if◌then◌else◌, unwrap_or, codes, refl, sym, subst, arith, rules}
+use Rattle.toml.specs.Data.{Data, get, as_integer, table as table_of}
+use Rattle.toml.specs.Parse.{parse_document}
+use Rattle.std.specs.Str.{is_utf8}
+use Rattle.scope_names.specs.declared.custom.CustomRow.{CustomRow}
+use Rattle.hub_rows.specs.declared.limits.Limits.{Limits}
+use Rattle.hub_rows.specs.declared.records.Group.{Group}
+use Rattle.hub_rows.specs.declared.records.Role.{Role}
+use Rattle.hub_opening.specs.Kept.{MakeTable}
+use Rattle.hub_opening.specs.Opening.{greatest_limits}
+use Rattle.hub_opening.proofs.Scopes.{none_make_table}
+use Rattle.hub_opening.specs.declared.config.ConfigUser.{ConfigUser}
+use Rattle.hub_opening.specs.declared.config.ConfigService.{ConfigService}
+use Rattle.hub_opening.specs.declared.config.ConfigToken.{ConfigToken}
+use Rattle.hub_opening.specs.declared.config.HubConfig.{HubConfig}
+use Rattle.hub_config.specs.Settings.{pair, if_there, optional, up_to, limit_of, has_only}
+use Rattle.hub_config.specs.Places.{limits_of, limits_from, limits, limit_keys}
+use Rattle.hub_config.specs.Config.{config_in, config_of, file_from, hub, hub_from, known_keys}
+use Rattle.hub_config.specs.declared.config.ConfigManaged.{ConfigManaged}
+use Rattle.hub_config.specs.declared.config.FileConfig.{FileConfig}
+use Rattle.hub_words.specs.declared.session.SessionWords.{SessionWords}
+use Rattle.hub_devices.specs.NamedFiles.{Reads}
+use Rattle.hub_main.specs.Told.{FilesTold}
+use Rattle.hub_main.specs.Configured.{AreNone, IsConfig, IsFound, IsUnfound, IsUnsaid, most}
+use Rattle.hub_main.specs.declared.cause.Cause.{Cause}
+use Rattle.hub_main.specs.declared.cause.Cause.TheVariants.{Words, Memory, NoFile, NoConfig, UnknownName, NoStore, NotOpened}
+
+abbrev If : {A : Type 0} → (A → Type 0) → Option A → Type 0
+If P None = Unit {0}
+If P (Some a) = P a
+
+if_some : {A : Type 0} (P : A → Type 0) (o : Option A) (a : A) → If P o → o ≡ Some a → P a
+if_some {A = A} P o a all is = subst (λ (x : Option A). If P x) is all
+
+if_map : {A B : Type 0} (Q : A → Type 0) (P : B → Type 0) (f : A → B) (o : Option A) → ((a : A) → Q a → P (f a)) → If Q o → If P (option_map f o)
+if_map Q P f None leads all = tt
+if_map Q P f (Some a) leads all = leads a all
+
+if_then : {A B : Type 0} (P : B → Type 0) (f : A → Option B) (o : Option A) → ((a : A) → If P (f a)) → If P (option_and_then f o)
+if_then P f None leads = tt
+if_then P f (Some a) leads = leads a
+
+if_left : {A B : Type 0} (P : A → Type 0) (a : Option A) (b : Option B) → If P a → If (λ (x : A × B). P x.0) (pair a b)
+if_left P (Some a) (Some b) all = all
+if_left P (Some a) None all = tt
+if_left P None b all = tt
+
+if_right : {A B : Type 0} (P : B → Type 0) (a : Option A) (b : Option B) → If P b → If (λ (x : A × B). P x.1) (pair a b)
+if_right P (Some a) (Some b) all = all
+if_right P (Some a) None all = tt
+if_right P None b all = tt
+
+if_test : {A : Type 0} (P : A → Type 0) (test : Bool) (o : Option A) → (test ≡ true → If P o) → If P (if test then o else None)
+if_test P true o all = all refl
+if_test P false o all = tt
+
+abbrev Few : ℕ → Type 0
+Few n = n ≤ 1073741824
+
+abbrev FewOf : Limits → Type 0
+FewOf l = Few l.trail_bytes
+
+-- ---- one number
+
+within : (n : ℕ) → nat_le n 1073741824 ≡ true → Few n
+within n h = search (rules, h)
+
+up_to_few : (n : ℤ) → If Few (up_to 1073741824 n)
+up_to_few (pos n) = if_test Few (nat_le n 1073741824) (Some n) (within n)
+up_to_few (negsuc n) = tt
+
+limit_few : (value : Option Data) → If Few (limit_of 1073741824 value)
+limit_few None = omega arith
+limit_few (Some value) = if_then Few (up_to 1073741824) (as_integer value) up_to_few
+
+-- ---- the limits
+
+limits_from_few : (parts : (ℕ × (ℕ × ℕ)) × ((ℕ × (ℕ × ℕ)) × (ℕ × (ℕ × ℕ)))) → Few parts.1.1.1.1 → FewOf (limits_from parts)
+limits_from_few ((users, (groups, services)), ((roles, (servers, tokens)), (shares, (share_codes, trail_bytes)))) few = few
+
+limits_of_few : (value : Data) → If FewOf (limits_of value)
+limits_of_few value = if_test FewOf (has_only limit_keys value) _ (λ known.
+    if_map (λ parts. Few parts.1.1.1.1) FewOf limits_from _ limits_from_few
+    (if_right (λ rights. Few rights.1.1.1) _ _ (if_right (λ rest. Few rest.1.1) _ _ (if_right (λ last. Few last.1) _ _ (if_right Few _ _ (limit_few (get (codes "trail_bytes") value)))))))
+
+given_few : (given : Option Limits) → If FewOf given → FewOf (unwrap_or given greatest_limits)
+given_few None few = omega arith
+given_few (Some l) few = few
+
+there_few : (value : Option Data) → If (If FewOf) (if_there limits_of value)
+there_few None = tt
+there_few (Some value) = if_map FewOf (If FewOf) Some (limits_of value) (λ l few. few) (limits_of_few value)
+
+limits_few : (value : Data) → If FewOf (limits value)
+limits_few value = if_map (If FewOf) FewOf (λ given. unwrap_or given greatest_limits) (optional limits_of (codes "limits") value) given_few (there_few (get (codes "limits") value))
+
+-- ---- the file
+
+abbrev FewOfHub : HubConfig → Type 0
+FewOfHub c = FewOf c.limits
+
+hub_from_few : (parts : (List (List ℕ) × (Option (List ℕ) × Limits)) × ((List ConfigUser × (List Group × List ConfigService)) × (List Role × (List ConfigToken × List CustomRow))))
+    → FewOf parts.0.1.1 → FewOfHub (hub_from parts)
+hub_from_few ((targets, (hub_url, limits)), ((users, (groups, services)), (roles, (tokens, custom_scopes)))) few = few
+
+hub_few : (value : Data) → If FewOfHub (hub value)
+hub_few value = if_map (λ parts. FewOf parts.0.1.1) FewOfHub hub_from _ hub_from_few
+    (if_left (λ places. FewOf places.1.1) _ _ (if_right (λ rest. FewOf rest.1) _ _ (if_right FewOf _ _ (limits_few value))))
+
+abbrev FewOfFile : FileConfig → Type 0
+FewOfFile c = FewOfHub c.hub
+
+file_from_few : (parts : ((Option (List ℕ) × (List (List ℕ) × Option (List ℕ × List ℕ))) × List ConfigManaged) × HubConfig)
+    → FewOfHub parts.1 → FewOfFile (file_from parts)
+file_from_few (((listen, (command, proxy)), managed), hub) few = few
+
+file_few : (value : Data) → If FewOfFile (config_of value)
+file_few value = if_test FewOfFile (has_only known_keys value) _ (λ known.
+    if_map (λ parts. FewOfHub parts.1) FewOfFile file_from _ file_from_few (if_right FewOfHub _ _ (hub_few value)))
+
+pub trail_bytes_few : (bytes : List ℕ) (file : FileConfig) → config_in bytes ≡ Some file → file.hub.limits.trail_bytes ≤ 2 ^ 62
+trail_bytes_few bytes file says =
+    let few : file.hub.limits.trail_bytes ≤ 1073741824 = if_some FewOfFile (config_in bytes) file
+    (if_test FewOfFile _ _ (λ form. if_then FewOfFile (λ members. config_of (table_of members)) (parse_document bytes) (λ members. file_few (table_of members)))) says in
+    omega (arith, few)
+
+-- ---- a session's configuration
+
+found_few : (files : FilesTold) (name : Option (List ℕ)) (hub : HubConfig) → IsFound files name hub → hub.limits.trail_bytes ≤ 2 ^ 62
+found_few files None hub is = subst (λ (h : HubConfig). h.limits.trail_bytes ≤ 2 ^ 62) (sym is) (omega arith)
+found_few files (Some name) hub found =
+    let said = found.2 in
+    subst (λ (h : HubConfig). h.limits.trail_bytes ≤ 2 ^ 62) (sym said.is) (trail_bytes_few found.0 said.file said.says)
+
+pub config_few : (files : FilesTold) (words : SessionWords) (config : HubConfig) → IsConfig files words config → config.limits.trail_bytes ≤ 2 ^ 62
+config_few files words config is =
+    subst (λ (h : HubConfig). h.limits.trail_bytes ≤ 2 ^ 62) (sym is.is) (found_few files words.config is.hub is.found)
+
+-- ---- its custom scopes
+
+found_scopes : (files : FilesTold) (name : Option (List ℕ)) (hub : HubConfig) → IsFound files name hub → MakeTable hub.custom_scopes
+found_scopes files None hub is = subst (λ (h : HubConfig). MakeTable h.custom_scopes) (sym is) none_make_table
+found_scopes files (Some name) hub found = subst (λ (h : HubConfig). MakeTable h.custom_scopes) (sym found.2.is) found.2.sound.table
+
+pub config_scopes : (files : FilesTold) (words : SessionWords) (config : HubConfig) → IsConfig files words config → MakeTable config.custom_scopes
+config_scopes files words config is =
+    subst (λ (h : HubConfig). MakeTable h.custom_scopes) (sym is.is) (found_scopes files words.config is.hub is.found)
+
+-- ---- bytes that say nothing of a hub
+
+same : (a b : List ℕ) → Some a ≡ Some b → a ≡ b
+same a b is = cc
+
+pub unfound : (files files' : FilesTold) (name : Option (List ℕ)) (found bytes : List ℕ) (r : Result HubConfig Cause) → name ≡ Some found
+    → Reads files.files found most bytes → IfErr r (IsUnsaid bytes) → IfErr r (IsUnfound files files' name)
+unfound files files' None found bytes r is reads unsaid = absurd cc
+unfound files files' (Some name) found bytes (Ok hub) is reads unsaid = tt
+unfound files files' (Some name) found bytes (Err (NoConfig read)) is reads unsaid = (
+  subst (λ (b : List ℕ). Reads files.files name most b) (sym unsaid.0)
+      (subst (λ (n : List ℕ). Reads files.files n most bytes) (sym (same name found is)) reads),
+  subst AreNone (sym unsaid.0) unsaid.1,
+)
+unfound files files' (Some name) found bytes (Err Memory) is reads unsaid = tt
+unfound files files' (Some name) found bytes (Err Words) is reads unsaid = absurd unsaid
+unfound files files' (Some name) found bytes (Err NoFile) is reads unsaid = absurd unsaid
+unfound files files' (Some name) found bytes (Err (UnknownName unknown)) is reads unsaid = absurd unsaid
+unfound files files' (Some name) found bytes (Err NoStore) is reads unsaid = absurd unsaid
+unfound files files' (Some name) found bytes (Err (NotOpened e)) is reads unsaid = absurd unsaid

@@ -1,0 +1,88 @@
+-- The book of a session: over which store it is opened, with which names, and why it isn't.
+use Rattle.std.specs.Prelude.{◌≡◌, ℕ, ◌≤◌, Bool, IsTrue, true, false, not, List, [], Option, None, is_some, ⊤}
+use Rattle.hub_devices.specs.Faults.{Rises}
+use Rattle.keeper.specs.Rows.{Rows, AreSame, Lists}
+use Rattle.keeper.specs.declared.keeper.Row.{Row}
+use Rattle.hub_machine.specs.declared.change.Change.{Change}
+use Rattle.hub_opening.specs.Kept.{IsRefusedRow}
+use Rattle.hub_opening.specs.Opening.{IsSetUp, IsLost, IsFull}
+use Rattle.hub_opening.specs.declared.config.HubConfig.{HubConfig}
+use Rattle.hub_opening.specs.declared.open_error.OpenError.{OpenError}
+use Rattle.hub_opening.specs.declared.open_error.OpenError.TheVariants as opening
+use Rattle.hub_core.specs.Visits.{Standing, entries_of}
+use Rattle.hub_core.specs.declared.start.Start.{Start}
+use Rattle.hub_main.specs.Told.{Sides, IsQuiet}
+use Rattle.hub_main.specs.Known.{are_known}
+use Rattle.hub_main.specs.declared.cause.Cause.{Cause}
+use Rattle.hub_main.specs.declared.cause.Cause.TheVariants.{Words, Memory, NoFile, NoConfig, UnknownName, NoStore, NotOpened}
+
+-- whether the names are known by the rows that a store has, if it tells them
+abbrev pub AreNames : (known : Bool) → HubConfig → (Tells : Type 0) → Rows → Type 0
+AreNames known config Tells has = (kept : List Row) × (Tells → Lists has kept) × (are_known config kept ≡ known)
+
+-- ---- why there is no book
+
+-- why no store was chosen
+abbrev pub IsUnchosen : (before after : ℕ) → Cause → Type 0
+IsUnchosen before after NoStore = Rises before after
+IsUnchosen before after Memory = ⊤
+IsUnchosen before after Words = ⊥
+IsUnchosen before after NoFile = ⊥
+IsUnchosen before after (NoConfig bytes) = ⊥
+IsUnchosen before after (UnknownName name) = ⊥
+IsUnchosen before after (NotOpened e) = ⊥
+
+-- ---- stores of a kind that tells of each whether its rows are told, its rows, its count of faults, and what the choice of a place may leave
+
+module _ {K : Type 0} (Tells : K → Type 0) (rows : K → Rows) where
+  -- where the rows are told, they were told before, and are the same
+  abbrev pub Stays : K → K → Type 0
+  Stays k k' = Tells k' → Tells k × AreSame (rows k') (rows k)
+
+  -- nothing was read, written or called, and the store k, which is k' then, has the rows that it had
+  pub record IsLeft (s s' : Sides) (k k' : K) : Type 0 where
+    pub quiet : IsQuiet s s'
+    pub store : Stays k k'
+
+module _ {K : Type 0} (Tells : K → Type 0) (rows : K → Rows) (faults : K → ℕ) where
+  -- the choice of a place left this store
+  pub record IsChosen (Chooses : K → Option (List ℕ) → K → Type 0) (place : Option (List ℕ)) (k chosen : K) : Type 0 where
+    pub chooses : Chooses k place chosen
+    pub own : place ≡ None → Stays Tells rows k chosen
+    pub counted : faults k ≤ faults chosen
+
+  -- why no book is opened over the store k, which is k' then. A fault comes at any time, all else where the names are known
+  abbrev pub IsNotOpened : HubConfig → (now : ℕ) → K → K → OpenError → Type 0
+  IsNotOpened config now k k' opening.KeeperFault = Rises (faults k) (faults k')
+  IsNotOpened config now k k' (opening.BadRow kind key) =
+      IsRefusedRow config.limits config.custom_scopes (Tells k') (rows k) kind key × AreNames true config (Tells k') (rows k)
+  IsNotOpened config now k k' (opening.LostTarget target) = IsLost config (Tells k') (rows k) target × AreNames true config (Tells k') (rows k)
+  IsNotOpened config now k k' (opening.Full kind limit) = IsFull config now (Tells k') (rows k) kind limit × AreNames true config (Tells k') (rows k)
+  IsNotOpened config now k k' opening.Memory = ⊤
+
+  abbrev pub IsUnopened : HubConfig → (now : ℕ) → K → K → Cause → Type 0
+  IsUnopened config now k k' (UnknownName name) = AreNames false config (Tells k') (rows k)
+  IsUnopened config now k k' (NotOpened e) = IsNotOpened config now k k' e
+  IsUnopened config now k k' Memory = ⊤
+  IsUnopened config now k k' Words = ⊥
+  IsUnopened config now k k' NoFile = ⊥
+  IsUnopened config now k k' (NoConfig bytes) = ⊥
+  IsUnopened config now k k' NoStore = ⊥
+
+-- ---- the book
+
+-- The book began, with no fewer faults than the store had, with the state that the configuration makes of these rows, if they are told; and its
+-- history is told unless the configuration has no trail
+pub record IsOpened (config : HubConfig) (now : ℕ) (Tells : Type 0) (has : Rows) (faults : ℕ) (start : Start) (counted : ℕ) : Type 0 where
+  pub names : AreNames true config Tells has
+  pub set_up : IsSetUp config now Tells has start.machine
+  pub tells : start.tells ≡ not config.no_trail
+  pub counts : faults ≤ counted
+
+-- what is known of the book that is opened over a store with these rows and faults
+pub record Opens (config : HubConfig) (now : ℕ) (history : Option (List Change)) (has : Rows) (faults : ℕ) (b : Standing) : Type 0 where
+  pub names : AreNames true config (IsTrue b.start.has_rows) has
+  pub set_up : IsSetUp config now (IsTrue b.start.has_rows) has b.start.machine
+  pub tells : b.start.tells ≡ is_some history
+  pub entries : entries_of b ≡ []
+  pub counts : faults ≤ b.faults

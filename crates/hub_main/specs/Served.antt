@@ -1,0 +1,86 @@
+-- What is done over an opened book: running servers are taken back, and one connection is served.
+use Rattle.std.specs.Prelude.{◌≡◌, ◌⊎◌, ℕ, List, [], Some, Result, Ok, Err, ⊤}
+use Rattle.atomic_table.specs.Seated.{TableId}
+use Rattle.desk.specs.Passes.{PassState, opening}
+use Rattle.http_wire.specs.declared.error.SessionFault.{SessionFault}
+use Rattle.http_wire.specs.declared.error.SessionFault.TheVariants.{ReadFault, WriteFault}
+use Rattle.hub_devices.specs.Faults.{Rises}
+use Rattle.keeper.specs.Rows.{Rows}
+use Rattle.server_work.specs.declared.adopt.Adopted.{Adopted}
+use Rattle.hub_machine.specs.KeptRows.{Keeps}
+use Rattle.hub_machine.specs.State.{Hub}
+use Rattle.hub_core.specs.Visits.{Entry, Reached}
+use Rattle.hub_core.specs.declared.start.Start.{Start}
+use Rattle.hub_run.specs.Connections.{ConnectionEnds}
+use Rattle.hub_run.specs.Turns.{View}
+use Rattle.hub_run.specs.declared.served.Served.{Served}
+use Rattle.hub_adopt.specs.Adopting.{TakesBack}
+use Rattle.hub_main.specs.Told.{KitTold, Sides, IsQuiet}
+use Rattle.hub_main.specs.Ends.{End}
+use Rattle.hub_main.specs.declared.cause.Cause.TheVariants.{Words, Memory, NoFile, NoConfig, UnknownName, NoStore, NotOpened}
+
+-- what a connection knows of this pass and of a kit whose clock gives this moment for ever
+abbrev pub view_with : PassState Entry Start → (now : ℕ) → KitTold → View
+view_with pass now kit =
+    record { pass = pass; clock = Some (λ k. now); draws = kit.draws; spawner = kit.spawner; routes = kit.routes; faults = kit.faults }
+
+abbrev pub kit_in : View → KitTold
+kit_in y = record { draws = y.draws; spawner = y.spawner; routes = y.routes; faults = y.faults }
+
+-- a fault of the input or of the output was counted
+abbrev pub IsFault : Sides → Sides → Result Served SessionFault → Type 0
+IsFault s s' (Ok served) = ⊤
+IsFault s s' (Err (ReadFault n)) = Rises s.input.faults s'.input.faults
+IsFault s s' (Err (WriteFault n)) = Rises s.output.faults s'.output.faults
+
+-- ---- one pass
+
+-- From the view x on the servers that were being adopted were taken back, and then one connection was served. It ended so, at the view y
+pub record IsServed (start : Start) (x y : View) (s s' : Sides) (end : Result Served SessionFault) : Type 0 where
+  pub told : Adopted
+  pub ready : View
+  pub takes : TakesBack start x told ready
+  pub connection : ConnectionEnds start ready s.input.bytes s.output.bytes y s'.input.bytes s'.output.bytes end
+  pub fault : IsFault s s' end
+  pub kit : s'.kit ≡ kit_in y
+
+-- memory was wanting before the first call and the first byte
+pub record IsUnserved (x y : View) (s s' : Sides) : Type 0 where
+  pub seen : y.pass.seen ≡ x.pass.seen
+  pub quiet : IsQuiet s s'
+
+abbrev pub PassEnds : Start → View → View → Sides → Sides → End → Type 0
+PassEnds start x y s s' (Ok end) = IsServed start x y s s' end
+PassEnds start x y s s' (Err Memory) = IsUnserved x y s s'
+PassEnds start x y s s' (Err Words) = ⊥
+PassEnds start x y s s' (Err NoFile) = ⊥
+PassEnds start x y s s' (Err (NoConfig bytes)) = ⊥
+PassEnds start x y s s' (Err (UnknownName name)) = ⊥
+PassEnds start x y s s' (Err NoStore) = ⊥
+PassEnds start x y s s' (Err (NotOpened e)) = ⊥
+
+-- ---- the store then
+
+module _ {K : Type 0} (Tells : K → Type 0) (rows : K → Rows) (faults : K → ℕ) where
+  -- the store has exactly the rows of the state that these entries left
+  pub record HasKept (start : Start) (entries : List Entry) (k : K) : Type 0 where
+    pub state : Hub
+    pub reached : Reached start entries state
+    pub kept : Tells k → Keeps (rows k) state.tables
+
+  -- by this pass, which is alone, with the entries and the faults that it saw last
+  pub record EndsBy (pass : PassState Entry Start) (start : Start) (now : ℕ) (s s' : Sides) (k' : K) (end : End) : Type 0 where
+    pub last : View
+    pub ends : PassEnds start (view_with pass now s.kit) last s s' end
+    pub kept : HasKept start last.pass.seen k'
+    pub count : faults k' ≡ last.pass.faults
+
+  -- there was no memory for a pass
+  pub record IsUntouched (start : Start) (s s' : Sides) (k' : K) : Type 0 where
+    pub kept : HasKept start [] k'
+    pub quiet : IsQuiet s s'
+
+  -- over a book that was opened, whose history is empty, by its first pass; or there was no memory for that pass
+  abbrev pub EndsOver : Start → (counted now : ℕ) → Sides → Sides → K → End → Type 0
+  EndsOver start counted now s s' k' end =
+      ((end ≡ Err Memory) × IsUntouched start s s' k') ⊎ ((table : TableId) × EndsBy (opening table start [] counted) start now s s' k' end)
