@@ -1,26 +1,16 @@
-//! Tests of whole connections and sessions, with requests and replies written by hand as they stand on the wire.
+//! Tests of sessions, and of the connection that a session serves, with requests and replies written by hand as they stand on the wire.
 //! A crate of their own, since a crate that has tests is proved twice. Nothing stands above it.
 #![tactic(auto)]
 
 #[cfg(test)]
 mod check;
 #[cfg(test)]
-mod connections;
+mod in_memory;
 #[cfg(test)]
 mod kits;
 #[cfg(test)]
-mod of_adopt;
+mod of_files;
 #[cfg(test)]
 mod of_hub_run;
 #[cfg(test)]
-mod of_servers;
-#[cfg(test)]
 mod of_sessions;
-#[cfg(test)]
-mod of_shares;
-#[cfg(test)]
-mod of_tokens;
-#[cfg(test)]
-mod of_two_passes;
-#[cfg(test)]
-mod repeated;

@@ -1,9 +1,9 @@
 //! Whole connections over memory: what is written, how they end, and how often the rights of a token were at hand.
 ghost use Rattle.std.specs.Prelude.{◌≡◌};
+ghost use Rattle.hub_opening.specs.Kept.{MakeTable};
 
-use crate::check::check;
-use crate::kits::quiet_kit;
-use crate::repeated::repeated;
+use crate::check::{check, repeated};
+use crate::kits::{no_scopes, open_desk, quiet_kit};
 use desk::{Desk, Pass};
 use http_wire::error::SessionFault;
 use hub_core::book::Book;
@@ -384,7 +384,9 @@ fn tokens(rt: &impl Abort, alloc: Global) -> Vec<ConfigToken> {
 }
 
 /// A configuration of the user ann and the service bot with a token each, and of bot's role.
-fn config(rt: &impl Abort, alloc: Global, admin: bool) -> HubConfig {
+fn config(rt: &impl Abort, alloc: Global, admin: bool) -> HubConfig
+    ensures { MakeTable result.custom_scopes }
+{
     let user = ConfigUser {
         name: ann(rt),
         admin,
@@ -402,6 +404,7 @@ fn config(rt: &impl Abort, alloc: Global, admin: bool) -> HubConfig {
         services: List::from_vec(services.expect(rt, "there is memory")),
         roles: List::from_vec(roles.expect(rt, "there is memory")),
         tokens: List::from_vec(tokens(rt, alloc)),
+        custom_scopes: no_scopes(alloc),
     }
 }
 
@@ -422,16 +425,6 @@ fn book(rt: &impl Abort, alloc: Global, connection: &Connection) -> MemBook {
     match book {
         Ok(book) => book,
         Err(_) => panic!(rt; "no book"),
-    }
-}
-
-/// A desk over the book, and its first pass.
-fn open_desk(rt: &impl Abort, alloc: Global, book: MemBook) -> (Desk<MemBook>, Pass<MemBook>)
-    ensures { result.1.of ≡ result.0 }
-{
-    match Desk::open(alloc, book) {
-        Ok(opened) => opened,
-        Err(_) => panic!(rt; "no desk"),
     }
 }
 

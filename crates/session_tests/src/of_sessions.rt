@@ -1,17 +1,16 @@
 //! Whole sessions, from their words to the status and the bytes that are written, by hand.
 ghost use Rattle.std.specs.Prelude.{IsSome};
 
-use crate::check::check;
+use crate::check::{check, repeated};
+use crate::in_memory::InMemory;
 use crate::kits::quiet_kit;
-use crate::repeated::repeated;
 use hub_devices::mem_bytes::{MemSink, MemSource};
-use hub_devices::mem_random::ListRandom;
-use hub_devices::mem_routes::MemRouteLink;
-use hub_devices::mem_spawner::MemSpawner;
+use hub_devices::mem_files::MemFiles;
 use hub_kit::bytes::Bytes;
 use hub_kit::moment::Moment;
 use hub_kit::text::Text;
-use hub_main::run::{Outside, run};
+use hub_main::run::run;
+use hub_main::world::Outside;
 use keeper::mem_keeper::MemKeeper;
 use std::alloc::Global;
 use std::process::Abort;
@@ -203,8 +202,8 @@ const SESSIONS: [Session; 15] = [
         output: b"",
     },
     Session {
-        name: "an option that no session has yet",
-        words: "session 1700000000 ann secret-token-ann --config f",
+        name: "an option that no session has",
+        words: "session 1700000000 ann secret-token-ann --listen f",
         cut: 10,
         failing_read: NEVER,
         failing_write: NEVER,
@@ -257,11 +256,7 @@ fn words_of(rt: &impl Abort, alloc: Global, line: &str) -> Vec<Text> {
     words
 }
 
-fn outside(
-    rt: &impl Abort,
-    alloc: Global,
-    session: &Session,
-) -> Outside<MemSource, MemSink, MemKeeper, MemSpawner, MemRouteLink, ListRandom>
+fn outside(rt: &impl Abort, alloc: Global, session: &Session) -> Outside<InMemory>
     ensures { IsSome result.store }
 {
     let mut input = Bytes::from_slice(alloc, session.input).expect(rt, "there is memory");
@@ -277,6 +272,8 @@ fn outside(
         output: MemSink::new(alloc, writes.expect(rt, "there is memory")),
         store: Some(store.expect(rt, "there is memory")),
         kit: quiet_kit(alloc, Moment::zero()),
+        files: MemFiles::new(alloc, Vec::new(alloc), Vec::new(alloc)),
+        end: None,
     }
 }
 

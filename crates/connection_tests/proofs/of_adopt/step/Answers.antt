@@ -1,7 +1,7 @@
 use Rattle.std.proofs.Common.{◌≡◌, ◌∙◌, Some, sym}
 use Rattle.server_life.specs.LifeTable.{generation_of}
-use Rattle.session_tests.proofs.OneLives.{of_made}
-use Rattle.session_tests.proofs.of_adopt.step.Goals as goal
+use Rattle.connection_tests.proofs.OneLives.{of_made}
+use Rattle.connection_tests.proofs.of_adopt.step.Goals as goal
 
 pub returns-clause-of : goal.returns-clause-of
 returns-clause-of c = of_made c.life_step.result (λ made. generation_of c.args.life.phase ≡ Some c.args.generation)

@@ -1,8 +1,10 @@
 //! Sessions of several connections that share servers, by names and by codes: what is written on each.
 ghost use Rattle.std.specs.Prelude.{◌≤◌, ◌^◌};
+ghost use Rattle.hub_opening.specs.Kept.{MakeTable};
 
 use crate::check::check;
-use crate::connections::{Connection, NEVER, all_end_so};
+use crate::connections::{Connection, all_end_so};
+use crate::hubs::{NEVER, no_scopes};
 use hub_kit::list::List;
 use hub_kit::names::{UserName, read_group, read_role, read_user};
 use hub_kit::text::Text;
@@ -261,7 +263,8 @@ fn token(rt: &impl Abort, alloc: Global, name: &str, text: &'static str) -> Conf
 
 /// A configuration of ann and bob, each with a token.
 fn config(rt: &impl Abort, alloc: Global) -> HubConfig
-    ensures { result.limits.trail_bytes ≤ 2 ^ 62 }
+    ensures trail { result.limits.trail_bytes ≤ 2 ^ 62 }
+    ensures scopes { MakeTable result.custom_scopes }
 {
     let users_of_hub = vec![in alloc;
         ConfigUser {
@@ -302,6 +305,7 @@ fn config(rt: &impl Abort, alloc: Global) -> HubConfig
         services: List::new(alloc),
         roles: List::from_vec(roles.expect(rt, "there is memory")),
         tokens: List::from_vec(tokens.expect(rt, "there is memory")),
+        custom_scopes: no_scopes(alloc),
     }
 }
 

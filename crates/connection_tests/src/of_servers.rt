@@ -1,9 +1,9 @@
 //! Connections that start and stop servers, over devices in memory: what is written, and which calls are made.
 ghost use Rattle.std.specs.Prelude.{◌≡◌, ◌≤◌, ◌^◌};
+ghost use Rattle.hub_opening.specs.Kept.{MakeTable};
 
-use crate::check::check;
-use crate::kits::MemKit;
-use crate::repeated::repeated;
+use crate::check::{check, repeated};
+use crate::hubs::{MemBook, MemKit, NEVER, NOW, no_scopes, open_desk};
 use desk::{Desk, Pass};
 use hub_core::book::Book;
 use hub_devices::calls::{Routing, Spawning, Told};
@@ -17,7 +17,6 @@ use hub_kit::moment::Moment;
 use hub_kit::names::{UserName, read_user};
 use hub_kit::targets::read_target;
 use hub_kit::text::Text;
-use hub_machine::change::Change;
 use hub_opening::config::{ConfigToken, ConfigUser, HubConfig, greatest_limits};
 use hub_run::{HubKit, Served, serve_connection};
 use keeper::mem_keeper::MemKeeper;
@@ -61,12 +60,6 @@ struct Connection {
     spawned: &'static [Spawned],
     routed: &'static [Routed],
 }
-
-/// The number of a call that doesn't come.
-pub const NEVER: u64 = u64::MAX;
-
-/// What the clock tells, in seconds: 2023-11-14T22:13:20Z.
-pub const NOW: u64 = 1_700_000_000;
 
 const CONNECTIONS: [Connection; 8] = [
     Connection {
@@ -234,8 +227,6 @@ const CONNECTIONS: [Connection; 8] = [
     },
 ];
 
-pub type MemBook = Book<MemKeeper, ListTrail<Change>>;
-
 fn user(rt: &impl Abort, name: &[u8]) -> UserName {
     read_user(name).expect(rt, "it is a name")
 }
@@ -259,7 +250,8 @@ fn pool(rt: &impl Abort, alloc: Global) -> Pool {
 
 /// A configuration of the users ann and bob with a token each.
 pub fn config(rt: &impl Abort, alloc: Global) -> HubConfig
-    ensures { result.limits.trail_bytes ≤ 2 ^ 62 }
+    ensures trail { result.limits.trail_bytes ≤ 2 ^ 62 }
+    ensures scopes { MakeTable result.custom_scopes }
 {
     let users = vec![in alloc;
         ConfigUser {
@@ -285,6 +277,7 @@ pub fn config(rt: &impl Abort, alloc: Global) -> HubConfig
         services: List::new(alloc),
         roles: List::new(alloc),
         tokens: List::from_vec(tokens.expect(rt, "there is memory")),
+        custom_scopes: no_scopes(alloc),
     }
 }
 
@@ -303,16 +296,6 @@ fn book(rt: &impl Abort, alloc: Global, connection: &Connection) -> MemBook {
     match book {
         Ok(book) => book,
         Err(_) => panic!(rt; "no book"),
-    }
-}
-
-/// A desk over the book, and its first pass.
-pub fn open_desk(rt: &impl Abort, alloc: Global, book: MemBook) -> (Desk<MemBook>, Pass<MemBook>)
-    ensures { result.1.of ≡ result.0 }
-{
-    match Desk::open(alloc, book) {
-        Ok(opened) => opened,
-        Err(_) => panic!(rt; "no desk"),
     }
 }
 

@@ -3,13 +3,9 @@
 ghost use Rattle.std.specs.Prelude.{◌≡◌};
 ghost use Rattle.hub_core.specs.Works.{IsSound};
 
-use crate::check::check;
-use crate::kits::MemKit;
-use crate::of_servers::{
-    MemBook, NEVER, NOW, Routed, Spawned, are_routed, are_spawned, config, draws, failing,
-    open_desk,
-};
-use crate::repeated::repeated;
+use crate::check::{check, repeated};
+use crate::hubs::{MemBook, MemKit, NEVER, NOW, open_desk};
+use crate::of_servers::{Routed, Spawned, are_routed, are_spawned, config, draws, failing};
 use desk::{Desk, Pass};
 use hub_core::ask::Ask;
 use hub_core::book::Book;

@@ -8,7 +8,8 @@ ghost use Rattle.server_work.specs.LifeSteps.{left_of};
 ghost use Rattle.server_work.specs.Outcomes.{KeptAs, is_end, noted};
 
 use crate::check::check;
-use crate::of_servers::{NEVER, Routed, Spawned, are_routed, are_spawned, failing};
+use crate::hubs::{NEVER, open_desk};
+use crate::of_servers::{Routed, Spawned, are_routed, are_spawned, failing};
 use desk::{Booked, Desk, Pass};
 use hub_devices::calls::ListedRoute;
 use hub_devices::mem_routes::MemRouteLink;
@@ -322,16 +323,6 @@ fn book(adoption: &Adoption) -> OneLife {
             stop_asked: adoption.stop_asked,
         },
         events: 0,
-    }
-}
-
-/// A desk over the book, and its first pass.
-fn open_desk(rt: &impl Abort, alloc: Global, book: OneLife) -> (Desk<OneLife>, Pass<OneLife>)
-    ensures { result.1.of ≡ result.0 }
-{
-    match Desk::open(alloc, book) {
-        Ok(opened) => opened,
-        Err(_) => panic!(rt; "no desk"),
     }
 }
 

@@ -1,8 +1,9 @@
 //! Connections, one after the other, to one hub: what is asked on each, and what has to be written.
 ghost use Rattle.std.specs.Prelude.{◌≡◌, ◌≤◌, ◌^◌};
+ghost use Rattle.hub_opening.specs.Kept.{MakeTable};
 
-use crate::kits::MemKit;
-use crate::repeated::repeated;
+use crate::check::repeated;
+use crate::hubs::{MemBook, MemKit, NOW, open_desk};
 use desk::{Desk, Pass};
 use hub_core::book::Book;
 use hub_devices::mem_bytes::{MemSink, MemSource};
@@ -11,7 +12,6 @@ use hub_devices::mem_random::ListRandom;
 use hub_devices::mem_routes::MemRouteLink;
 use hub_devices::mem_spawner::MemSpawner;
 use hub_kit::moment::Moment;
-use hub_machine::change::Change;
 use hub_opening::config::HubConfig;
 use hub_run::{HubKit, Served, serve_connection};
 use keeper::mem_keeper::MemKeeper;
@@ -31,16 +31,21 @@ pub struct Connection {
     pub output: &'static [u8],
 }
 
-/// The number of a draw that doesn't come.
-pub const NEVER: u64 = u64::MAX;
-
-/// When the hub is opened: 2023-11-14T22:13:20Z.
-const NOW: u64 = 1_700_000_000;
-
-type MemBook = Book<MemKeeper, ListTrail<Change>>;
+/// What a connection may draw.
+const DRAWS: [[u8; 16]; 8] = [
+    [0, 0, 0, 0, 0, 0, 0, 0, 0, 0, 0, 0, 0, 0, 0, 1],
+    [0, 0, 0, 0, 0, 0, 0, 0, 0, 0, 0, 0, 0, 0, 0, 2],
+    [0, 0, 0, 0, 0, 0, 0, 0, 0, 0, 0, 0, 0, 0, 0, 3],
+    [0, 0, 0, 0, 0, 0, 0, 0, 0, 0, 0, 0, 0, 0, 0, 4],
+    [0, 0, 0, 0, 0, 0, 0, 0, 0, 0, 0, 0, 0, 0, 0, 5],
+    [0, 0, 0, 0, 0, 0, 0, 0, 0, 0, 0, 0, 0, 0, 0, 6],
+    [0, 0, 0, 0, 0, 0, 0, 0, 0, 0, 0, 0, 0, 0, 0, 7],
+    [0, 0, 0, 0, 0, 0, 0, 0, 0, 0, 0, 0, 0, 0, 0, 8],
+];
 
 fn book(rt: &impl Abort, alloc: Global, config: HubConfig) -> MemBook
-    requires { config.limits.trail_bytes ≤ 2 ^ 62 }
+    requires trail { config.limits.trail_bytes ≤ 2 ^ 62 }
+    requires scopes { MakeTable config.custom_scopes }
 {
     let keeper = MemKeeper::new(alloc, Vec::new(alloc), Vec::new(alloc)).expect(
         rt,
@@ -55,21 +60,8 @@ fn book(rt: &impl Abort, alloc: Global, config: HubConfig) -> MemBook
     }
 }
 
-/// A desk over the book, and its first pass.
-fn open_desk(rt: &impl Abort, alloc: Global, book: MemBook) -> (Desk<MemBook>, Pass<MemBook>)
-    ensures { result.1.of ≡ result.0 }
-{
-    match Desk::open(alloc, book) {
-        Ok(opened) => opened,
-        Err(_) => panic!(rt; "no desk"),
-    }
-}
-
 fn kit(rt: &impl Abort, alloc: Global, connection: &Connection) -> MemKit {
-    let draws = vec![in alloc;
-        [0, 0, 0, 0, 0, 0, 0, 0, 0, 0, 0, 0, 0, 0, 0, 1],
-        [0, 0, 0, 0, 0, 0, 0, 0, 0, 0, 0, 0, 0, 0, 0, 2],
-    ];
+    let draws = Vec::from_slice(alloc, &DRAWS);
     let failing = Vec::from_slice(alloc, &[connection.failing_draw]);
     HubKit {
         spawner: MemSpawner::new(alloc, Vec::new(alloc)),
@@ -108,7 +100,8 @@ pub fn all_end_so<R: Abort + Wait>(
     config: HubConfig,
     connections: &[Connection],
 ) -> bool
-    requires { config.limits.trail_bytes ≤ 2 ^ 62 }
+    requires trail { config.limits.trail_bytes ≤ 2 ^ 62 }
+    requires scopes { MakeTable config.custom_scopes }
 {
     let (desk, mut pass) = open_desk(rt, alloc, book(rt, alloc, config));
     let mut all = true;

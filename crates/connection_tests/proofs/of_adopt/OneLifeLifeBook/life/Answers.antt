@@ -3,8 +3,8 @@ use Rattle.std.proofs.lemmas.Grind.{replicate_next}
 use Rattle.std.proofs.lemmas.List.{length-replicate}
 use Rattle.server_life.specs.declared.life.LifeEvent.{LifeEvent}
 use Rattle.server_work.specs.LifeSteps.{step_at, left_of}
-use Rattle.session_tests.proofs.OneLives.{takes, sets}
-use Rattle.session_tests.proofs.of_adopt.OneLifeLifeBook.life.Goals as goal
+use Rattle.connection_tests.proofs.OneLives.{takes, sets}
+use Rattle.connection_tests.proofs.of_adopt.OneLifeLifeBook.life.Goals as goal
 
 pub returns-clause-visited : goal.returns-clause-visited
 returns-clause-visited c = λ owes.

@@ -1,8 +1,10 @@
 //! Sessions of several connections that make, show and delete tokens: what is written on each.
 ghost use Rattle.std.specs.Prelude.{◌≤◌, ◌^◌};
+ghost use Rattle.hub_opening.specs.Kept.{MakeTable};
 
 use crate::check::check;
-use crate::connections::{Connection, NEVER, all_end_so};
+use crate::connections::{Connection, all_end_so};
+use crate::hubs::{NEVER, no_scopes};
 use hub_kit::list::List;
 use hub_kit::names::{UserName, read_role, read_user};
 use hub_kit::text::Text;
@@ -223,7 +225,8 @@ fn tokens_of_ann(rt: &impl Abort, alloc: Global, texts: &[&'static str]) -> List
 
 /// A configuration of ann, with tokens of these texts and a role.
 fn config(rt: &impl Abort, alloc: Global, texts: &[&'static str]) -> HubConfig
-    ensures { result.limits.trail_bytes ≤ 2 ^ 62 }
+    ensures trail { result.limits.trail_bytes ≤ 2 ^ 62 }
+    ensures scopes { MakeTable result.custom_scopes }
 {
     let users = vec![in alloc;
         ConfigUser {
@@ -251,6 +254,7 @@ fn config(rt: &impl Abort, alloc: Global, texts: &[&'static str]) -> HubConfig
         services: List::new(alloc),
         roles: List::from_vec(roles.expect(rt, "there is memory")),
         tokens: tokens_of_ann(rt, alloc, texts),
+        custom_scopes: no_scopes(alloc),
     }
 }
 

@@ -1,0 +1,23 @@
+//! Tests of whole connections to one hub, with requests and replies written by hand as they stand on the wire: servers that start and stop,
+//! two passes that meet, adoptions, tokens and shares. A crate of their own, since a crate that has tests is proved twice. Nothing stands
+//! above it.
+#![tactic(auto)]
+
+#[cfg(test)]
+mod check;
+#[cfg(test)]
+mod connections;
+#[cfg(test)]
+mod hubs;
+#[cfg(test)]
+mod of_adopt;
+#[cfg(test)]
+mod of_grants;
+#[cfg(test)]
+mod of_servers;
+#[cfg(test)]
+mod of_shares;
+#[cfg(test)]
+mod of_tokens;
+#[cfg(test)]
+mod of_two_passes;
