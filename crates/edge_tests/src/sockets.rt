@@ -36,10 +36,13 @@ fn listen(rt: &HostRuntime) -> io::Result<(SocketListener, Target)> {
     }
 }
 
-/// Both sides of a connection.
-fn connected(rt: &HostRuntime) -> io::Result<(Caller, Worker)> {
+/// Both sides of a connection on which the caller has sent these bytes. Before that no worker gets it.
+fn connected(rt: &HostRuntime, sent: &[u8]) -> io::Result<(Caller, Worker)> {
     let (mut listener, target) = listen(rt)?;
-    let (heard, said) = connect(*rt, &target)?;
+    let (heard, mut said) = connect(*rt, &target)?;
+    if !writes(&mut said, sent) {
+        return Err(io::Error::from(ErrorKind::NotConnected));
+    }
     match listener.accept() {
         Ok((input, output)) => Ok((
             Caller { heard, said },
@@ -73,8 +76,7 @@ fn writes(output: &mut impl Sink, bytes: &[u8]) -> bool {
 
 #[test]
 fn a_request_and_a_reply(rt: HostRuntime) -> io::Result<()> {
-    let (mut caller, mut worker) = connected(&rt)?;
-    assert!(rt; writes(&mut caller.said, b"GET / HTTP/1.1\r\n\r\n"));
+    let (mut caller, mut worker) = connected(&rt, b"GET / HTTP/1.1\r\n\r\n")?;
     assert!(rt; reads(&mut worker.input, 18));
     assert!(rt; writes(&mut worker.output, b"HTTP/1.1 200 OK\r\n\r\n"));
     assert!(rt; reads(&mut caller.heard, 19));
@@ -83,10 +85,12 @@ fn a_request_and_a_reply(rt: HostRuntime) -> io::Result<()> {
     Ok(())
 }
 
-/// A connection that is silent ends where another caller waits and nobody is free.
+/// A connection that is silent after a reply ends where another caller waits and nobody is free.
 #[test]
 fn a_silent_connection_makes_room(rt: HostRuntime) -> io::Result<()> {
-    let (caller, mut worker) = connected(&rt)?;
+    let (caller, mut worker) = connected(&rt, b"GET / HTTP/1.1\r\n\r\n")?;
+    assert!(rt; reads(&mut worker.input, 18));
+    assert!(rt; writes(&mut worker.output, b"HTTP/1.1 200 OK\r\n\r\n"));
     let other = connect(rt, &worker.target)?;
     assert!(rt; reads(&mut worker.input, 0));
     drop(other);
@@ -97,8 +101,7 @@ fn a_silent_connection_makes_room(rt: HostRuntime) -> io::Result<()> {
 /// A refusal arrives though the rest of its request was never asked for.
 #[test]
 fn a_refusal_is_no_reset(rt: HostRuntime) -> io::Result<()> {
-    let (mut caller, mut worker) = connected(&rt)?;
-    assert!(rt; writes(&mut caller.said, &[b'x'; 4096]));
+    let (mut caller, mut worker) = connected(&rt, &[b'x'; 4096])?;
     caller.said.shut();
     assert!(rt; reads(&mut worker.input, 64));
     assert!(rt; writes(&mut worker.output, b"HTTP/1.1 400 Bad Request\r\n\r\n"));

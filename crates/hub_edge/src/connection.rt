@@ -75,12 +75,18 @@ impl SocketSource {
     fn awaits_bytes(&mut self) -> io::Result<bool>
         ensures { self.new.faults ≡ self.old.faults }
     {
+        // a target has the time that one read may take
+        let Some(door) = self.line.door() else {
+            return Ok(true);
+        };
         if self.line.is_between_requests() {
             self.begun = None;
             self.head = HeadEnd::new();
+            return self.line.awaits_request(door);
         }
+        // a caller that comes in has said something
         let Some(begun) = self.begun else {
-            return self.line.awaits_request();
+            return Ok(true);
         };
         let most = Duration::from_secs(READ_OR_WRITE_SECONDS);
         match time_left(&self.rt, begun, self.head.limit())? {

@@ -1,6 +1,6 @@
 //! The outside of the program: the system's sockets, clock, random source, files, programs and standard streams as the devices that
-//! the hub asks. No clause can say what they give or take, so each counts its faults, tells no content and is tested. `limits` says how long
-//! each of them may keep the hub waiting.
+//! the hub asks. No clause can say what they give or take, so each counts its faults, tells no content and is tested. `limits` says how
+//! long each of them may keep the hub waiting.
 //! The program stands above it.
 #![tactic(auto)]
 

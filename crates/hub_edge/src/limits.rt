@@ -9,10 +9,10 @@ pub const HEAD_SECONDS: u64 = 30;
 /// How many seconds a request may take from its first byte on.
 pub const REQUEST_SECONDS: u64 = 300;
 
-/// How many seconds a connection may be silent between two requests.
+/// How many seconds a connection may be silent at its beginning, and between two requests.
 pub const SILENT_SECONDS: u64 = 15;
 
-/// How many milliseconds it may be silent there while a caller waits and no worker is free.
+/// How many milliseconds it may be silent between two requests while a caller waits and no worker is free.
 pub const CROWDED_MILLIS: u64 = 100;
 
 /// How many milliseconds a peer has to take a refusal whose request wasn't read to its end.
@@ -23,6 +23,9 @@ pub const LINGER_BYTES: usize = 1048576;
 
 /// How many connections may wait for a worker. The system refuses more, or lets them try again.
 pub const WAITING_CALLERS: i32 = 1024;
+
+/// How many connections are kept that have sent nothing yet. They hold no worker.
+pub const SILENT_CALLERS: usize = 256;
 
 /// How many milliseconds pass before the next try where a connection can't be taken, as for want of descriptors.
 pub const ACCEPT_AGAIN_MILLIS: u64 = 50;

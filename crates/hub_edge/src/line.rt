@@ -1,7 +1,7 @@
 //! What the two sides of a connection share: its socket, what was last written, and who waits at the listener.
 use crate::limits::{CROWDED_MILLIS, LINGER_BYTES, LINGER_MILLIS, SILENT_SECONDS};
 use crate::listener::Door;
-use crate::waiting::{awaited, comes_within, is_there, millis_of, time_left};
+use crate::waiting::{awaited, comes_within, millis_of, time_left};
 use libc::net::poll;
 use std::alloc::Global;
 use std::io::{self, Read};
@@ -10,23 +10,15 @@ use std::sync::Arc;
 use std::sync::atomic::{AtomicBool, Ordering};
 use std::time::{Duration, Instant};
 
-/// A connection's socket. A connection to a target has no door: nobody waits for it.
+/// A connection's socket, and the door that it came by. A connection to a target came by none.
 pub(crate) struct Line {
     rt: HostRuntime,
     stream: TcpStream,
     door: Option<Arc<Door, Global>>,
-    /// Whether a reply was the last thing, and nothing was read since.
+    /// Whether a reply was the last thing, and nothing was asked for since.
     replied: AtomicBool,
     /// Whether that reply was a refusal.
     refused: AtomicBool,
-}
-
-/// Who came first while a connection was silent.
-#[derive(Clone, Copy)]
-enum Came {
-    Peer,
-    Caller,
-    Nobody,
 }
 
 impl Line {
@@ -35,13 +27,17 @@ impl Line {
             rt,
             stream,
             door,
-            replied: AtomicBool::new(true),
+            replied: AtomicBool::new(false),
             refused: AtomicBool::new(false),
         }
     }
 
     pub(crate) fn stream(&self) -> &TcpStream {
         &self.stream
+    }
+
+    pub(crate) fn door(&self) -> Option<&Arc<Door, Global>> {
+        self.door.as_ref()
     }
 
     /// Notes bytes that are written. A reply begins with the line of its status.
@@ -66,63 +62,39 @@ impl Line {
         }
     }
 
-    /// Whether a reply was the last thing, or nothing was read yet. A read follows, so from then on neither is so.
+    /// Whether a reply was the last thing. A read follows, so from then on it isn't.
     pub(crate) fn is_between_requests(&self) -> bool {
         self.refused.store(false, Ordering::SeqCst);
         self.replied.swap(false, Ordering::SeqCst)
     }
 
-    /// Waits for the first bytes of a request, or the end. It is false where the connection is silent for too long, or where others wait.
-    pub(crate) fn awaits_request(&self) -> io::Result<bool> {
+    /// Waits for the next request, or the end. It is false where the connection is silent for too long, or where others wait.
+    pub(crate) fn awaits_request(&self, door: &Door) -> io::Result<bool> {
         let begun = Instant::now(&self.rt)?;
         let limit = Duration::from_secs(SILENT_SECONDS);
+        let crowded = Duration::from_millis(CROWDED_MILLIS);
         // each round but the last takes as long as a silent connection has while others wait
         for _ in 0..1000 {
             let Some(left) = time_left(&self.rt, begun, limit)? else {
-                return Ok(false);
+                break;
             };
-            match self.first_to_come(left) {
-                Came::Peer => return Ok(true),
-                Came::Nobody => return Ok(false),
-                Came::Caller => {
-                    if comes_within(&self.stream, Duration::from_millis(CROWDED_MILLIS)) {
-                        return Ok(true);
-                    }
-                    if self.is_crowded() {
-                        return Ok(false);
-                    }
-                }
+            // no socket here tells that a silent caller speaks, so that is asked again and again
+            let speaks = !door.has_silent_callers() && self.speaks_first(door, left);
+            if speaks || comes_within(&self.stream, crowded) {
+                return Ok(true);
+            }
+            if door.is_crowded() {
+                break;
             }
         }
         Ok(false)
     }
 
-    /// Waits for the peer, or for a caller at the listener.
-    fn first_to_come(&self, limit: Duration) -> Came {
-        let Some(door) = &self.door else {
-            return if comes_within(&self.stream, limit) {
-                Came::Peer
-            } else {
-                Came::Nobody
-            };
-        };
+    /// Whether the peer sends something, or leaves, within this time and before a caller comes.
+    fn speaks_first(&self, door: &Door, limit: Duration) -> bool {
         let mut asked = [awaited(&self.stream), awaited(door.listener())];
-        let count = poll(&mut asked, millis_of(limit));
-        if count == 0 {
-            Came::Nobody
-        } else if asked[0].revents != 0 {
-            Came::Peer
-        } else {
-            Came::Caller
-        }
-    }
-
-    /// Whether a caller waits and no worker is free to serve it.
-    fn is_crowded(&self) -> bool {
-        match &self.door {
-            Some(door) => door.has_no_free_worker() && is_there(door.listener()),
-            None => false,
-        }
+        poll(&mut asked, millis_of(limit));
+        asked[0].revents != 0
     }
 
     /// Tells the peer that no more bytes come.
@@ -132,8 +104,8 @@ impl Line {
 }
 
 impl Drop for Line {
-    /// A socket that is closed with unread bytes is reset, and its peer may lose the reply. So after a refusal the sending side is shut, and
-    /// a bounded rest is read.
+    /// A socket that is closed with unread bytes is reset, and its peer may lose the reply. So after a refusal the sending side is
+    /// shut, and a bounded rest is read.
     fn drop(self) {
         if self.refused.load(Ordering::SeqCst) {
             self.shut();

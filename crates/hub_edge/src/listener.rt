@@ -2,10 +2,14 @@
 ghost use Rattle.std.specs.Prelude.{◌≡◌, ℕ, None, IfOk};
 
 use crate::connection::{SocketSink, SocketSource, sides};
-use crate::limits::{ACCEPT_AGAIN_MILLIS, ACCEPT_TRIES, READ_OR_WRITE_SECONDS, WAITING_CALLERS};
+use crate::limits::{
+    ACCEPT_AGAIN_MILLIS, ACCEPT_TRIES, READ_OR_WRITE_SECONDS, SILENT_CALLERS, SILENT_SECONDS,
+    WAITING_CALLERS,
+};
+use crate::waiting::{awaited, is_there, millis_of, time_left};
 use hub_devices::listener::Listener;
 use hub_devices::source::Failed;
-use libc::net::{SHUT_RDWR, listen, shutdown};
+use libc::net::{SHUT_RDWR, listen, poll, shutdown};
 use std::alloc::Global;
 use std::io::{self, ErrorKind};
 use std::net::{TcpListener, TcpStream};
@@ -13,7 +17,7 @@ use std::os::fd::{AsRawFd, OwnedFd};
 use std::sync::Arc;
 use std::sync::atomic::{AtomicBool, AtomicU64, Ordering};
 use std::thread;
-use std::time::Duration;
+use std::time::{Duration, Instant};
 
 /// A listening socket, which its connections share: they see who waits there.
 #[derive(Drop)]
@@ -21,6 +25,8 @@ pub(crate) struct Door {
     listener: TcpListener,
     /// How many workers wait for a caller.
     free: AtomicU64,
+    /// How many callers were silent when a worker last came from here.
+    silent: AtomicU64,
     is_closed: AtomicBool,
 }
 
@@ -29,16 +35,31 @@ impl Door {
         &self.listener
     }
 
-    pub(crate) fn has_no_free_worker(&self) -> bool {
+    pub(crate) fn has_silent_callers(&self) -> bool {
+        self.silent.load(Ordering::SeqCst) != 0
+    }
+
+    /// Whether a caller waits, or may, and no worker is free to see to it.
+    pub(crate) fn is_crowded(&self) -> bool {
         self.free.load(Ordering::SeqCst) == 0
+            && (self.has_silent_callers() || is_there(&self.listener))
     }
 }
 
-/// Listens at an address. Workers take it in turn.
+/// A connection that has sent nothing yet.
+#[derive(Drop)]
+struct Silent {
+    stream: TcpStream,
+    since: Instant,
+}
+
+/// Listens at an address. Workers take it in turn. A connection is given once it has sent something, so that silent ones hold no worker.
 #[derive(Drop)]
 pub struct SocketListener {
     rt: HostRuntime,
     door: Arc<Door, Global>,
+    /// The longest silent first.
+    silent: Vec<Silent>,
     faults: u64,
 }
 
@@ -55,7 +76,7 @@ impl Closer {
         shutdown(self.door.listener.as_raw_fd(), SHUT_RDWR);
     }
 
-    /// Whether the listener failed since it was closed here.
+    /// Whether the listener was closed here.
     pub fn is_closed(&self) -> bool {
         self.door.is_closed.load(Ordering::SeqCst)
     }
@@ -74,11 +95,13 @@ impl SocketListener {
         let door = Door {
             listener,
             free: AtomicU64::new(0),
+            silent: AtomicU64::new(0),
             is_closed: AtomicBool::new(false),
         };
         Ok(SocketListener {
             rt,
             door: Arc::new(rt.alloc(), door)?,
+            silent: Vec::new(rt.alloc()),
             faults: 0,
         })
     }
@@ -94,30 +117,110 @@ impl SocketListener {
         })
     }
 
-    /// The next connection. Where none can be taken it waits before the next try.
-    fn next_sides(&self) -> io::Result<(SocketSource, SocketSink)> {
+    /// The next connection that has sent something. Where none can be taken it waits before the next try.
+    fn next_stream(&mut self) -> io::Result<TcpStream>
+        ensures { self.new.faults ≡ self.old.faults }
+    {
         let mut failed = 0u32;
         for _ in 0..u64::MAX {
-            match self.door.listener.accept() {
-                Ok((stream, _)) => match self.sides_of(stream) {
-                    Ok(sides) => return Ok(sides),
-                    Err(_) => {}
-                },
-                Err(error) if is_no_fault(error.kind()) => {}
+            match self.try_next() {
+                Ok(Some(stream)) => return Ok(stream),
+                Ok(None) => failed = 0,
                 Err(error) => {
                     failed = failed.saturating_add(1);
                     if failed > ACCEPT_TRIES || self.door.is_closed.load(Ordering::SeqCst) {
                         return Err(error);
                     }
-                    thread::sleep(&self.rt, Duration::from_millis(ACCEPT_AGAIN_MILLIS));
+                    self.make_room();
                 }
             }
         }
         Err(io::Error::from(ErrorKind::Other))
     }
 
-    /// The two sides of a caller's stream.
-    fn sides_of(&self, stream: TcpStream) -> io::Result<(SocketSource, SocketSink)> {
+    /// Waits for a caller or for a silent one to say something.
+    fn try_next(&mut self) -> io::Result<Option<TcpStream>>
+        ensures { self.new.faults ≡ self.old.faults }
+    {
+        if !self.silent.is_empty() {
+            if let Some(at) = self.first_to_speak()? {
+                if at < self.silent.len() {
+                    return Ok(Some(self.silent.remove(at).stream));
+                }
+            }
+            self.forget_silent()?;
+            if !is_there(&self.door.listener) {
+                return Ok(None);
+            }
+        }
+        match self.door.listener.accept() {
+            Ok((stream, _)) if is_there(&stream) => Ok(Some(stream)),
+            Ok((stream, _)) => self.keep_silent(stream),
+            Err(error) if is_no_fault(error.kind()) => Ok(None),
+            Err(error) => Err(error),
+        }
+    }
+
+    /// Waits for the listener and the silent callers. Gives the place of the first of these that has sent something, or left.
+    fn first_to_speak(&self) -> io::Result<Option<usize>> {
+        let mut asked = Vec::new(self.rt.alloc());
+        for each in &self.silent {
+            asked.push(awaited(&each.stream))?;
+        }
+        asked.push(awaited(&self.door.listener))?;
+        poll(asked.as_mut_slice(), millis_of(Duration::from_secs(1)));
+        for at in 0..self.silent.len() {
+            if asked.get(at).is_some_and(|each| each.revents != 0) {
+                return Ok(Some(at));
+            }
+        }
+        Ok(None)
+    }
+
+    /// Keeps a caller that has sent nothing yet, and lets the longest silent one go where there are too many.
+    fn keep_silent(&mut self, stream: TcpStream) -> io::Result<Option<TcpStream>>
+        ensures { self.new.faults ≡ self.old.faults }
+    {
+        let since = Instant::now(&self.rt)?;
+        if self.silent.len() >= SILENT_CALLERS {
+            drop(self.silent.remove(0));
+        }
+        self.silent.push(Silent { stream, since })?;
+        Ok(None)
+    }
+
+    /// Lets those go that have been silent for too long.
+    fn forget_silent(&mut self) -> io::Result<()>
+        ensures { self.new.faults ≡ self.old.faults }
+    {
+        for _ in 0..self.silent.len() {
+            let Some(first) = self.silent.first() else {
+                break;
+            };
+            if time_left(&self.rt, first.since, Duration::from_secs(SILENT_SECONDS))?.is_some() {
+                break;
+            }
+            drop(self.silent.remove(0));
+        }
+        Ok(())
+    }
+
+    /// Lets the longest silent caller go, since descriptors may lack, or waits a little.
+    fn make_room(&mut self)
+        ensures { self.new.faults ≡ self.old.faults }
+    {
+        if self.silent.is_empty() {
+            thread::sleep(&self.rt, Duration::from_millis(ACCEPT_AGAIN_MILLIS));
+        } else {
+            drop(self.silent.remove(0));
+        }
+    }
+
+    /// The next connection, as its two sides.
+    fn next_sides(&mut self) -> io::Result<(SocketSource, SocketSink)>
+        ensures { self.new.faults ≡ self.old.faults }
+    {
+        let stream = self.next_stream()?;
         let door = Arc::try_clone(&self.door)?;
         Ok(sides(self.rt, stream, Some(door))?)
     }
@@ -151,6 +254,8 @@ impl Listener for SocketListener {
     fn accept(&mut self) -> Result<(SocketSource, SocketSink), Failed> {
         self.door.free.fetch_add(1, Ordering::SeqCst);
         let next = self.next_sides();
+        let silent = self.silent.len() as u64;
+        self.door.silent.store(silent, Ordering::SeqCst);
         self.door.free.fetch_sub(1, Ordering::SeqCst);
         match next {
             Ok(sides) => Ok(sides),

@@ -70,8 +70,11 @@ impl<'a, H: Threads + Wait> Programs<'a, H> {
 
     /// Puts a program on the list. One for which there is no memory is ended.
     fn keep(&self, generation: u64, child: Child) -> Result<(), StartFault> {
-        let mut started = self.started.lock(self.handle);
-        match started.push(Started { generation, child }) {
+        let pushed = self
+            .started
+            .lock(self.handle)
+            .push(Started { generation, child });
+        match pushed {
             Ok(()) => Ok(()),
             Err(mut refused) => {
                 end(&self.rt, &mut refused.value.child)?;
