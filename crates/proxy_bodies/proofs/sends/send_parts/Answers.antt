@@ -1,0 +1,33 @@
+use Rattle.std.proofs.Common.{◌++◌, List, ℕ, [], refl, arith}
+use Rattle.http_wire.proofs.TookLemmas.{Took_behind}
+use Rattle.upstreams.proofs.MoveLemmas.{Moves_then}
+use Rattle.proxy_bodies.proofs.PieceLemmas.{Took_piece}
+use Rattle.proxy_bodies.proofs.SendLemmas.{stop_part, stands_after}
+use Rattle.proxy_bodies.proofs.sends.send_parts.Goals as goal
+
+pub parts-preserved : goal.parts-preserved
+parts-preserved g c =
+    let done = c.parts.invariant.done in
+    let ok = c.in-Ok.ensures.ok in record {
+      done = (
+        done.0 ++ ok.0,
+        stands_after c.parts.at done.0 ok.0 c.in-Ok.next done.1 ok.3,
+        Took_piece _ _ _ done.0 (ok.0 ++ (c.send_part.new.window ++ c.send_part.new.kept)) ok.0 (c.send_part.new.window ++ c.send_part.new.kept)
+            (Took_behind _ _ _ _ done.0 _ _ done.2 ok.1) refl,
+        Moves_then _ _ _ done.0 ok.0 [] [] done.3 ok.2,
+      );
+      room = c.send_part.ensures.kept;
+      reads = omega (arith, c.parts.invariant.reads, c.send_part.ensures.reads);
+      sends = omega (arith, c.parts.invariant.sends, c.send_part.ensures.sends);
+    }
+
+pub returns-in-Err-clause-err : goal.returns-in-Err-clause-err
+returns-in-Err-clause-err g c =
+    let done = c.parts.invariant.done in
+    let e = c.in-Err.ensures.err in (
+      done.0,
+      e.0,
+      Took_behind _ _ _ _ done.0 _ _ done.2 e.1,
+      Moves_then _ _ _ done.0 e.0 [] [] done.3 e.2,
+      stop_part c.parts.at (g.I.Source.left c.send_part.new.input) c.send_part.new.window c.send_part.new.kept done.0 e.0 c.in-Err.e done.1 e.3,
+    )

@@ -1,0 +1,49 @@
+-- Bodies of replies that are passed back: whole, or a part, and why no more.
+use Rattle.std.specs.Prelude.{◌≡◌, ◌≤◌, ◌⊎◌, ◌+◌, ℕ, List, [], ◌++◌, length, Option}
+use Rattle.hub_devices.specs.Faults.{Rises}
+use Rattle.upstreams.specs.Upstream.{Told, IsSpent}
+use Rattle.chunk_parts.specs.Chunks.{BreaksChunks, BeginsChunked}
+use Rattle.chunk_parts.specs.declared.parts.At.{At}
+use Rattle.chunk_parts.specs.Parts.{IsNext, IsBadPart}
+use Rattle.proxy_wire.specs.declared.framing.Framing.{Framing}
+use Rattle.proxy_wire.specs.declared.framing.Framing.TheVariants.{Length, Chunked, ToEnd}
+use Rattle.proxy_bodies.specs.declared.backs.BackEnd.{BackEnd}
+use Rattle.proxy_bodies.specs.declared.backs.BackEnd.TheVariants.{Spent, ReceiveFault, WriteFault, Bad}
+use Rattle.proxy_bodies.specs.Bodies.{IsWholeBody}
+
+-- the most bytes of a body that are passed back
+abbrev pub body_limit : ℕ
+body_limit = 9223372036854775807
+
+-- the body was passed back: `tail` came and was not written. Bytes that are no chunk count as the upstream's early end
+abbrev pub IsBackWhole : Framing → Option Told → List ℕ → List ℕ → Type 0
+IsBackWhole (Length n) told body tail = length body ≡ n
+IsBackWhole Chunked told body tail =
+    IsWholeBody Chunked body ⊎ (BeginsChunked body × (BreaksChunks (body ++ tail) ⊎ (body_limit ≤ length body + length (body ++ tail))))
+IsBackWhole ToEnd told body tail = (tail ≡ []) × IsSpent told
+
+-- a front of such a body
+abbrev pub IsBackPart : Framing → List ℕ → Type 0
+IsBackPart (Length n) body = length body ≤ n
+IsBackPart Chunked body = BeginsChunked body
+IsBackPart ToEnd body = Unit {0}
+
+-- how the passing back ends: `links` and `writes` are the counts of faults before, those with a prime after
+abbrev pub IsBackEnd : Framing → Option Told → List ℕ → List ℕ → ℕ → ℕ → ℕ → ℕ → Type 0
+IsBackEnd f told body tail links links' writes writes' =
+    IsBackWhole f told body tail
+    ⊎ (IsBackPart f body × (IsSpent told ⊎ ((length body ≡ body_limit) ⊎ (Rises links links' ⊎ Rises writes writes'))))
+
+-- a body by its length stops
+abbrev pub StopsSized : Option Told → BackEnd → Type 0
+StopsSized told Spent = IsSpent told
+StopsSized told ReceiveFault = Unit {0}
+StopsSized told WriteFault = Unit {0}
+StopsSized told Bad = ⊥
+
+-- a part of a chunked body stops: `piece` of what is held was written
+abbrev pub StopsBack : At → Option Told → List ℕ → List ℕ → BackEnd → Type 0
+StopsBack a told held piece Spent = (piece ≡ []) × IsSpent told
+StopsBack a told held piece ReceiveFault = piece ≡ []
+StopsBack a told held piece WriteFault = (rest more : List ℕ) × (next : At) × (held ≡ piece ++ more) × IsNext a (piece ++ rest) next
+StopsBack a told held piece Bad = (piece ≡ []) × IsBadPart a held

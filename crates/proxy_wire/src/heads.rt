@@ -1,0 +1,129 @@
+//! Heads of requests and replies as they are passed on.
+ghost use Rattle.std.specs.Prelude.{◌≡◌, ◌<◌, ◌≤◌, ◌++◌, length, take, map, not, All, IfOk, OnOk};
+ghost use Rattle.httparse.specs.Spans.{IsHeaderWithin, IsResponseWithin, span_bytes};
+ghost use Rattle.http_wire.specs.Head.{header_at};
+ghost use Rattle.proxy_wire.specs.Heads.{is_hop, header_line, header_lines, request_line, status_line};
+ghost use Rattle.proxy_wire.specs.Heads as spec;
+
+use http_wire::head::{Head, Header};
+use httparse::spans::{HeaderSpan, ResponseSpans};
+use hub_kit::bytes::Bytes;
+use std::alloc::{AllocError, Global};
+
+const CONNECTION: &[u8] = b"connection";
+
+const KEEP_ALIVE: &[u8] = b"keep-alive";
+
+const PROXY_CONNECTION: &[u8] = b"proxy-connection";
+
+const UPGRADE: &[u8] = b"upgrade";
+
+const VERSION: &[u8] = b"HTTP/1.";
+
+/// The last line of a head, and the empty line behind it.
+const CLOSE_AND_END: &[u8] = b"Connection: close\r\n\r\n";
+
+/// Whether the header speaks to the next hop alone, and isn't passed on.
+fn is_hop(name: &[u8]) -> bool
+    ensures { result ≡ is_hop name.now }
+{
+    name.eq_ignore_ascii_case(CONNECTION)
+        || name.eq_ignore_ascii_case(KEEP_ALIVE)
+        || name.eq_ignore_ascii_case(PROXY_CONNECTION)
+        || name.eq_ignore_ascii_case(UPGRADE)
+}
+
+fn push_header(text: &mut Bytes, name: &[u8], value: &[u8]) -> Result<(), AllocError>
+    ensures { OnOk result (text.new ≡ text.old ++ header_line (record { name = name.now; value = value.now })) }
+{
+    text.push_all(name)?;
+    text.push_all(b": ")?;
+    text.push_all(value)?;
+    text.push_all(b"\r\n")
+}
+
+/// The lines of a request's headers.
+fn push_headers(text: &mut Bytes, headers: &[Header]) -> Result<(), AllocError>
+    ensures { OnOk result (text.new ≡ text.old ++ header_lines headers.now) }
+{
+    'lines: for header in headers {
+        if !is_hop(header.name.as_bytes()) {
+            push_header(text, header.name.as_bytes(), header.value.as_slice())?;
+        }
+    }
+    Ok(())
+}
+
+/// The lines of a reply's headers, which stand in the bytes where the spans say.
+fn push_spans(text: &mut Bytes, bytes: &[u8], spans: &[HeaderSpan]) -> Result<(), AllocError>
+    requires { All (IsHeaderWithin (length bytes.now)) spans.now }
+    ensures { OnOk result (text.new ≡ text.old ++ header_lines (map (header_at bytes.now) spans.now)) }
+{
+    'lines: for span in spans {
+        if !is_hop(span.name.of(bytes)) {
+            push_header(text, span.name.of(bytes), span.value.of(bytes))?;
+        }
+    }
+    Ok(())
+}
+
+fn push_request_line(text: &mut Bytes, head: &Head) -> Result<(), AllocError>
+    requires { head.now.minor ≤ 1 }
+    ensures { OnOk result (text.new ≡ text.old ++ request_line head.now.method head.now.target head.now.minor) }
+{
+    text.push_all(head.method.as_bytes())?;
+    text.push_all(b" ")?;
+    text.push_all(head.target.as_slice())?;
+    text.push_all(b" ")?;
+    text.push_all(VERSION)?;
+    text.push_all(&[48 + head.minor, 13, 10])
+}
+
+/// The head of a request as it is sent on.
+pub fn request_text(alloc: Global, head: &Head) -> Result<Bytes, AllocError>
+    requires { head.now.minor ≤ 1 }
+    ensures { IfOk result (λ text. text ≡ spec.request_text head.now) }
+{
+    let mut text = Bytes::new(alloc);
+    push_request_line(&mut text, head)?;
+    push_headers(&mut text, head.headers.as_slice())?;
+    text.push_all(CLOSE_AND_END)?;
+    Ok(text)
+}
+
+fn push_status_line(
+    text: &mut Bytes,
+    minor: u8,
+    status: u16,
+    reason: &[u8],
+) -> Result<(), AllocError>
+    requires { minor ≤ 1 }
+    ensures { OnOk result (text.new ≡ text.old ++ status_line minor status reason.now) }
+{
+    let hundreds = 48 + (status / 100 % 10) as u8;
+    let tens = 48 + (status / 10 % 10) as u8;
+    let ones = 48 + (status % 10) as u8;
+    text.push_all(VERSION)?;
+    text.push_all(&[48 + minor, 32, hundreds, tens, ones, 32])?;
+    text.push_all(reason)?;
+    text.push_all(b"\r\n")?;
+    Ok(())
+}
+
+/// The head of a reply as it is passed back, of the parts that the spans cover.
+pub(crate) fn reply_text(
+    alloc: Global,
+    bytes: &[u8],
+    spans: &[HeaderSpan],
+    r: ResponseSpans,
+) -> Result<Bytes, AllocError>
+    requires { IsResponseWithin bytes.now spans.now r }
+    ensures { IfOk result (λ text. text ≡ spec.reply_text r.version r.code (span_bytes bytes.now r.reason)
+        (map (header_at bytes.now) (take r.headers spans.now))) }
+{
+    let mut text = Bytes::new(alloc);
+    push_status_line(&mut text, r.version, r.code, r.reason.of(bytes))?;
+    push_spans(&mut text, bytes, &spans[..r.headers])?;
+    text.push_all(CLOSE_AND_END)?;
+    Ok(text)
+}

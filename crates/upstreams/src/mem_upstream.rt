@@ -1,0 +1,112 @@
+//! An upstream in memory.
+ghost use Rattle.std.specs.Prelude.{◌≡◌, ℕ, ◌<◌, ◌≤◌, ◌-◌, List, [], ◌++◌, length, take, drop, min, max, Option, Some, None, false, true, is_err, IfOk, OnOk, OnErr, IsErr};
+ghost use Rattle.hub_devices.specs.FailingCalls.{is_failing, after_call, new_script};
+ghost use Rattle.hub_devices.specs.Faults.{Rises};
+ghost use Rattle.upstreams.specs.Upstream.{Told, Connects, Moves, Finishes, IsSpent};
+
+use crate::upstream::Upstream;
+use hub_devices::failing_calls::FailingCalls;
+use hub_devices::source::Failed;
+use hub_kit::bytes::Bytes;
+use hub_kit::target::Target;
+use std::alloc::Global;
+
+/// Gives at most `cut` bytes for each receive, and keeps the target, what was sent and whether it is finished. It fails at
+/// the calls that `failing` numbers, the first call being 0, and where it finds no memory; a `send` that is to fail keeps
+/// the first half of the bytes.
+#[derive(Drop)]
+pub struct MemUpstream {
+    alloc: Global,
+    given: Bytes,
+    at: usize,
+    cut: usize,
+    target: Option<Target>,
+    sent: Bytes,
+    finished: bool,
+    script: FailingCalls,
+    ghost in_range: { at ≤ length given },
+    ghost gives: { 0 < cut },
+}
+
+impl MemUpstream {
+    /// A `cut` of 0 counts as 1.
+    pub fn new(alloc: Global, given: Bytes, cut: usize, failing: Vec<u64>) -> MemUpstream
+        ensures told { ⟦<MemUpstream as Upstream>⟧.told result
+            ≡ Some (record { connected = None; sent = []; left = given; finished = false }) }
+        ensures cut { result.cut ≡ max cut 1 }
+        ensures script { result.script ≡ new_script failing.items }
+    {
+        MemUpstream {
+            alloc,
+            given,
+            at: 0,
+            cut: cut.max(1),
+            target: None,
+            sent: Bytes::new(alloc),
+            finished: false,
+            script: FailingCalls::new(failing),
+        }
+    }
+
+    /// What was sent.
+    pub fn sent(&self) -> &[u8]
+        ensures { result.now ≡ self.now.sent }
+    {
+        self.sent.as_slice()
+    }
+
+    /// Whether it is finished.
+    pub fn is_finished(&self) -> bool
+        ensures { result ≡ self.now.finished }
+    {
+        self.finished
+    }
+}
+
+impl Upstream for MemUpstream {
+    ghost told = { λ u. Some (record { connected = u.target; sent = u.sent; left = drop u.at u.given; finished = u.finished }) };
+
+    ghost faults = { λ u. u.script.faults };
+
+    fn connect(&mut self, target: &Target) -> Result<(), Failed> {
+        if self.script.next() {
+            return Err(Failed);
+        }
+        let Ok(target) = target.copy(self.alloc) else {
+            self.script.fail();
+            return Err(Failed);
+        };
+        self.target = Some(target);
+        self.finished = false;
+        Ok(())
+    }
+
+    fn send(&mut self, bytes: &[u8]) -> Result<(), Failed> {
+        if self.script.next() {
+            return match self.sent.push_all(&bytes[..bytes.len() / 2]) {
+                Ok(()) => Err(Failed),
+                Err(_) => Err(Failed),
+            };
+        }
+        if self.sent.push_all(bytes).is_err() {
+            self.script.fail();
+            return Err(Failed);
+        }
+        Ok(())
+    }
+
+    fn receive(&mut self, into: &mut [u8]) -> Result<usize, Failed> {
+        if self.script.next() {
+            return Err(Failed);
+        }
+        let left = &self.given.as_slice()[self.at..];
+        let count = left.len().min(self.cut).min(into.len());
+        into[..count].copy_from_slice(&left[..count]);
+        self.at += count;
+        Ok(count)
+    }
+
+    fn finish(&mut self) {
+        self.finished = true;
+    }
+}
