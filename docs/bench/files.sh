@@ -1,10 +1,11 @@
 #!/bin/sh
-# What `session .. --db FILE` does with a file, which no clause can say: that each acknowledged change is there after the program was killed,
-# that a second hub is refused, how long an opening over many users takes, and how many changes a second it acknowledges beside the stock sqlite3.
+# What `session .. --db FILE` does with a file, which no clause can say: that each acknowledged change is there after the program was
+# killed, that a second hub is refused, how long an opening over many users takes, and how many changes a second it acknowledges beside the
+# stock sqlite3.
 # usage: docs/bench/files.sh [PROGRAM [FOLDER]]
-# PROGRAM is the program `hub` as `rt run` leaves it (crates/hub/out/hub if none is named: run `./run` first). The files are made in FOLDER, which
-# decides what a sync costs (a new one under /tmp if none is named), and removed at the end. It needs the stock sqlite3, takes some minutes, and
-# stands outside the gate. It ends with status 1 at the first thing that isn't as it should be.
+# PROGRAM is the program `hub` as `rt run` leaves it (crates/hub/out/hub if none is named: run `./run` first). The files are made in a
+# folder of FOLDER, which decides what a sync costs (/tmp if none is named), and removed at the end. It needs the stock sqlite3, takes some
+# minutes, and stands outside the gate. It ends with status 1 at the first thing that isn't as it should be.
 set -eu
 top=$(cd "$(dirname "$0")/../.." && pwd)
 program=${1:-$top/crates/hub/out/hub}
@@ -13,12 +14,14 @@ folder=$(mktemp -d "${2:-/tmp}/hub-files.XXXXXX")
 trap 'rm -rf "$folder"' EXIT
 cd "$folder"
 python3 - "$program" <<'PYTHON'
-import hashlib, os, random, signal, sqlite3, subprocess, sys, time
+import hashlib, json, os, random, signal, sqlite3, subprocess, sys, time
 
 program = sys.argv[1]
 WORDS = [program, "session", "1700000000", "ann", "secret-token-ann", "--admin"]
 KILLS = 50
 CHANGES = 1000
+USER = '{"admin":false,"created":1700000000,"last_activity":null}'
+TOKEN = {"client": None, "created": 1700000000, "expires_at": None, "hash": "", "issued_for": None, "note": "", "owner": "", "scopes": ["inherit"]}
 
 
 def fail(why):
@@ -36,8 +39,9 @@ def new_user(name):
     return request(b"POST", b"/hub/api/users/" + name.encode())
 
 
-def session(file, *more, **pipes):
-    return subprocess.Popen([*WORDS, "--db", file, *more], stdin=subprocess.PIPE, stdout=subprocess.PIPE, stderr=subprocess.PIPE, bufsize=0, **pipes)
+def session(file, *more):
+    pipe = subprocess.PIPE
+    return subprocess.Popen([*WORDS, "--db", file, *more], stdin=pipe, stdout=pipe, stderr=pipe, bufsize=0)
 
 
 def reply(hub):
@@ -79,7 +83,7 @@ def end(hub, status=0):
 
 
 def killed(file, kept, first, count, seed):
-    """Makes users one after the other, and kills the hub while it works on the last one. Gives those that were acknowledged, and that last one."""
+    """Makes users one after the other, kills the hub while it works on the last one, notes those acknowledged, and gives the last."""
     hub = session(file)
     names = [f"k{first + n:06d}" for n in range(count)]
     for name in names[:-1]:
@@ -108,7 +112,7 @@ def kill_many():
             fail(f"after kill {turn} {sorted(kept - found)} lack and {sorted(found - kept - {last})} are too many")
         unsaid += len(found) - len(kept)
         kept = found
-    print(f"killed {KILLS} times: {acknowledged} changes acknowledged, all there; {unsaid} more were kept and not acknowledged; sqlite3 says ok each time", flush=True)
+    print(f"killed {KILLS} times: {acknowledged} changes acknowledged, all there, and {unsaid} more; sqlite3 says ok each time", flush=True)
 
 
 # ---- refused files
@@ -151,12 +155,10 @@ def fill(file, count):
     for n in range(count):
         user = f"u{n:06d}"
         digest = hashlib.sha256(f"token-{n:06d}".encode()).hexdigest()
-        kept.execute("INSERT INTO row VALUES (1, ?, ?)", (user, '{"admin":false,"created":1700000000,"last_activity":null}'))
-        kept.execute(
-            "INSERT INTO row VALUES (5, ?, ?)",
-            (str(n + 2), f'{{"client":null,"created":1700000000,"expires_at":null,"hash":"{digest}","issued_for":null,"note":"","owner":"user:{user}","scopes":["inherit"]}}'),
-        )
-    kept.execute("""UPDATE row SET text = ? WHERE kind = 12 AND key = 'token'""", (f'{{"next":{count + 2}}}',))
+        token = {**TOKEN, "hash": digest, "owner": f"user:{user}"}
+        kept.execute("INSERT INTO row VALUES (1, ?, ?)", (user, USER))
+        kept.execute("INSERT INTO row VALUES (5, ?, ?)", (str(n + 2), json.dumps(token, separators=(",", ":"))))
+    kept.execute("UPDATE row SET text = ? WHERE kind = 12 AND key = 'token'", (f'{{"next":{count + 2}}}',))
     kept.commit()
     kept.close()
 
@@ -178,11 +180,12 @@ def opened(file):
 
 def open_many():
     for count, goal in [(1000, ""), (10_000, ", goal 0.15"), (100_000, ", goal 1.5")]:
-        fill(f"many{count}.db", count)
+        # ann is one of them
+        fill(f"many{count}.db", count - 1)
         seconds, megabytes = opened(f"many{count}.db")
         print(f"opening {count} users with a token each: {seconds:.3f} s of processor time{goal}; {megabytes:.1f} MB", flush=True)
         hub = session(f"many{count}.db")
-        if ask(hub, request(b"GET", f"/hub/api/users/u{count - 1:06d}".encode())) != 200:
+        if ask(hub, request(b"GET", f"/hub/api/users/u{count - 2:06d}".encode())) != 200:
             fail("the last user isn't found")
         end(hub)
 
@@ -203,10 +206,11 @@ def changes(count, file):
 
 def stock_changes(count, file):
     """Commits a second of the stock sqlite3, with the same journal and syncs."""
-    text = '{"admin":false,"created":1700000000,"last_activity":null}'
-    lines = ["PRAGMA journal_mode = wal;", "PRAGMA synchronous = full;", "CREATE TABLE row (kind INTEGER, key TEXT, text TEXT, PRIMARY KEY (kind, key)) STRICT;"]
+    lines = ["PRAGMA journal_mode = wal; PRAGMA synchronous = full;"]
+    lines.append("CREATE TABLE row (kind INTEGER, key TEXT, text TEXT, PRIMARY KEY (kind, key)) STRICT;")
+    put = "ON CONFLICT (kind, key) DO UPDATE SET text = excluded.text"
     for n in range(count):
-        lines.append(f"BEGIN; INSERT INTO row (kind, key, text) VALUES (1, 'c{n:06d}', '{text}') ON CONFLICT (kind, key) DO UPDATE SET text = excluded.text; COMMIT;")
+        lines.append(f"BEGIN; INSERT INTO row (kind, key, text) VALUES (1, 'c{n:06d}', '{USER}') {put}; COMMIT;")
     before = time.monotonic()
     subprocess.run(["sqlite3", file], input="\n".join(lines), stdout=subprocess.DEVNULL, text=True, check=True)
     return count / (time.monotonic() - before)
@@ -215,8 +219,9 @@ def stock_changes(count, file):
 def race():
     ours, theirs = [], []
     for turn in range(5):
-        ours.append(changes(2000, f"ours{turn}.db"))
-        theirs.append(stock_changes(2000, f"theirs{turn}.db"))
+        # a connection has at most 1,000 replies
+        ours.append(changes(1000, f"ours{turn}.db"))
+        theirs.append(stock_changes(1000, f"theirs{turn}.db"))
     print(f"changes a second: {max(ours):.0f}, sqlite3 {max(theirs):.0f}: {max(ours) / max(theirs):.2f} of it, goal 0.9", flush=True)
 
 
