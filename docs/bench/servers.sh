@@ -6,7 +6,7 @@
 # this checkout kept, and runs the program. It stands outside the gate, and leaves the repository as it was.
 . "$(dirname "$0")/scratch.sh"
 begin servers_bench "${1:-}" "$(below hub_run)" \
-    'hub_run hub_core hub_opening hub_machine scope_filters server_life keeper hub_devices hub_kit http_wire desk'
+    'hub_run hub_core hub_opening hub_machine scope_names scope_filters server_life keeper hub_devices hub_kit http_wire desk'
 mkdir -p "$bench/proofs/least"
 
 cat >"$bench/proofs/least/Invariants.antt" <<'END'
@@ -22,6 +22,7 @@ cat >"$bench/src/main.rt" <<'END'
 #![tactic(auto)]
 
 ghost use Rattle.std.specs.Prelude.{◌≡◌, ◌≤◌, ◌^◌, IfSome, IfOk};
+ghost use Rattle.hub_opening.specs.Kept.{MakeTable};
 
 use desk::{Desk, Pass};
 use hub_core::book::Book;
@@ -44,6 +45,7 @@ use keeper::mem_keeper::MemKeeper;
 use keeper::trail::ListTrail;
 use scope_filters::holder::Owner;
 use scope_filters::scope::RawScope;
+use scope_names::custom::CustomRow;
 use server_life::Pool;
 use std::alloc::Global;
 use std::io;
@@ -138,7 +140,8 @@ fn config_of(
     users: Vec<ConfigUser>,
     tokens: Vec<ConfigToken>,
 ) -> HubConfig
-    ensures { result.limits.trail_bytes ≤ 2 ^ 62 }
+    ensures trail { result.limits.trail_bytes ≤ 2 ^ 62 }
+    ensures scopes { MakeTable result.custom_scopes }
 {
     HubConfig {
         pool,
@@ -150,11 +153,18 @@ fn config_of(
         services: List::new(alloc),
         roles: List::new(alloc),
         tokens: List::from_vec(tokens),
+        custom_scopes: no_scopes(alloc),
     }
 }
 
+fn no_scopes(alloc: Global) -> List<CustomRow>
+    ensures { MakeTable result }
+{
+    List::new(alloc)
+}
+
 fn config(alloc: Global) -> Option<HubConfig>
-    ensures { IfSome result (λ config. config.limits.trail_bytes ≤ 2 ^ 62) }
+    ensures { IfSome result (λ config. (config.limits.trail_bytes ≤ 2 ^ 62) × MakeTable config.custom_scopes) }
 {
     let users = users(alloc)?;
     let tokens = tokens(alloc)?;

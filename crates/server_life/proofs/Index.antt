@@ -284,8 +284,8 @@ pub some_free : (leased : List (Option Held)) (es : List (ℕ × Unit {0})) (i :
 some_free leased [] i old is = absurd (old i is)
 some_free leased (e ∷ es) i old is = omega arith
 
-pub moved : (t : LeaseTable) (f f2 : List (ℕ × Unit {0})) (g g2 : List (ℕ × ℕ)) (s s2 : List (ServerKey × ℕ)) → f2 ≡ f → g2 ≡ g → s2 ≡ s → IsIndexed t f g s → IsIndexed t f2 g2 s2
-moved t f f2 g g2 s s2 a b c x = subst (λ k. IsIndexed t k g2 s2) (sym a) (subst (λ k. IsIndexed t f k s2) (sym b) (subst (λ k. IsIndexed t f g k) (sym c) x))
+pub moved : (t : LeaseTable) (f f2 : List (ℕ × Unit {0})) (g g2 : List (ℕ × ℕ)) (s : List (ServerKey × ℕ)) → f2 ≡ f → g2 ≡ g → IsIndexed t f g s → IsIndexed t f2 g2 s
+moved t f f2 g g2 s a b x = subst (λ k. IsIndexed t k g2 s) (sym a) (subst (λ k. IsIndexed t f k s) (sym b) x)
 
 abbrev pub with_lease : LeaseTable → ℕ → Option Held → LeaseTable
 with_lease t i o = record { pool = t.pool; leased = set t.leased i o; next = t.next }

@@ -1,4 +1,5 @@
 mod Back
+mod ByServer
 mod Chains
 mod Distinct
 mod Ends

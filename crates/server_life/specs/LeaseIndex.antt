@@ -1,10 +1,10 @@
 -- The look-ups of the leases: which places are free, and the place of each generation and of each server.
-use Rattle.std.specs.Prelude.{ℕ, ◌≡◌, ◌≢◌, ◌+◌, T, List, Option, Some, MatchOption, slice_get, length}
+use Rattle.std.specs.Prelude.{ℕ, Bool, false, ◌≡◌, ◌≢◌, ◌+◌, T, List, Option, Some, None, MatchOption, map, slice_get, length}
 use Rattle.std.specs.declared.cmp.Ordering.{Ordering}
-use Rattle.std.specs.Ordering.{nat_cmp}
+use Rattle.std.specs.Ordering.{nat_cmp, is_lt, eq_by_cmp}
 use Rattle.std.specs.FinMap.Entries.{find, is_sorted}
 use Rattle.hub_kit.specs.declared.names.ServerKey.{ServerKey}
-use Rattle.hub_kit.specs.KeyOrder.{key_cmp}
+use Rattle.hub_kit.specs.KeyOrder.{key_cmp, name_cmp}
 use Rattle.server_life.specs.declared.leases.Held.{Held}
 use Rattle.server_life.specs.Leased.{IsFree}
 use Rattle.server_life.specs.LeaseTable.{LeaseTable, IsOneToOne}
@@ -34,3 +34,36 @@ pub record IsIndexed (t : LeaseTable) (free : List (ℕ × Unit {0})) (generatio
   pub of_servers : IsIndex key_cmp server_in t.leased servers
   pub all_generations : length generations + length free ≡ length t.pool
   pub all_servers : length servers + length free ≡ length t.pool
+
+-- what a search among the servers asks at a place
+abbrev pub is_below : ServerKey → Option (Option Held) → Bool
+is_below q (Some (Some h)) = is_lt (key_cmp h.server q)
+is_below q o = false
+
+abbrev pub is_of : ServerKey → Option (Option Held) → Bool
+is_of q (Some (Some h)) = eq_by_cmp key_cmp q h.server
+is_of q o = false
+
+abbrev pub user_below : List ℕ → Option (Option Held) → Bool
+user_below u (Some (Some h)) = is_lt (name_cmp h.server.user u)
+user_below u o = false
+
+abbrev pub user_of : List ℕ → Option (Option Held) → Bool
+user_of u (Some (Some h)) = eq_by_cmp name_cmp h.server.user u
+user_of u o = false
+
+abbrev pub server_of : Option (Option Held) → Option ServerKey
+server_of (Some (Some h)) = Some h.server
+server_of o = None
+
+abbrev pub place_in : ServerKey × ℕ → ℕ
+place_in e = e.1
+
+-- the places of these servers, which hold the targets there, in the order of their keys
+pub record AreServersAt (leased : List (Option Held)) (places : List ℕ) (servers : List (ServerKey × ℕ)) : Type 0 where
+  pub in_order : places ≡ map place_in servers
+  pub rise : T (is_sorted key_cmp servers)
+  pub index : IsIndex key_cmp server_in leased servers
+
+abbrev pub HasLookUps : LeaseTable → List (ℕ × Unit {0}) → List (ℕ × ℕ) → List ℕ → Type 0
+HasLookUps t free generations places = (servers : List (ServerKey × ℕ)) × (places ≡ map place_in servers) × IsIndexed t free generations servers

@@ -1,5 +1,5 @@
 -- Facts on the leases of a pool, which stand in the order of the pool.
-use Rattle.std.specs.Prelude.{ℕ, ◌≡◌, ◌≢◌, ◌<◌, false, List, Option, Some, None, slice_get}
+use Rattle.std.specs.Prelude.{ℕ, ◌≡◌, ◌≢◌, ◌<◌, List, Option, Some, None, slice_get}
 use Rattle.hub_kit.specs.declared.names.ServerKey.{ServerKey}
 use Rattle.server_life.specs.declared.leases.Held.{Held}
 

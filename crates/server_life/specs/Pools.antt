@@ -1,5 +1,5 @@
 -- The targets that servers may hold.
-use Rattle.std.specs.Prelude.{ℕ, ◌≢◌, ◌≤◌, Bool, true, not, ◌&&◌, nat_eq, List, [], ◌∷◌, length, AllPairs}
+use Rattle.std.specs.Prelude.{◌≢◌, ◌≤◌, Bool, true, not, ◌&&◌, nat_eq, List, [], ◌∷◌, length, AllPairs}
 use Rattle.std.specs.List.{list_any}
 use Rattle.std.specs.Cmp.Lexicographic.{pointwise}
 use Rattle.hub_kit.specs.declared.target.Target.{Target}

@@ -3,9 +3,11 @@
 ghost use Rattle.std.specs.Prelude.{◌≡◌, ◌≢◌, ℕ, ◌+◌, ◌-◌, ◌<◌, ◌≤◌, ◌^◌, length, slice_get, slice_set, All, IfOk, MatchOption, MatchResult, MatchBool, replicate, Some, None};
 ghost use Rattle.hub_kit.specs.declared.names.ServerKey.{ServerKey};
 ghost use Rattle.server_life.specs.LeaseTable.{IsOneToOne};
+ghost use Rattle.server_life.specs.LeaseIndex.{server_of};
 ghost use Rattle.server_life.specs.Leased.{IsFree, IsFirstFree, IsNotLive, IsUnleased, HoldsLease};
 
-use crate::ordered::{get, has_user, put, remove};
+use crate::by_server::{add_server, has_user, place_of, remove_server};
+use crate::ordered::{get, put, remove};
 use crate::pool::Pool;
 use hub_kit::names::{ServerKey, UserName};
 use std::alloc::{AllocError, Global};
@@ -18,8 +20,8 @@ pub struct Held {
     pub server: ServerKey,
 }
 
-/// The pool, the lease of each of its targets, the next generation, and the look-ups: the free places in order, and the
-/// place of each live generation and of each leased server.
+/// The pool, the lease of each of its targets, the next generation, and the look-ups: the free places in order, the place of
+/// each live generation, and the places of the leased servers in the order of the servers' keys.
 #[derive(Drop)]
 pub struct Leases {
     pool: Pool,
@@ -27,7 +29,7 @@ pub struct Leases {
     next: u64,
     free: Vec<(usize, ())>,
     generations: Vec<(u64, usize)>,
-    servers: Vec<(ServerKey, usize)>,
+    servers: Vec<usize>,
 }
 
 /// All targets are leased.
@@ -44,11 +46,11 @@ impl Model for Leases {
 
     ghost use Rattle.std.specs.Prelude.{length, ◌≤◌};
     ghost use Rattle.std.specs.Vec.{vec_capacity};
-    ghost use Rattle.server_life.specs.LeaseIndex.{IsIndexed};
+    ghost use Rattle.server_life.specs.LeaseIndex.{HasLookUps};
 
     ghost view = { λ a. record { pool = a.pool; leased = a.leased.items; next = a.next } };
 
-    ghost invariant = { λ a. IsIndexed (record { pool = a.pool; leased = a.leased.items; next = a.next }) a.free.items a.generations.items a.servers.items
+    ghost invariant = { λ a. HasLookUps (record { pool = a.pool; leased = a.leased.items; next = a.next }) a.free.items a.generations.items a.servers.items
         × (length a.pool ≤ vec_capacity a.free) × (length a.pool ≤ vec_capacity a.generations) × (length a.pool ≤ vec_capacity a.servers) };
 }
 
@@ -132,7 +134,7 @@ impl Leases {
     {
         remove(&mut self.free, &at);
         put(&mut self.generations, &g, at);
-        put(&mut self.servers, &key, at);
+        add_server(self.leased.as_slice(), &mut self.servers, &key, at);
         self.leased[at] = Some(Held {
             generation: g,
             server: key,
@@ -156,7 +158,7 @@ impl Leases {
     pub fn generation(&self, key: &ServerKey) -> Option<u64>
         ensures { MatchOption result (IsUnleased self.now.leased key.now) (λ g. (i : ℕ) × HoldsLease self.now.leased i g key.now) }
     {
-        let at = match get(self.servers.as_slice(), key) {
+        let at = match place_of(self.leased.as_slice(), self.servers.as_slice(), key) {
             Some(at) => at,
             None => return None,
         };
@@ -172,7 +174,7 @@ impl Leases {
             ((i g : ℕ) × (key : ServerKey) × HoldsLease self.now.leased i g key × (key.user ≡ user.now))
             ((i g : ℕ) (key : ServerKey) → HoldsLease self.now.leased i g key → key.user ≢ user.now) }
     {
-        has_user(self.servers.as_slice(), user)
+        has_user(self.leased.as_slice(), self.servers.as_slice(), user)
     }
 
     /// Takes back the last lease, as if it hadn't been taken. Takes no memory.
@@ -197,12 +199,23 @@ impl Leases {
         let Some(at) = get(self.generations.as_slice(), &g) else {
             return false;
         };
-        let Some(held) = self.leased[at].take() else {
+        let Some(key) = server_at(self.leased.as_slice(), at) else {
             return false;
         };
         remove(&mut self.generations, &g);
-        remove(&mut self.servers, &held.server);
+        remove_server(self.leased.as_slice(), &mut self.servers, &key);
+        self.leased[at] = None;
         put(&mut self.free, &at, ());
         true
+    }
+}
+
+/// The server that holds the target at a place.
+fn server_at(leased: &[Option<Held>], place: usize) -> Option<ServerKey>
+    ensures { result ≡ server_of (slice_get leased.now place) }
+{
+    match leased.get(place) {
+        Some(Some(held)) => Some(held.server),
+        _ => None,
     }
 }

@@ -3,6 +3,7 @@
 //! `Leases` keeps generations, targets and servers one to one, over the targets of a `Pool`. The hub's machine stands above both.
 #![tactic(auto)]
 
+mod by_server;
 mod laws;
 mod leases;
 mod life;

@@ -5,11 +5,8 @@ ghost use Rattle.std.specs.Prelude.{◌≡◌, ◌<◌, T, Some, None, IsSome, c
 ghost use Rattle.std.specs.Vec.{vec_len, vec_capacity};
 ghost use Rattle.std.specs.Ordering.{eq_by_cmp};
 ghost use Rattle.std.specs.FinMap.Entries.{find, is_sorted, where_key, put as put_entry};
-ghost use Rattle.std.specs.List.{list_any};
-ghost use Rattle.hub_kit.specs.KeyOrder.{key_cmp, name_cmp};
 ghost use Rattle.server_life.specs.Ranks.{rank};
 
-use hub_kit::names::{ServerKey, UserName};
 use std::cmp::Ordering;
 
 /// The place of the first entry whose key isn't below this one.
@@ -64,13 +61,4 @@ pub fn remove<K: Ord + Copy, V: Copy>(entries: &mut Vec<(K, V)>, key: &K)
 {
     let at = rank(entries.as_slice(), key);
     let _entry = entries.remove(at);
-}
-
-/// Whether a key of this user is there. The keys of a user stand together, and a search by halves finds where.
-pub fn has_user(entries: &[(ServerKey, usize)], user: &UserName) -> bool
-    requires { T (is_sorted key_cmp entries.now) }
-    ensures { result ≡ list_any (λ e. eq_by_cmp name_cmp e.0.user user.now) entries.now }
-{
-    let at = entries.partition_point(|entry| entry.0.user.cmp(user) == Ordering::Less);
-    at < entries.len() && entries[at].0.user.cmp(user) == Ordering::Equal
 }

@@ -11,7 +11,7 @@ returns-then-is_empty-clause-answer c =
     let size : length c.as_slice.result.now ≡ length c.self.inside.pool = ap length c.as_slice.ensures.value in
     let none : length c.self.inside.free.items ≡ 0 = grind (arith, nat_tests, c.self.inside.free.ok.0, c.is_empty.ensures, c.if-is_empty.true) in
     subst (λ (t : LeaseTable). ((k : ℕ) (d : Option Held) → k < length t.leased → get_or t.leased k d ≢ None) × (none_of (length c.as_slice.result.now) ≡ none_of (length t.pool))) c.self.view_is
-    (none_free c.self.inside.leased.items c.self.inside.free.items none c.self.invariant.0.free_places, ap none_of size)
+    (none_free c.self.inside.leased.items c.self.inside.free.items none c.self.invariant.0.2.free_places, ap none_of size)
 
 pub returns-clause-answer : goal.returns-clause-answer
 returns-clause-answer c =
@@ -19,5 +19,5 @@ returns-clause-answer c =
     subst (λ (t : LeaseTable). (c.self.inside.next ≡ t.next) × IsFirstFree t.leased c.index.result.now.0) c.self.view_is (
       refl,
       subst (λ (e : ℕ × Unit {0}). IsFirstFree c.self.inside.leased.items e.0) (sym c.index.ensures)
-          (first_free c.self.inside.leased.items c.self.inside.free.items c.index.result.now some c.self.invariant.0.free_rise c.self.invariant.0.free_places),
+          (first_free c.self.inside.leased.items c.self.inside.free.items c.index.result.now some c.self.invariant.0.2.free_rise c.self.invariant.0.2.free_places),
     )

@@ -1,4 +1,4 @@
-use Rattle.std.proofs.Common.{◌≡◌, ◌∙◌, take, length, subst, sym, ap, arith}
+use Rattle.std.proofs.Common.{◌∙◌, subst, sym}
 use Rattle.std.proofs.lemmas.List.{take_all}
 use Rattle.server_life.specs.Pools.{IsPool}
 use Rattle.server_life.proofs.pool.Pool.copy.Goals as goal

@@ -1,4 +1,4 @@
-use Rattle.std.proofs.Common.{◌≡◌, false, length, arith, refl, sym, ap, ◌∙◌}
+use Rattle.std.proofs.Common.{arith, refl, sym, ap, ◌∙◌}
 use Rattle.server_life.specs.Pools.{are_distinct}
 use Rattle.server_life.proofs.Distinct.{pool_of, many, twice}
 use Rattle.server_life.proofs.pool.Pool.new.Goals as goal
