@@ -7,7 +7,7 @@ use Rattle.hub_rows.specs.declared.rows.Row.{Row}
 use Rattle.hub_tables.specs.State.{State}
 use Rattle.keeper.specs.declared.keeper.Row.{Row as KeptRow}
 use Rattle.keeper.specs.Rows.{Rows, Lists}
-use Rattle.kept_rows.specs.Reading.{AreReadAs, AreReading}
+use Rattle.kept_rows.specs.Reading.{kept_as, AreReadAs, AreReading}
 use Rattle.record_texts.specs.declared.record.RowError.{RowError}
 use Rattle.record_texts.specs.declared.record.RowError.TheVariants.{BadRow as Unread, Memory as Wanting}
 use Rattle.row_rules.specs.Across.{kept_tables, sound_rows}
@@ -41,33 +41,27 @@ unread limits scopes kept Wanting said first is = subst (λ (x : OpenError). Are
 
 -- ---- by the rules across rows
 
-at_place : {A : Type 0} (xs : List A) (i : ℕ) (x : A) → i < length xs → x ≡ get_or xs i x → slice_get xs i ≡ Some x
-at_place [] i x lt e = absurd (omega (arith, lt))
-at_place (y ∷ ys) zero x lt e = ap Some (sym e)
-at_place (y ∷ ys) (suc i) x lt e = at_place ys i x (omega (arith, lt)) e
+read_at : (kept : List KeptRow) (rows : List Row) (i : ℕ) (row : Row) → AreReadAs kept rows → i < length rows → row ≡ get_or rows i row → slice_get kept i ≡ Some (kept_as row)
+read_at kept [] i row are lt e = absurd (omega (arith, lt))
+read_at [] (r ∷ rows) i row are lt e = absurd are
+read_at (k ∷ kept) (r ∷ rows) zero row are lt e = ap Some (sym are.0.same ∙ ap kept_as (sym e))
+read_at (k ∷ kept) (r ∷ rows) (suc i) row are lt e = read_at kept rows i row are.1 (omega (arith, lt)) e
 
-pub as_long : (kept : List KeptRow) (rows : List Row) → AreReadAs kept rows → length kept ≡ length rows
-as_long [] [] are = refl
-as_long [] (row ∷ rows) are = absurd are
-as_long (k ∷ kept) [] are = absurd are
-as_long (k ∷ kept) (row ∷ rows) are = let rest = as_long kept rows are.1 in omega (arith, rest)
-
-pub broken : (limits : Limits) (scopes : List CustomRow) (kept : List KeptRow) (rows : List Row) (place : ℕ) (bad : KeptRow) (e : OpenError) → AreReadAs kept rows
-    → sound_rows (kept_tables limits scopes rows) rows ≡ place → place < length rows → bad ≡ get_or kept place bad → IsBadRow bad e → AreTables limits scopes kept (Err e)
-broken limits scopes kept rows place bad KeeperFault are sound lt here is = absurd is
-broken limits scopes kept rows place bad (BadRow number name) are sound lt here is =
-    let long = as_long kept rows are in
+pub broken : (limits : Limits) (scopes : List CustomRow) (kept : List KeptRow) (rows : List Row) (place : ℕ) (row : Row) (e : OpenError) → AreReadAs kept rows
+    → sound_rows (kept_tables limits scopes rows) rows ≡ place → place < length rows → row ≡ get_or rows place row → IsBadRow (kept_as row) e → AreTables limits scopes kept (Err e)
+broken limits scopes kept rows place row KeeperFault are sound lt here is = absurd is
+broken limits scopes kept rows place row (BadRow number name) are sound lt here is =
     inr (record {
       rows = rows;
-      bad = bad;
+      bad = kept_as row;
       read = are;
-      there = ap (slice_get kept) sound ∙ at_place kept place bad (omega (arith, lt, long)) here;
+      there = ap (slice_get kept) sound ∙ read_at kept rows place row are lt here;
       kind = is.0;
       key = is.1;
     })
-broken limits scopes kept rows place bad (LostTarget target) are sound lt here is = absurd is
-broken limits scopes kept rows place bad (Full number limit) are sound lt here is = absurd is
-broken limits scopes kept rows place bad Memory are sound lt here is = tt
+broken limits scopes kept rows place row (LostTarget target) are sound lt here is = absurd is
+broken limits scopes kept rows place row (Full number limit) are sound lt here is = absurd is
+broken limits scopes kept rows place row Memory are sound lt here is = tt
 
 -- ---- what is true of such tables
 

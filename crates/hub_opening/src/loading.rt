@@ -1,17 +1,20 @@
 //! The tables of what a keeper has.
-ghost use Rattle.std.specs.Prelude.{◌≡◌, ◌≤◌, false, IfOk, IfErr};
+ghost use Rattle.std.specs.Prelude.{◌≡◌, ◌≤◌, false, List, IfOk, IfErr};
 ghost use Rattle.keeper.specs.Rows.{AreSame};
-ghost use Rattle.kept_rows.specs.Reading.{AreReadAs};
+ghost use Rattle.keeper.specs.declared.keeper.Row.{Row as Kept};
+ghost use Rattle.kept_rows.specs.Reading.{kept_as, AreReadAs};
 ghost use Rattle.record_texts.specs.Rows.{Names};
 ghost use Rattle.hub_opening.specs.Kept as spec;
 ghost use Rattle.hub_opening.specs.Opening.{refusal_of as refusal, IsUnread};
 
 use crate::config::HubConfig;
 use crate::open_error::OpenError;
+use hub_rows::changes::RowChange;
 use hub_rows::rows::Row;
 use hub_tables::tables::Tables;
-use keeper::keeper::{Keeper, KeeperError, Row as KeptRow};
+use keeper::keeper::{Item, Keeper, KeeperError, Row as KeptRow};
 use kept_rows::reading::read_rows;
+use record_texts::item::item_of;
 use record_texts::record::RowError;
 use row_rules::kept::{RowsError, kept_tables};
 use scope_names::table::{ScopeTable, TableError};
@@ -39,18 +42,18 @@ pub(crate) fn load_tables<K: Keeper>(
     ensures counted { K.faults keeper.old ≤ K.faults keeper.new }
 {
     match keeper.load() {
-        Ok(kept) => tables_of(alloc, kept.as_slice(), config),
+        Ok(kept) => tables_of(alloc, kept, config),
         Err(error) => Err(refusal_of(error)),
     }
 }
 
 /// The tables of kept rows: each is read by itself, and then the rules across rows are asked.
-fn tables_of(alloc: Global, kept: &[KeptRow], config: &HubConfig) -> Result<Tables, OpenError>
+fn tables_of(alloc: Global, kept: Vec<KeptRow>, config: &HubConfig) -> Result<Tables, OpenError>
     requires { spec.MakeTable config.now.custom_scopes }
-    ensures { spec.AreTables config.now.limits config.now.custom_scopes kept.now result }
+    ensures { spec.AreTables config.now.limits config.now.custom_scopes kept.items result }
 {
     match read_rows(alloc, kept) {
-        Ok(rows) => sound_tables(alloc, kept, rows.as_slice(), config),
+        Ok(rows) => sound_tables(alloc, rows.as_slice(), config),
         Err(error) => Err(unread(error)),
     }
 }
@@ -65,22 +68,16 @@ fn unread(error: RowError) -> OpenError
 }
 
 /// The tables of rows that were read, if none breaks a rule across rows.
-fn sound_tables(
-    alloc: Global,
-    kept: &[KeptRow],
-    rows: &[Row],
-    config: &HubConfig,
-) -> Result<Tables, OpenError>
-    requires read { AreReadAs kept.now rows.now }
-    requires scopes { spec.MakeTable config.now.custom_scopes }
-    ensures { spec.AreTables config.now.limits config.now.custom_scopes kept.now result }
+fn sound_tables(alloc: Global, rows: &[Row], config: &HubConfig) -> Result<Tables, OpenError>
+    requires { spec.MakeTable config.now.custom_scopes }
+    ensures { (kept : List Kept) → AreReadAs kept rows.now → spec.AreTables config.now.limits config.now.custom_scopes kept result }
 {
     let Ok(scopes) = scope_table(alloc, config) else {
         return Err(OpenError::Memory);
     };
     match kept_tables(alloc, config.limits, scopes, rows) {
         Ok(tables) => Ok(tables),
-        Err(RowsError::Broken(place)) => Err(bad_row(alloc, &kept[place])),
+        Err(RowsError::Broken(place)) => Err(bad_row(alloc, &rows[place])),
         Err(RowsError::Memory) => Err(OpenError::Memory),
     }
 }
@@ -108,14 +105,21 @@ fn is_memory(error: TableError) -> bool
     matches!(error, TableError::Memory)
 }
 
-fn bad_row(alloc: Global, kept: &KeptRow) -> OpenError
-    ensures { spec.IsBadRow kept.now result }
+fn bad_row(alloc: Global, row: &Row) -> OpenError
+    ensures { spec.IsBadRow (kept_as row.now) result }
 {
-    match kept.key.copy(alloc) {
-        Ok(key) => OpenError::BadRow {
-            kind: kept.kind,
-            key,
-        },
+    match kept_as(alloc, row) {
+        Ok(KeptRow { kind, key, .. }) => OpenError::BadRow { kind, key },
         Err(_) => OpenError::Memory,
+    }
+}
+
+/// What a keeper has for a row, of which alone the row may have been read.
+fn kept_as(alloc: Global, row: &Row) -> Result<KeptRow, AllocError>
+    ensures { IfOk result (λ kept. kept ≡ kept_as row.now) }
+{
+    match item_of(alloc, &RowChange::Put(row.copy(alloc)?))? {
+        Item::Put(kept) => Ok(kept),
+        Item::Delete { .. } => Err(AllocError),
     }
 }

@@ -41,9 +41,9 @@ fn row_of(row: &sqlite::Row) -> Result<Row, Error>
 pub(crate) fn rows_of(alloc: Global, rows: Vec<sqlite::Row>) -> Result<Vec<Row>, Error>
     ensures { IfOk result (λ all. map shown all.items ≡ map front rows.items) }
 {
-    let mut all = Vec::new(alloc);
-    for row in &rows {
-        all.push(row_of(row)?)?;
+    let mut all = Vec::with_capacity(alloc, rows.len())?;
+    for row in rows {
+        all.push(row_of(&row)?)?;
     }
     Ok(all)
 }

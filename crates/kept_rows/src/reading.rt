@@ -12,13 +12,15 @@ use keeper::keeper::Row as KeptRow;
 use record_texts::record::{RowError, of_row};
 use std::alloc::Global;
 
-/// All rows, in their order, or the kind and the key of the first that doesn't read.
-pub fn read_rows(alloc: Global, kept: &[KeptRow]) -> Result<List<Row>, RowError>
-    ensures { spec.AreReading kept.now result }
+/// All rows, in their order, or the kind and the key of the first that doesn't read. Each kept row is let go as soon as it was read.
+pub fn read_rows(alloc: Global, kept: Vec<KeptRow>) -> Result<List<Row>, RowError>
+    ensures { spec.AreReading kept.items result }
 {
-    let mut rows = Vec::new(alloc);
+    let Ok(mut rows) = Vec::with_capacity(alloc, kept.len()) else {
+        return Err(RowError::Memory);
+    };
     for one in kept {
-        let row = match read_row(alloc, one) {
+        let row = match read_row(alloc, &one) {
             Ok(row) => row,
             Err(error) => return Err(error),
         };
