@@ -7,12 +7,12 @@ use Rattle.server_work.specs.declared.adopt.Adopted.{Adopted}
 use Rattle.server_work.specs.Adoptions.{Adoptions, readies, stops, parks}
 use Rattle.server_work.specs.Chains.{Comes, sight}
 use Rattle.server_work.specs.Gains.{Gain, Gains, sum_of}
+use Rattle.server_work.specs.RoutePaths.{route_path}
 use Rattle.hub_core.specs.LifeBook.{LeadsToLives, Notes}
 use Rattle.hub_core.specs.Visits.{Entry}
 use Rattle.hub_core.specs.declared.live.LiveServer.{LiveServer}
 use Rattle.hub_core.specs.declared.start.Start.{Start}
 use Rattle.hub_run.specs.Turns.{View, at_chain}
-use Rattle.hub_run.specs.Works.{route_path}
 use Rattle.hub_adopt.specs.Found.{AreFound}
 
 -- the work of a server that is adopted, by the path of its route; nothing is started, so there is no secret

@@ -3,7 +3,7 @@ ghost use Rattle.std.specs.Prelude.{◌≡◌, IfOk, map};
 ghost use Rattle.hub_adopt.specs.Adopting.{work_of};
 
 use hub_core::live::LiveServer;
-use hub_run::route_path;
+use server_work::route::route_path;
 use server_work::work::Work;
 use std::alloc::{AllocError, Global};
 

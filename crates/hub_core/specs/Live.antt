@@ -1,5 +1,5 @@
 -- Which servers are live: with a generation, ready, and being adopted.
-use Rattle.std.specs.Prelude.{ℕ, Bool, false, List, Option, Some, None}
+use Rattle.std.specs.Prelude.{ℕ, Bool, false, List, Option, Some, None, option_map}
 use Rattle.std.specs.List.{filter_map}
 use Rattle.std.specs.List.Sorted.{IsPermutation, IsSortedByKey}
 use Rattle.std.specs.FinMap.{get, values}
@@ -11,6 +11,10 @@ use Rattle.server_life.specs.declared.life.Phase.TheVariants.{Adopting, Ready}
 use Rattle.hub_lives.specs.Lives.{Lives}
 use Rattle.hub_lives.specs.declared.lives.Leased.{Leased}
 use Rattle.hub_core.specs.declared.live.LiveServer.{LiveServer}
+
+-- the server that has a lease of this generation
+abbrev pub server_of : Lives → ℕ → Option ServerKey
+server_of lives g = option_map (λ (l : Leased). l.server) (get lives g)
 
 abbrev is_of : ServerKey → Option Leased → Bool
 is_of server None = false

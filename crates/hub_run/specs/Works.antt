@@ -1,6 +1,5 @@
 -- The work that a start or a stop owes, and the reply once it is done.
-use Rattle.std.specs.Prelude.{ℕ, List, [], ◌∷◌, ◌++◌, codes, Option, Some, None, if◌then◌else◌}
-use Rattle.hub_kit.specs.declared.names.ServerKey.{ServerKey}
+use Rattle.std.specs.Prelude.{ℕ, List, [], Option, Some, None, if◌then◌else◌}
 use Rattle.server_life.specs.declared.life.Todo.{Todo}
 use Rattle.server_life.specs.declared.life.Todo.TheVariants.{Start}
 use Rattle.server_work.specs.declared.work.Device.{Device}
@@ -9,6 +8,7 @@ use Rattle.server_work.specs.declared.work.Kept.{Kept}
 use Rattle.server_work.specs.declared.work.Kept.TheVariants as K
 use Rattle.server_work.specs.declared.work.Work.{Work}
 use Rattle.server_work.specs.declared.tale.Tale.{Tale}
+use Rattle.server_work.specs.RoutePaths.{route_path}
 use Rattle.hub_machine.specs.declared.work.Work as owed
 use Rattle.hub_machine.specs.declared.call.Call.{Call}
 use Rattle.hub_machine.specs.declared.call.Call.TheVariants.{PostServer, DeleteServer}
@@ -16,14 +16,6 @@ use Rattle.hub_machine.specs.Replies.{Reply, good, good_reply, refusal_reply}
 use Rattle.hub_machine.specs.declared.refusal.Refusal.TheVariants.{SpawnerFault, ProxyFault, KeeperFault, StoppedWhileStarting}
 
 -- ---- what is done
-
-abbrev pub below_user : List ℕ → List ℕ
-below_user [] = []
-below_user (b ∷ bs) = codes "/" ++ (b ∷ bs)
-
--- the path of a server's route; the default server's has the user's name alone
-abbrev pub route_path : ServerKey → List ℕ
-route_path key = codes "/user/" ++ (key.user ++ below_user key.server)
 
 -- the path of the server that a call starts or stops
 abbrev pub path_for : Call → List ℕ

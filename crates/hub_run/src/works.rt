@@ -1,5 +1,5 @@
 //! The work that a start or a stop owes.
-ghost use Rattle.std.specs.Prelude.{◌≡◌, ◌++◌, IfOk, OnOk};
+ghost use Rattle.std.specs.Prelude.{◌≡◌, IfOk};
 ghost use Rattle.hub_core.specs.Works.{IsSound};
 ghost use Rattle.hub_run.specs.Turns.{Errand, Drives, view_of};
 ghost use Rattle.hub_run.specs.Works as spec;
@@ -12,7 +12,6 @@ use hub_devices::clock::Clock;
 use hub_devices::random::Random;
 use hub_devices::route_link::RouteLink;
 use hub_devices::spawner::Spawner;
-use hub_kit::names::ServerKey;
 use hub_kit::text::Text;
 use hub_machine::call::Call;
 use hub_machine::change::Change;
@@ -20,30 +19,10 @@ use hub_machine::work::Work;
 use keeper::keeper::Keeper;
 use keeper::trail::Trail;
 use server_work::chain::drive;
+use server_work::route::route_path;
 use server_work::tale::Tale;
 use std::alloc::{AllocError, Global};
 use std::sync::Wait;
-
-/// The path of a server's route: `/user/U` for the default server, else `/user/U/S`.
-pub fn route_path(alloc: Global, key: &ServerKey) -> Result<Text, AllocError>
-    ensures { IfOk result (λ path. path ≡ spec.route_path key.now) }
-{
-    let mut path = Text::from_str(alloc, "/user/")?;
-    path.push_str(key.user.as_str())?;
-    push_server(&mut path, key.server.as_str())?;
-    Ok(path)
-}
-
-/// The part of the path behind the user.
-fn push_server(path: &mut Text, server: &str) -> Result<(), AllocError>
-    ensures { OnOk result (path.new ≡ path.old ++ spec.below_user server.now) }
-{
-    if server.is_empty() {
-        return Ok(());
-    }
-    path.push_str("/")?;
-    path.push_str(server)
-}
 
 /// The path of the server that a call starts or stops, which is made before its visit so that no memory is wanting after it. That of
 /// another call is empty.

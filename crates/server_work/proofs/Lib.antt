@@ -1,7 +1,6 @@
 mod Ranks
 mod Running
 mod Taking
-mod Planning
 mod Driving
 pub mod Gaining
 mod Waiting

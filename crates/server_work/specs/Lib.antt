@@ -7,5 +7,5 @@ pub mod Taken
 pub mod Gains
 pub mod Adoptions
 pub mod Broken
-pub mod Syncing
+pub mod RoutePaths
 pub mod Runs

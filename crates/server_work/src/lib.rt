@@ -8,6 +8,6 @@ pub mod adopt;
 pub mod book;
 pub mod chain;
 pub mod laws;
-pub mod sync;
+pub mod route;
 pub mod tale;
 pub mod work;

@@ -33,11 +33,27 @@ impl<K: Keeper, T: Trail<Entry = Change>> Book<K, T> {
         }
     }
 
-    /// The servers that are ready, in the order of their keys.
-    pub fn ready(&self, alloc: Global) -> Result<Vec<LiveServer>, AllocError>
-        ensures { IfOk result (λ servers. AreReady self.now.hub.lives servers.items) }
+    /// The server that has a lease of this generation.
+    pub fn server_of(&self, generation: u64) -> Option<&ServerKey>
+        ensures { option_copied result ≡ spec.server_of self.now.hub.lives generation }
     {
         let _ = &self.trail;
+        match self.machine.lives().get(generation) {
+            Some(lease) => Some(&lease.server),
+            None => None,
+        }
+    }
+
+    /// The servers that are ready, in the order of their keys.
+    pub fn ready(&self, alloc: Global) -> Result<Vec<LiveServer>, AllocError>
+        ensures listed { IfOk result (λ servers. AreReady self.now.hub.lives servers.items) }
+        // their generations have serials for their routes
+        ensures small { IfOk result (λ servers. All (λ s. s.generation < 2 ^ 63) servers.items) }
+    {
+        let _ = &self.trail;
+        // that a live generation is below the next one
+        self.machine.are_leased();
+        let _generation = self.machine.next_generation();
         let mut servers = ready_servers(alloc, self.machine.lives())?;
         servers.sort_unstable_by_key(|live| live.server);
         Ok(servers)

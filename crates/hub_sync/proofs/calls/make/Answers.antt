@@ -7,9 +7,9 @@ use Rattle.hub_devices.specs.declared.calls.Told.TheVariants.{Done}
 use Rattle.hub_devices.specs.declared.calls.Told.TheVariants as Tell
 use Rattle.hub_devices.specs.Calls.{Grows}
 use Rattle.hub_devices.proofs.CallLemmas.{Grows_then}
-use Rattle.server_work.specs.declared.sync.RouteCall.{RouteCall}
-use Rattle.server_work.specs.Syncing.{asked_of, as_done, added_one, deleted_one, additions, deletions}
-use Rattle.server_work.proofs.sync.make.Goals as goal
+use Rattle.hub_sync.specs.declared.calls.RouteCall.{RouteCall}
+use Rattle.hub_sync.specs.Syncing.{asked_of, as_done, added_one, deleted_one, additions, deletions}
+use Rattle.hub_sync.proofs.calls.make.Goals as goal
 
 additions_more : (cs : List RouteCall) (c : RouteCall) → additions (cs ++ c ∷ []) ≡ additions cs + added_one c
 additions_more [] c = omega arith

@@ -6,11 +6,11 @@ use Rattle.hub_devices.specs.declared.calls.Routing.TheVariants as Route
 use Rattle.hub_devices.specs.declared.calls.Told.{Told}
 use Rattle.hub_devices.specs.declared.calls.Told.TheVariants.{Done, Listed, NoMemory}
 use Rattle.hub_devices.specs.declared.calls.Told.TheVariants as Tell
-use Rattle.server_work.specs.declared.sync.RouteCall.{RouteCall}
-use Rattle.server_work.specs.declared.sync.RouteCall.TheVariants as Call
-use Rattle.server_work.specs.declared.sync.Synced.{Synced}
-use Rattle.server_work.specs.declared.sync.SyncFault.{SyncFault}
-use Rattle.server_work.specs.declared.sync.SyncFault.TheVariants as Fault
+use Rattle.hub_sync.specs.declared.calls.RouteCall.{RouteCall}
+use Rattle.hub_sync.specs.declared.calls.RouteCall.TheVariants as Call
+use Rattle.hub_sync.specs.declared.calls.Synced.{Synced}
+use Rattle.hub_sync.specs.declared.calls.SyncFault.{SyncFault}
+use Rattle.hub_sync.specs.declared.calls.SyncFault.TheVariants as Fault
 
 abbrev pub asked_of : RouteCall → Routing
 asked_of (Call.Add path target serial) = Route.Add path target serial

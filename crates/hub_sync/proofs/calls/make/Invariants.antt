@@ -1,7 +1,7 @@
 use Rattle.std.proofs.Common.{◌≡◌, ◌+◌, ◌≤◌, take, map}
 use Rattle.hub_devices.specs.Calls.{Grows}
-use Rattle.server_work.specs.Syncing.{AllDone, as_done}
-use Rattle.server_work.proofs.sync.make.Given as goal
+use Rattle.hub_sync.specs.Syncing.{AllDone, as_done}
+use Rattle.hub_sync.proofs.calls.make.Given as goal
 
 abbrev pub invariant-loop-one : goal.invariant-loop-one
 invariant-loop-one g l = record {

@@ -1,0 +1,12 @@
+//! The routes of a proxy are brought into step with the servers of a hub.
+//! The contract of `sync_routes` carries it: the routes are listed, the book is visited once, and the additions and deletions that
+//! the state there lacks are made in their order, up to the first that fails. The connections of the hub stand above.
+#![tactic(auto)]
+
+mod calls;
+mod plan;
+mod planning;
+mod sync;
+
+pub use calls::{RouteCall, SyncFault, Synced};
+pub use sync::sync_routes;
