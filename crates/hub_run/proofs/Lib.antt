@@ -3,6 +3,7 @@ pub mod CompleteLemmas
 pub mod CountLemmas
 pub mod EndLemmas
 pub mod FaultLemmas
+pub mod GainLemmas
 pub mod RanLemmas
 pub mod RemovedLemmas
 pub mod StopLemmas

@@ -1,5 +1,6 @@
 pub mod Complete
 pub mod Connections
+pub mod Gained
 pub mod Removed
 pub mod Steps
 pub mod Turns

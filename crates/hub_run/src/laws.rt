@@ -1,5 +1,5 @@
 //! What the contract of a connection comes to.
-ghost use Rattle.std.specs.Prelude.{◌≡◌, ◌<◌, ◌+◌, ◌-◌, ◌^◌, ◌⊎◌, ◌++◌, ◌∷◌, ℕ, true, false, List, Option, Some, Ok};
+ghost use Rattle.std.specs.Prelude.{◌≡◌, ◌<◌, ◌+◌, ◌-◌, ◌^◌, ◌⊎◌, ◌++◌, ◌∷◌, ℕ, true, false, List, map, Option, Some, Ok};
 ghost use Rattle.http_wire.specs.Request.{IsRequestText};
 ghost use Rattle.http_wire.specs.declared.request.Request.{Request};
 ghost use Rattle.hub_api.specs.Calls.{call_read};
@@ -11,8 +11,10 @@ ghost use Rattle.hub_machine.specs.Replies.{Answer, Reply};
 ghost use Rattle.hub_machine.specs.declared.call.Asked.{Asked};
 ghost use Rattle.hub_machine.specs.declared.change.Change.{Change};
 ghost use Rattle.hub_run.specs.Complete.{IsOf, IsDue, IsDone, IsUndone, IsServed, IsSetOut, IsOfFault, is_work};
+ghost use Rattle.hub_run.specs.Gained.{turn_gain};
 ghost use Rattle.hub_run.specs.Removed.{Knows, StandsIn, IsTurnedAway};
-ghost use Rattle.hub_run.specs.Turns.{Turn, Turns, TurnAt, View, Visit, Visits, Errand, Works, Moves, IsAnswered, IsSent, IsWorked, undrawn};
+ghost use Rattle.server_work.specs.Gains.{Gains, sum_of};
+ghost use Rattle.hub_run.specs.Turns.{Turn, Turns, TurnAt, View, Visit, Visits, Errand, Works, Moves, IsAnswered, IsSent, IsWorked, at_chain, undrawn};
 
 use http_wire::laws::next_request_is_one;
 
@@ -61,6 +63,14 @@ pub fn a_503_is_counted()
 /// A turn that isn't work makes no call on the spawner or the route link.
 pub fn only_work_makes_calls()
     ensures { (x y : View) (turn : Turn) → Moves x turn y → is_work turn ≡ false → (y.spawner ≡ x.spawner) × (y.routes ≡ x.routes) }
+{}
+
+/// What a connection gains is the sum of what its turns gain, in their order and nothing else: the pass's own entries are those that its
+/// visits added and those of the chains that were owed, and the calls on the spawner and the route link are those of these chains, where
+/// the devices tell them. Where the pass is alone, the history grew by these entries alone.
+pub fn a_connection_gains_what_its_turns_gain()
+    ensures turn { (x y : View) (turn : Turn) → Moves x turn y → Gains (at_chain x) (turn_gain turn) (at_chain y) }
+    ensures turns { (x y : View) (turns : List Turn) → Turns x turns y → Gains (at_chain x) (sum_of (map turn_gain turns)) (at_chain y) }
 {}
 
 /// Revocation. A token was removed by an entry that the pass has seen, or that stands before the revision that the request names, and no

@@ -1,0 +1,29 @@
+-- What each turn of a connection gains.
+use Rattle.std.specs.Prelude.{ltb, if◌then◌else◌, []}
+use Rattle.desk.specs.OwnEntries.{added}
+use Rattle.server_work.specs.Gains.{Gain, no_gain, plus, gain_of}
+use Rattle.hub_core.specs.Visits.{Entry}
+use Rattle.hub_run.specs.Turns.{Turn, Visit, Errand, visited, worked, declined, undrawn, refused, unsaid, unfinished, wanting}
+
+-- a visit gains the entries that it left beyond those that it found, each with its place, and calls nothing
+abbrev pub visit_gain : Visit → Gain Entry
+visit_gain v = record {
+  entries = added v.before v.after;
+  failed = if ltb v.faults v.faults_after then 1 else 0;
+  spawner = [];
+  routes = [];
+}
+
+-- what was owed gains what its chain does
+abbrev pub errand_gain : Errand → Gain Entry
+errand_gain e = gain_of e.work e.chain
+
+abbrev pub turn_gain : Turn → Gain Entry
+turn_gain (visited text q v r) = visit_gain v
+turn_gain (worked text q v e r) = plus (visit_gain v) (errand_gain e)
+turn_gain (declined text q e) = no_gain
+turn_gain (undrawn text q) = no_gain
+turn_gain (refused e) = no_gain
+turn_gain (unsaid text q v) = visit_gain v
+turn_gain (unfinished text q v e) = plus (visit_gain v) (errand_gain e)
+turn_gain wanting = no_gain
