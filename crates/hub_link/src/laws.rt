@@ -1,0 +1,8 @@
+//! Laws of the definitions.
+ghost use Rattle.std.specs.Prelude.{◌≡◌, ℕ, List};
+ghost use Rattle.hub_link.specs.Replies.{IsReply};
+
+/// Bytes are at most one reply.
+pub fn reply_is_one()
+    ensures { (bytes : List ℕ) (s t : ℕ) (a b : List ℕ) → IsReply bytes s a → IsReply bytes t b → (s ≡ t) × (a ≡ b) }
+{}

@@ -1,0 +1,10 @@
+//! A hub that is asked: the trait `HubLink`, one in memory, and the reading of a reply.
+//! `HubLink::ask` gives the reply to one request, or fails where its count of faults rose. `read_reply` answers the status and
+//! the body exactly where bytes are one whole reply, and `reply_is_one` says that they are at most one. A guard and a culler
+//! stand on these.
+#![tactic(auto)]
+
+pub mod laws;
+pub mod link;
+pub mod mem_link;
+pub mod replies;
