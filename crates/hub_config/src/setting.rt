@@ -7,6 +7,7 @@ ghost use Rattle.hub_config.specs.Settings as spec;
 
 use hub_kit::list::List;
 use std::alloc::Global;
+use std::fmt;
 use toml::{Table, Value};
 
 /// Why a configuration isn't read.
@@ -15,6 +16,16 @@ pub enum ConfigError {
     /// The bytes are no configuration.
     Refused,
     Memory,
+}
+
+impl fmt::Display for ConfigError {
+    fn fmt<W: fmt::Write>(&self, f: &mut fmt::Formatter<W>) -> fmt::Result {
+        let why = match self {
+            ConfigError::Refused => "this is no configuration",
+            ConfigError::Memory => "there is no memory",
+        };
+        f.write_str(why)
+    }
 }
 
 /// Read from a value of a configuration.

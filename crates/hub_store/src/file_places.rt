@@ -9,6 +9,7 @@ use keeper::keeper::KeeperError;
 use keeper_sqlite::sqlite_keeper::SqliteKeeper;
 use sqlite::{Alter, Connection, Error, ErrorCode, FileFrom, FileStore, Start};
 use std::alloc::Global;
+use std::fmt;
 
 /// Why a file isn't taken as a store. All but want of memory are faults.
 #[derive(Clone, Copy, Debug, PartialEq, Eq)]
@@ -34,6 +35,21 @@ impl FileError {
             FileError::Memory => KeeperError::Memory,
             _ => KeeperError::Failed,
         }
+    }
+}
+
+impl fmt::Display for FileError {
+    fn fmt<W: fmt::Write>(&self, f: &mut fmt::Formatter<W>) -> fmt::Result {
+        let why = match self {
+            FileError::Memory => "there is no memory",
+            FileError::Busy => "another hub has the file",
+            FileError::CannotOpen => "there is no such folder, or the file may not be opened",
+            FileError::Disk => "the disk failed",
+            FileError::NoDatabase => "the file is no database, or a damaged one",
+            FileError::Foreign => "the file is a database of another program",
+            FileError::Twice => "a file was opened already",
+        };
+        f.write_str(why)
     }
 }
 
