@@ -6,6 +6,7 @@
 
 pub mod clock;
 pub mod connection;
+pub mod ending;
 pub mod files;
 mod groups;
 pub mod limits;
@@ -13,6 +14,7 @@ mod line;
 pub mod listener;
 pub mod programs;
 pub mod random;
+pub mod routes;
 pub mod standard;
 pub mod starting;
 pub mod targets;
