@@ -35,18 +35,20 @@ module _ {K : Type 0} (Tells : K → Type 0) (rows : K → Rows) (faults : K →
     counts = omega (arith, less, opened.counted);
   }
 
+  -- the book as it is known at the end, where the store tells its rows
+  pub opened_by_end : (config : HubConfig) (now : ℕ) (history : Option (List Change)) (k k' : K) (b : Standing)
+      → Opens config now history (rows k) (faults k) b → is_some history ≡ not config.no_trail → (Tells k' → IsTrue b.start.has_rows)
+      → IsOpened config now (Tells k') (rows k) (faults k) b.start b.faults
+  opened_by_end config now history k k' b opened trail had = record {
+    names = (opened.names.0, (λ told. opened.names.1 (had told)), opened.names.2);
+    set_up = set_up_before (Tells k') (IsTrue b.start.has_rows) (rows k) (rows k) (λ told. (had told, λ kind key. refl)) config now b.start.machine opened.set_up;
+    tells = opened.tells ∙ trail;
+    counts = opened.counts;
+  }
+
   -- what follows over the book
   pub ends_over : (config : HubConfig) (now : ℕ) (history : Option (List Change)) (s s' : Sides) (k k' : K) (b : Standing) (end : End)
       → Opens config now history (rows k) (faults k) b → is_some history ≡ not config.no_trail → (Tells k' → IsTrue b.start.has_rows)
       → EndsOver Tells rows faults b.start b.faults now s s' k' end → EndsChosen Tells rows faults config now s s' k k' end
-  ends_over config now history s s' k k' b end opened trail had over = inr (
-    b.start,
-    b.faults,
-    record {
-      names = (opened.names.0, (λ told. opened.names.1 (had told)), opened.names.2);
-      set_up = set_up_before (Tells k') (IsTrue b.start.has_rows) (rows k) (rows k) (λ told. (had told, λ kind key. refl)) config now b.start.machine opened.set_up;
-      tells = opened.tells ∙ trail;
-      counts = opened.counts;
-    },
-    over,
-  )
+  ends_over config now history s s' k k' b end opened trail had over =
+      inr (b.start, b.faults, opened_by_end config now history k k' b opened trail had, over)

@@ -22,7 +22,7 @@ use Rattle.hub_config.specs.declared.config.FileConfig.{FileConfig}
 use Rattle.hub_words.specs.declared.session.SessionWords.{SessionWords}
 use Rattle.hub_devices.specs.NamedFiles.{Reads}
 use Rattle.hub_main.specs.Told.{FilesTold}
-use Rattle.hub_main.specs.Configured.{AreNone, IsConfig, IsFound, IsUnfound, IsUnsaid, most}
+use Rattle.hub_main.specs.Configured.{AreNone, IsConfig, IsFile, IsFound, IsUnfound, IsUnsaid, most}
 use Rattle.hub_main.specs.declared.cause.Cause.{Cause}
 use Rattle.hub_main.specs.declared.cause.Cause.TheVariants.{Words, Memory, NoFile, NoConfig, UnknownName, NoStore, NotOpened}
 
@@ -125,13 +125,20 @@ trail_bytes_few bytes file says =
     (if_test FewOfFile _ _ (λ form. if_then FewOfFile (λ members. config_of (table_of members)) (parse_document bytes) (λ members. file_few (table_of members)))) says in
     omega (arith, few)
 
+-- ---- a file that was read
+
+pub file_fits : (files : FilesTold) (name : List ℕ) (file : FileConfig) → IsFile files name file → file.hub.limits.trail_bytes ≤ 2 ^ 62
+file_fits files name file found = trail_bytes_few found.bytes file found.said.says
+
+pub file_scopes : (files : FilesTold) (name : List ℕ) (file : FileConfig) → IsFile files name file → MakeTable file.hub.custom_scopes
+file_scopes files name file found = found.said.sound.table
+
 -- ---- a session's configuration
 
 found_few : (files : FilesTold) (name : Option (List ℕ)) (hub : HubConfig) → IsFound files name hub → hub.limits.trail_bytes ≤ 2 ^ 62
 found_few files None hub is = subst (λ (h : HubConfig). h.limits.trail_bytes ≤ 2 ^ 62) (sym is) (omega arith)
-found_few files (Some name) hub found =
-    let said = found.2 in
-    subst (λ (h : HubConfig). h.limits.trail_bytes ≤ 2 ^ 62) (sym said.is) (trail_bytes_few found.0 said.file said.says)
+found_few files (Some name) hub (file, found, is) =
+    subst (λ (h : HubConfig). h.limits.trail_bytes ≤ 2 ^ 62) (sym is) (file_fits files name file found)
 
 pub config_few : (files : FilesTold) (words : SessionWords) (config : HubConfig) → IsConfig files words config → config.limits.trail_bytes ≤ 2 ^ 62
 config_few files words config is =
@@ -141,29 +148,34 @@ config_few files words config is =
 
 found_scopes : (files : FilesTold) (name : Option (List ℕ)) (hub : HubConfig) → IsFound files name hub → MakeTable hub.custom_scopes
 found_scopes files None hub is = subst (λ (h : HubConfig). MakeTable h.custom_scopes) (sym is) none_make_table
-found_scopes files (Some name) hub found = subst (λ (h : HubConfig). MakeTable h.custom_scopes) (sym found.2.is) found.2.sound.table
+found_scopes files (Some name) hub (file, found, is) =
+    subst (λ (h : HubConfig). MakeTable h.custom_scopes) (sym is) (file_scopes files name file found)
 
 pub config_scopes : (files : FilesTold) (words : SessionWords) (config : HubConfig) → IsConfig files words config → MakeTable config.custom_scopes
 config_scopes files words config is =
     subst (λ (h : HubConfig). MakeTable h.custom_scopes) (sym is.is) (found_scopes files words.config is.hub is.found)
 
--- ---- bytes that say nothing of a hub
+-- ---- bytes that say nothing
 
-same : (a b : List ℕ) → Some a ≡ Some b → a ≡ b
-same a b is = cc
-
-pub unfound : (files files' : FilesTold) (name : Option (List ℕ)) (found bytes : List ℕ) (r : Result HubConfig Cause) → name ≡ Some found
-    → Reads files.files found most bytes → IfErr r (IsUnsaid bytes) → IfErr r (IsUnfound files files' name)
-unfound files files' None found bytes r is reads unsaid = absurd cc
-unfound files files' (Some name) found bytes (Ok hub) is reads unsaid = tt
-unfound files files' (Some name) found bytes (Err (NoConfig read)) is reads unsaid = (
-  subst (λ (b : List ℕ). Reads files.files name most b) (sym unsaid.0)
-      (subst (λ (n : List ℕ). Reads files.files n most bytes) (sym (same name found is)) reads),
+pub unfound : {A : Type 0} (files files' : FilesTold) (name bytes : List ℕ) (r : Result A Cause)
+    → Reads files.files name most bytes → IfErr r (IsUnsaid bytes) → IfErr r (IsUnfound files files' (Some name))
+unfound files files' name bytes (Ok found) reads unsaid = tt
+unfound files files' name bytes (Err (NoConfig read)) reads unsaid = (
+  subst (λ (b : List ℕ). Reads files.files name most b) (sym unsaid.0) reads,
   subst AreNone (sym unsaid.0) unsaid.1,
 )
-unfound files files' (Some name) found bytes (Err Memory) is reads unsaid = tt
-unfound files files' (Some name) found bytes (Err Words) is reads unsaid = absurd unsaid
-unfound files files' (Some name) found bytes (Err NoFile) is reads unsaid = absurd unsaid
-unfound files files' (Some name) found bytes (Err (UnknownName unknown)) is reads unsaid = absurd unsaid
-unfound files files' (Some name) found bytes (Err NoStore) is reads unsaid = absurd unsaid
-unfound files files' (Some name) found bytes (Err (NotOpened e)) is reads unsaid = absurd unsaid
+unfound files files' name bytes (Err Memory) reads unsaid = tt
+unfound files files' name bytes (Err Words) reads unsaid = absurd unsaid
+unfound files files' name bytes (Err NoFile) reads unsaid = absurd unsaid
+unfound files files' name bytes (Err (UnknownName unknown)) reads unsaid = absurd unsaid
+unfound files files' name bytes (Err NoStore) reads unsaid = absurd unsaid
+unfound files files' name bytes (Err (NotOpened e)) reads unsaid = absurd unsaid
+
+-- what was found, or why nothing was, in the file that a name names
+pub named_found : (files : FilesTold) (name : Option (List ℕ)) (found : List ℕ) (file : FileConfig) (hub : HubConfig)
+    → name ≡ Some found → IsFile files found file → hub ≡ file.hub → IsFound files name hub
+named_found files name found file hub named is of = subst (λ (n : Option (List ℕ)). IsFound files n hub) (sym named) (file, is, of)
+
+pub named_unfound : (files files' : FilesTold) (name : Option (List ℕ)) (found : List ℕ) (cause : Cause)
+    → name ≡ Some found → IsUnfound files files' (Some found) cause → IsUnfound files files' name cause
+named_unfound files files' name found cause named unfound = subst (λ (n : Option (List ℕ)). IsUnfound files files' n cause) (sym named) unfound

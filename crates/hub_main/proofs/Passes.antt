@@ -45,7 +45,7 @@ same_start : (base : Option Start) (found start : Start) → base ≡ Some found
 same_start base found start first second = cc
 
 -- the book that a pass closed stands in the state that these entries left
-last_state : (start : Start) (base : Option Start) (entries : List Entry) (book : Standing) → base ≡ Some book.start → base ≡ Some start
+pub last_state : (start : Start) (base : Option Start) (entries : List Entry) (book : Standing) → base ≡ Some book.start → base ≡ Some start
     → entries_of book ≡ entries → Reached book.start (entries_of book) book.hub → Reached start entries book.hub
 last_state start base entries book found given seen reached =
     subst (λ (b : Start). Reached b entries book.hub) (same_start base book.start start found given)

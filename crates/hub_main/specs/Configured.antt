@@ -35,18 +35,22 @@ bare = record {
 abbrev pub most : ℕ
 most = 1048576
 
--- these bytes are a configuration, and this is its hub
-pub record IsSaid (bytes : List ℕ) (hub : HubConfig) : Type 0 where
-  pub file : FileConfig
+-- these bytes are a configuration, and this is what it says
+pub record IsSaid (bytes : List ℕ) (file : FileConfig) : Type 0 where
   pub says : config_in bytes ≡ Some file
   pub sound : IsSound file
-  pub is : hub ≡ file.hub
+
+-- the file of this name is a configuration, and this is what it says
+pub record IsFile (files : FilesTold) (name : List ℕ) (file : FileConfig) : Type 0 where
+  pub bytes : List ℕ
+  pub reads : Reads files.files name most bytes
+  pub said : IsSaid bytes file
 
 -- these bytes are none
 abbrev pub AreNone : List ℕ → Type 0
 AreNone bytes = (file : FileConfig) → config_in bytes ≡ Some file → ¬ (IsSound file)
 
--- why these bytes say nothing of a hub: they are no configuration, unless memory was wanting
+-- why these bytes say nothing: they are no configuration, unless memory was wanting
 abbrev pub IsUnsaid : List ℕ → Cause → Type 0
 IsUnsaid bytes (NoConfig read) = (read ≡ bytes) × AreNone bytes
 IsUnsaid bytes Memory = ⊤
@@ -59,7 +63,7 @@ IsUnsaid bytes (NotOpened e) = ⊥
 -- what is said of the hub by the file of this name, or where no file is named
 abbrev pub IsFound : FilesTold → (name : Option (List ℕ)) → HubConfig → Type 0
 IsFound files None hub = hub ≡ bare
-IsFound files (Some name) hub = (bytes : List ℕ) × Reads files.files name most bytes × IsSaid bytes hub
+IsFound files (Some name) hub = (file : FileConfig) × IsFile files name file × (hub ≡ file.hub)
 
 -- these bytes were read of the named file, and are no configuration
 abbrev pub IsNoConfig : FilesTold → (name : Option (List ℕ)) → List ℕ → Type 0

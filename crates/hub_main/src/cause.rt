@@ -37,7 +37,7 @@ fn open_status(error: &OpenError) -> u8
 
 impl Cause {
     /// The exit status.
-    pub(crate) fn status(&self) -> u8
+    pub fn status(&self) -> u8
         ensures { result ≡ spec.cause_status self.now }
     {
         match self {

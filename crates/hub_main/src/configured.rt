@@ -1,4 +1,4 @@
-//! With what the hub of a session is set up: what its file says, and its words on top.
+//! With what a hub is set up: what its file says, and for a session its words on top.
 ghost use Rattle.std.specs.Prelude.{◌≡◌, ◌≤◌, Some, IfOk, IfErr, OnOk};
 ghost use Rattle.hub_main.specs.Configured as spec;
 ghost use Rattle.hub_main.specs.Told.{files_told};
@@ -42,6 +42,38 @@ fn bare(alloc: Global) -> HubConfig
     }
 }
 
+/// The configuration that these bytes are.
+fn file_in(alloc: Global, bytes: Bytes) -> Result<FileConfig, Cause>
+    ensures ok { IfOk result (spec.IsSaid bytes) }
+    ensures err { IfErr result (spec.IsUnsaid bytes) }
+{
+    match read_config(alloc, bytes.as_slice()) {
+        Ok(file) => {
+            drop(bytes);
+            Ok(file)
+        }
+        Err(ConfigError::Refused) => Err(Cause::NoConfig(bytes)),
+        Err(ConfigError::Memory) => {
+            drop(bytes);
+            Err(Cause::Memory)
+        }
+    }
+}
+
+/// The configuration in the file of this name.
+pub fn found_file<F: Files>(alloc: Global, files: &mut F, name: &Text) -> Result<FileConfig, Cause>
+    ensures ok { IfOk result (spec.IsFile (files_told F.files F.faults files.old) name.now) }
+    ensures err { IfErr result (spec.IsUnfound (files_told F.files F.faults files.old) (files_told F.files F.faults files.new) (Some name.now)) }
+    ensures kept { F.files files.new ≡ F.files files.old }
+    ensures counted { F.faults files.old ≤ F.faults files.new }
+{
+    match files.text(name, MOST) {
+        Ok(bytes) => file_in(alloc, bytes),
+        Err(LinkError::Failed) => Err(Cause::NoFile),
+        Err(LinkError::Memory) => Err(Cause::Memory),
+    }
+}
+
 /// What a file says of the hub itself. The rest is for commands that listen, and start programs.
 fn hub_of(file: FileConfig) -> HubConfig
     ensures { result ≡ file.hub }
@@ -60,24 +92,6 @@ fn hub_of(file: FileConfig) -> HubConfig
     hub
 }
 
-/// The hub that these bytes configure.
-fn hub_in(alloc: Global, bytes: Bytes) -> Result<HubConfig, Cause>
-    ensures ok { IfOk result (spec.IsSaid bytes) }
-    ensures err { IfErr result (spec.IsUnsaid bytes) }
-{
-    match read_config(alloc, bytes.as_slice()) {
-        Ok(file) => {
-            drop(bytes);
-            Ok(hub_of(file))
-        }
-        Err(ConfigError::Refused) => Err(Cause::NoConfig(bytes)),
-        Err(ConfigError::Memory) => {
-            drop(bytes);
-            Err(Cause::Memory)
-        }
-    }
-}
-
 /// The hub that the file of this name configures, or one without a file.
 fn found_hub<F: Files>(
     alloc: Global,
@@ -92,10 +106,9 @@ fn found_hub<F: Files>(
     let Some(name) = name else {
         return Ok(bare(alloc));
     };
-    match files.text(name, MOST) {
-        Ok(bytes) => hub_in(alloc, bytes),
-        Err(LinkError::Failed) => Err(Cause::NoFile),
-        Err(LinkError::Memory) => Err(Cause::Memory),
+    match found_file(alloc, files, name) {
+        Ok(file) => Ok(hub_of(file)),
+        Err(cause) => Err(cause),
     }
 }
 

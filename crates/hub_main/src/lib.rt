@@ -4,12 +4,12 @@
 #![tactic(auto)]
 
 pub mod cause;
-mod configured;
+pub mod configured;
 pub mod end;
 pub mod explain;
 pub mod known_names;
 pub mod laws;
-mod opening;
+pub mod opening;
 mod refused_words;
 pub mod run;
 mod serving;

@@ -1,4 +1,4 @@
-//! The book of a session: the store that is chosen for it, and what it is opened with.
+//! The book of a command: the store that is chosen for it, and what it is opened with.
 ghost use Rattle.std.specs.Prelude.{◌≡◌, ◌≤◌, ◌^◌, ℕ, true, IfOk, IfErr, OnOk, OnErr};
 ghost use Rattle.hub_opening.specs.Kept.{MakeTable};
 ghost use Rattle.hub_opening.specs.declared.config.HubConfig.{HubConfig};
@@ -18,7 +18,7 @@ use keeper::trail::Trail;
 use std::alloc::Global;
 
 /// Has the store take the one at a place, or stay as it is.
-pub(crate) fn choose<K: Keeper>(store: &mut K, place: &Option<Text>) -> Result<(), Cause>
+pub fn choose<K: Keeper>(store: &mut K, place: &Option<Text>) -> Result<(), Cause>
     ensures ok { OnOk result (spec.IsChosen K.Tells K.rows K.faults K.Chooses place.now store.old store.new) }
     ensures err { IfErr result (spec.IsUnchosen (K.faults store.old) (K.faults store.new)) }
     ensures stays { OnErr result (spec.Stays K.Tells K.rows store.old store.new) }
@@ -65,7 +65,7 @@ fn refuse_unknown<K: Keeper>(alloc: Global, store: &mut K, config: &HubConfig) -
 }
 
 /// A book over the store with the configuration. A refusal hands the store back, with the rows that it had.
-pub(crate) fn open_book<K: Keeper, T: Trail<Entry = Change>>(
+pub fn open_book<K: Keeper, T: Trail<Entry = Change>>(
     alloc: Global,
     store: K,
     trail: T,
