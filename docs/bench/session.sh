@@ -1,16 +1,16 @@
 #!/bin/sh
 # Processor time of requests of one connection: `session` over a pipe, with so many users kept.
-# usage: docs/bench/session.sh [PROGRAM]
-# PROGRAM is the program `hub` as `rt run` leaves it (crates/hub/out/hub if none is named: run `rt run` there first). Each figure is the processor
-# time of the session with 800 such requests less that of the session with none of them, by 800; of each the least of 25 runs in turn. It stands
-# outside the gate.
+# usage: docs/bench/session.sh [PROGRAM ..]
+# PROGRAM is the program `hub` as `rt run` leaves it (crates/hub/out/hub if none is named: run `rt run` there first); several are measured in turn,
+# run by run. Each figure is the processor time of the session with 800 such requests less that of the session with none of them, by 800; of each
+# the least of 25 runs in turn. It stands outside the gate.
 set -eu
 top=$(cd "$(dirname "$0")/../.." && pwd)
-program=${1:-$top/crates/hub/out/hub}
-exec python3 - "$program" <<'END'
+[ $# -gt 0 ] || set -- "$top/crates/hub/out/hub"
+exec python3 - "$@" <<'END'
 import resource, subprocess, sys
 
-program = sys.argv[1]
+programs = sys.argv[1:]
 ASKED = 800
 ROUNDS = 25
 
@@ -31,7 +31,7 @@ def users(count):
     )
 
 
-def seconds(text, replies):
+def seconds(program, text, replies):
     """The processor time of a session with this input, which has to end well after so many replies."""
     before = resource.getrusage(resource.RUSAGE_CHILDREN)
     ran = subprocess.run(
@@ -44,12 +44,17 @@ def seconds(text, replies):
 
 
 def each(kept, asked):
-    """Microseconds of each of the asked requests over so many users."""
+    """Microseconds of each of the asked requests over so many users, for each program."""
     first = users(kept)
     steps = -(-kept // 1000)
     text = first + b"".join(asked)
-    runs = [(seconds(first, steps), seconds(text, steps + len(asked))) for _ in range(ROUNDS)]
-    return 1e6 * (min(whole for _, whole in runs) - min(base for base, _ in runs)) / len(asked)
+    runs = [
+        [(seconds(program, first, steps), seconds(program, text, steps + len(asked))) for program in programs]
+        for _ in range(ROUNDS)
+    ]
+    bases = [min(run[at][0] for run in runs) for at in range(len(programs))]
+    wholes = [min(run[at][1] for run in runs) for at in range(len(programs))]
+    return [1e6 * (whole - base) / len(asked) for base, whole in zip(bases, wholes)]
 
 
 identity = [request(b"GET", b"/hub/api/user")] * ASKED
@@ -62,5 +67,5 @@ for name, kept, asked in [
     ("a page of 50 of 1,000 users", 1000, [request(b"GET", b"/hub/api/users?limit=50&offset=%d" % n, extra=paging) for n in range(ASKED)]),
     ("a new user beside 1,000", 1000, [request(b"POST", b"/hub/api/users/v%06d" % n) for n in range(ASKED)]),
 ]:
-    print(f"{name}: {each(kept, asked):.1f} microseconds", flush=True)
+    print(f"{name}: {', '.join(f'{it:.1f}' for it in each(kept, asked))} microseconds", flush=True)
 END
