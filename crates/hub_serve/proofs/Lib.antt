@@ -1,0 +1,6 @@
+pub mod Givens
+pub mod SentNames
+pub mod SentRows
+pub mod SentState
+pub mod SentBook
+pub mod SentPasses
