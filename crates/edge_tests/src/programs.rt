@@ -7,11 +7,12 @@ use hub_edge::clock::SystemClock;
 use hub_edge::files::SystemFiles;
 use hub_edge::programs::Programs;
 use hub_edge::random::SystemRandom;
+use hub_kit::list::List;
 use hub_kit::names::read_key;
 use hub_kit::targets::read_target;
 use hub_kit::text::Text;
 use std::alloc::{AllocError, Global};
-use std::sync::{Mutex, Wait};
+use std::sync::{Arc, Mutex, Wait};
 use std::thread::Threads;
 
 /// The words of a program that the shell runs.
@@ -24,14 +25,14 @@ fn shell(alloc: Global, script: &str) -> Result<Vec<Text>, AllocError> {
 }
 
 /// Whether a start, a question, a stop and another question succeed, and what the questions tell.
-fn life<H: Threads + Wait>(
+fn life<H: Threads + Wait + Copy>(
     rt: HostRuntime,
-    handle: &H,
+    handle: H,
     script: &str,
 ) -> Result<[Option<bool>; 4], AllocError> {
-    let started = Mutex::new(Vec::new(rt.alloc()));
-    let words = shell(rt.alloc(), script)?;
-    let mut programs = Programs::new(rt, handle, &started, words.as_slice());
+    let started = Arc::new(rt.alloc(), Mutex::new(Vec::new(rt.alloc())))?;
+    let words = Arc::new(rt.alloc(), List::from_vec(shell(rt.alloc(), script)?))?;
+    let mut programs = Programs::new(rt, handle, started, words);
     let secret = Text::from_str(rt.alloc(), "secret-word")?;
     // nobody listens there
     let (Ok(key), Ok(target)) = (
@@ -51,7 +52,7 @@ fn life<H: Threads + Wait>(
 fn a_program_starts_and_ends(rt: HostRuntime) -> Result<(), AllocError> {
     let told = life(
         rt,
-        &rt,
+        rt,
         "read s; test \"$s\" = secret-word && echo ready; sleep 100",
     )?;
     assert_eq!(rt; told, [Some(true), Some(true), Some(true), Some(false)]);
@@ -61,7 +62,7 @@ fn a_program_starts_and_ends(rt: HostRuntime) -> Result<(), AllocError> {
 #[test]
 fn a_program_is_never_ready(rt: HostRuntime) -> Result<(), AllocError> {
     for script in ["echo steady; sleep 100", "exit 3", "read s"] {
-        let told = life(rt, &rt, script)?;
+        let told = life(rt, rt, script)?;
         assert_eq!(rt;
             told,
             [Some(false), Some(false), Some(true), Some(false)],

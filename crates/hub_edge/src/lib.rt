@@ -12,6 +12,7 @@ mod groups;
 pub mod limits;
 mod line;
 pub mod listener;
+pub mod output;
 pub mod programs;
 pub mod random;
 pub mod routes;

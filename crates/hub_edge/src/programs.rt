@@ -6,13 +6,15 @@ use crate::starting::{StartFault, await_ready, drain, start_program, tell_secret
 use crate::targets::is_served;
 use hub_devices::source::Failed;
 use hub_devices::spawner::Spawner;
+use hub_kit::list::List;
 use hub_kit::names::ServerKey;
 use hub_kit::target::Target;
 use hub_kit::text::Text;
+use std::alloc::Global;
 use std::io::{self, ErrorKind};
 use std::os::unix::net::UnixStream;
 use std::process::Child;
-use std::sync::{Mutex, Wait};
+use std::sync::{Arc, Mutex, Wait};
 use std::thread::{Builder, Threads};
 
 /// The least stack that a thread may have.
@@ -25,25 +27,28 @@ pub struct Started {
     child: Child,
 }
 
+/// The programs that were started, which all workers share.
+pub type AllStarted = Arc<Mutex<Vec<Started>>, Global>;
+
 /// Starts a program for each generation of a server. Each worker has its own of these, over one list of programs.
 #[derive(Drop)]
-pub struct Programs<'a, H: Threads + Wait> {
+pub struct Programs<H: Threads + Wait + Copy> {
     rt: HostRuntime,
-    handle: &'a H,
-    started: &'a Mutex<Vec<Started>>,
+    handle: H,
+    started: AllStarted,
     /// The program and its words. Without any, each start fails.
-    command: &'a [Text],
+    command: Arc<List<Text>, Global>,
     faults: u64,
 }
 
-impl<'a, H: Threads + Wait> Programs<'a, H> {
+impl<H: Threads + Wait + Copy> Programs<H> {
     /// The programs of a command. In each of its words `{port}`, `{user}` and `{server}` stand for those of the server.
     pub fn new(
         rt: HostRuntime,
-        handle: &'a H,
-        started: &'a Mutex<Vec<Started>>,
-        command: &'a [Text],
-    ) -> Programs<'a, H> {
+        handle: H,
+        started: AllStarted,
+        command: Arc<List<Text>, Global>,
+    ) -> Programs<H> {
         Programs {
             rt,
             handle,
@@ -64,7 +69,7 @@ impl<'a, H: Threads + Wait> Programs<'a, H> {
         await_ready(&self.rt, &output)?;
         Builder::new()
             .stack_size(SMALL_STACK)
-            .spawn(self.handle, move || drain(output))?;
+            .spawn(&self.handle, move || drain(output))?;
         Ok(())
     }
 
@@ -72,7 +77,7 @@ impl<'a, H: Threads + Wait> Programs<'a, H> {
     fn keep(&self, generation: u64, child: Child) -> Result<(), StartFault> {
         let pushed = self
             .started
-            .lock(self.handle)
+            .lock(&self.handle)
             .push(Started { generation, child });
         match pushed {
             Ok(()) => Ok(()),
@@ -90,7 +95,7 @@ impl<'a, H: Threads + Wait> Programs<'a, H> {
         target: &Target,
         secret: &Text,
     ) -> Result<(), StartFault> {
-        let (mut child, output) = start_program(&self.rt, self.command, key, target)?;
+        let (mut child, output) = start_program(&self.rt, self.command.as_slice(), key, target)?;
         if let Err(fault) = self.greet(&mut child, output, secret) {
             end(&self.rt, &mut child)?;
             return Err(fault);
@@ -100,7 +105,7 @@ impl<'a, H: Threads + Wait> Programs<'a, H> {
 
     /// Says on standard error why a program wasn't started.
     fn say(&self, key: &ServerKey, fault: StartFault) {
-        let program = match self.command {
+        let program = match self.command.as_slice() {
             [program, ..] => program.as_str(),
             [] => "",
         };
@@ -112,7 +117,7 @@ impl<'a, H: Threads + Wait> Programs<'a, H> {
 
     /// Takes a generation's program from the list.
     fn take(&self, generation: u64) -> Option<Started> {
-        let mut started = self.started.lock(self.handle);
+        let mut started = self.started.lock(&self.handle);
         let all = &mut *started;
         for at in 0..all.len() {
             if all[at].generation == generation {
@@ -124,7 +129,7 @@ impl<'a, H: Threads + Wait> Programs<'a, H> {
 
     /// The number of a generation's program, where it is on the list.
     fn number_of(&self, generation: u64) -> Option<u32> {
-        let started = self.started.lock(self.handle);
+        let started = self.started.lock(&self.handle);
         for each in started.iter() {
             if each.generation == generation {
                 return Some(each.child.id());
@@ -153,7 +158,7 @@ impl<'a, H: Threads + Wait> Programs<'a, H> {
     }
 }
 
-impl<'a, H: Threads + Wait> Spawner for Programs<'a, H> {
+impl<H: Threads + Wait + Copy> Spawner for Programs<H> {
     ghost calls = { λ _. None };
 
     ghost may_run = { λ _. None };

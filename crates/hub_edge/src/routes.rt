@@ -8,15 +8,18 @@ use hub_devices::source::Failed;
 use hub_kit::target::Target;
 use hub_kit::text::Text;
 use std::alloc::{AllocError, Global};
-use std::sync::{Mutex, Wait};
+use std::sync::{Arc, Mutex, Wait};
+
+/// The routes, which all workers share.
+pub type AllRoutes = Arc<Mutex<Vec<ListedRoute>>, Global>;
 
 /// Keeps the routes that were added and not deleted since, and none of its calls: it takes no more memory than there are routes. Each
 /// worker has its own of these, over one list.
 #[derive(Drop)]
-pub struct KeptRoutes<'a, H: Wait> {
+pub struct KeptRoutes<H: Wait + Copy> {
     alloc: Global,
-    handle: &'a H,
-    routes: &'a Mutex<Vec<ListedRoute>>,
+    handle: H,
+    routes: AllRoutes,
     faults: u64,
 }
 
@@ -40,12 +43,8 @@ fn copy_of(alloc: Global, route: &ListedRoute) -> Result<ListedRoute, AllocError
     })
 }
 
-impl<'a, H: Wait> KeptRoutes<'a, H> {
-    pub fn new(
-        alloc: Global,
-        handle: &'a H,
-        routes: &'a Mutex<Vec<ListedRoute>>,
-    ) -> KeptRoutes<'a, H>
+impl<H: Wait + Copy> KeptRoutes<H> {
+    pub fn new(alloc: Global, handle: H, routes: AllRoutes) -> KeptRoutes<H>
         ensures { result.faults ≡ 0 }
     {
         KeptRoutes {
@@ -63,7 +62,7 @@ impl<'a, H: Wait> KeptRoutes<'a, H> {
             target: target.as_text().copy(self.alloc)?,
             serial,
         };
-        let mut kept = self.routes.lock(self.handle);
+        let mut kept = self.routes.lock(&self.handle);
         let routes = &mut *kept;
         if let Some(at) = place_of(routes.as_slice(), path) {
             if at < routes.len() {
@@ -77,7 +76,7 @@ impl<'a, H: Wait> KeptRoutes<'a, H> {
 
     /// Takes the route of a path away, unless it was added later than this serial.
     fn take(&self, path: &Text, serial: u64) {
-        let mut kept = self.routes.lock(self.handle);
+        let mut kept = self.routes.lock(&self.handle);
         let routes = &mut *kept;
         if let Some(at) = place_of(routes.as_slice(), path) {
             if at < routes.len() && routes[at].serial.unwrap_or(0) <= serial {
@@ -87,7 +86,7 @@ impl<'a, H: Wait> KeptRoutes<'a, H> {
     }
 
     fn copies(&self) -> Result<Vec<ListedRoute>, AllocError> {
-        let kept = self.routes.lock(self.handle);
+        let kept = self.routes.lock(&self.handle);
         let mut copies = Vec::new(self.alloc);
         for route in kept.iter() {
             copies.push(copy_of(self.alloc, route)?)?;
@@ -96,7 +95,7 @@ impl<'a, H: Wait> KeptRoutes<'a, H> {
     }
 }
 
-impl<'a, H: Wait> RouteLink for KeptRoutes<'a, H> {
+impl<H: Wait + Copy> RouteLink for KeptRoutes<H> {
     ghost calls = { λ _. None };
 
     ghost faults = { λ l. l.faults };

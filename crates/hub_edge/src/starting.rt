@@ -163,18 +163,22 @@ fn next_byte(
     output: &UnixStream,
     begun: Instant,
 ) -> Result<Option<u8>, StartFault> {
-    let Some(left) = time_left(rt, begun, Duration::from_secs(READY_SECONDS))? else {
-        return Err(StartFault::Late);
-    };
-    output.set_read_timeout(Some(left))?;
     let mut input = output;
     let mut byte = [0u8; 1];
-    match input.read(&mut byte) {
-        Ok(0) => Ok(None),
-        Ok(_) => Ok(Some(byte[0])),
-        Err(error) if error.kind() == ErrorKind::WouldBlock => Err(StartFault::Late),
-        Err(error) => Err(StartFault::from(error)),
+    for _ in 0..u64::MAX {
+        let Some(left) = time_left(rt, begun, Duration::from_secs(READY_SECONDS))? else {
+            break;
+        };
+        output.set_read_timeout(Some(left))?;
+        match input.read(&mut byte) {
+            Ok(0) => return Ok(None),
+            Ok(_) => return Ok(Some(byte[0])),
+            Err(error) if error.kind() == ErrorKind::WouldBlock => break,
+            Err(error) if error.kind() == ErrorKind::Interrupted => {}
+            Err(error) => return Err(StartFault::from(error)),
+        }
     }
+    Err(StartFault::Late)
 }
 
 /// Reads what a program writes until its output is closed, so that it never waits.
@@ -183,8 +187,9 @@ pub(crate) fn drain(output: UnixStream) {
     let mut input = &output;
     for _ in 0..u64::MAX {
         match input.read(&mut buf) {
-            Ok(0) | Err(_) => return,
-            Ok(_) => {}
+            Ok(0) => return,
+            Err(error) if error.kind() != ErrorKind::Interrupted => return,
+            _ => {}
         }
     }
 }
