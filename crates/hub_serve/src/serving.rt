@@ -61,6 +61,7 @@ pub fn serve<
     requires kits { 0 < length kits.old }
     ensures begins { IsPrefix pass.seen (entries_of result.0) }
     ensures base { pass.base ≡ Some result.0.start }
+    ensures counted { pass.faults ≤ result.0.faults }
     ensures given { Gave (L.given doors.old) result.1 (L.given doors.new) }
     ensures most { result.1 ≤ connections }
     ensures all { is_ok result.2 ≡ (result.1 == connections) }
@@ -124,6 +125,7 @@ fn serve_as<
     requires none { tally.old ≡ 0 }
     ensures pass { (pass.new.of ≡ pass.old.of) × (pass.new.base ≡ pass.old.base) }
     ensures begins { IsPrefix pass.old.seen pass.new.seen }
+    ensures counted { pass.old.faults ≤ pass.new.faults }
     ensures same_reference { result.1.listener.ghost_name ≡ front.entry.listener.ghost_name }
     ensures given { Gave (L.given front.entry.listener.now) tally.new (L.given result.1.listener.now) }
     ensures most { tally.new ≤ connections }

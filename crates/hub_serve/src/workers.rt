@@ -1,6 +1,6 @@
 //! The workers: each takes connections in turn with the others, and serves them by a pass and a kit of its own. Which book it is, and
 //! what a kit has, they don't look at: that all this may go to another thread is asked where they are called.
-ghost use Rattle.std.specs.Prelude.{◌≡◌, ◌⊎◌, ◌+◌, ◌<◌, ◌^◌, All, length, IfOk, true};
+ghost use Rattle.std.specs.Prelude.{◌≡◌, ◌⊎◌, ◌+◌, ◌≤◌, ◌<◌, ◌^◌, All, length, IfOk, true};
 ghost use mathlib.Core.List.{IsPrefix};
 
 use crate::doors::{Doors, Doorway};
@@ -101,7 +101,7 @@ pub(crate) fn hire<'k, B: Booked, L: Listener, Q, N: Doorway>(
     requires of { pass.old.of ≡ desk.now }
     requires parts { all.old.parts ≡ length kits.old }
     requires none { all.old.amount ≡ 0 }
-    ensures pass { (pass.new.of ≡ pass.old.of) × (pass.new.seen ≡ pass.old.seen) × (pass.new.base ≡ pass.old.base) }
+    ensures pass { (pass.new.of ≡ pass.old.of) × (pass.new.seen ≡ pass.old.seen) × (pass.new.base ≡ pass.old.base) × (pass.new.faults ≡ pass.old.faults) }
     ensures of { IfOk result (λ v. All (λ w. w.pass.of ≡ desk.now) v.items) }
     ensures parts { IfOk result (λ v. all.new.parts + length v.items ≡ all.old.parts) }
     ensures one_each { IfOk result (λ v. length v.items ≡ length kits.old) }
@@ -246,6 +246,7 @@ pub(crate) fn join_all<'k, L: Listener, B: Booked, Q, N: Doorway>(
     requires fits { taken.old.total < 2 ^ 64 }
     ensures of { (pass.new.of ≡ pass.old.of) × (pass.new.base ≡ pass.old.base) }
     ensures begins { IsPrefix pass.old.seen pass.new.seen }
+    ensures counted { pass.old.faults ≤ pass.new.faults }
     ensures total { result ≡ taken.old.total }
 {
     let mut tally = Tally::new();

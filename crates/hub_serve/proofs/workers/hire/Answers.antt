@@ -10,6 +10,7 @@ loop-i-preserved g c =
       search rules,
       search rules,
       search rules,
+      search rules,
       subst (λ l. All (λ w. w.pass.of ≡ c.args.desk.now) l) (sym pushed) (All-push (λ w. w.pass.of ≡ c.args.desk.now) _ _ each own),
       search rules,
       search rules,

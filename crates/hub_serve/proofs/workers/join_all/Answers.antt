@@ -12,4 +12,5 @@ loop-worker-preserved g c = (
   search rules,
   search rules,
   search rules,
+  search rules,
 )
