@@ -1,0 +1,58 @@
+-- What is true of each plan, and what follows the words.
+use Rattle.std.proofs.Common.{◌≡◌, ◌≤◌, ◌^◌, inl, inr, ℕ, IsTrue, not, List, Option, Some, None, is_some, Result, Ok, Err, refl, sym, ap, subst}
+use Rattle.keeper.specs.Rows.{Rows}
+use Rattle.hub_core.specs.Visits.{Standing}
+use Rattle.hub_machine.specs.declared.change.Change.{Change}
+use Rattle.hub_opening.specs.Kept.{MakeTable}
+use Rattle.hub_opening.specs.declared.config.HubConfig.{HubConfig}
+use Rattle.hub_words.specs.declared.serve.ServeWords.{ServeWords}
+use Rattle.hub_main.specs.Told.{FilesTold}
+use Rattle.hub_main.specs.Opened.{Opens}
+use Rattle.hub_main.specs.declared.cause.Cause.TheVariants.{Memory}
+use Rattle.hub_main.proofs.Books.{opened_by_end}
+use Rattle.hub_main.proofs.Configurations.{file_fits, file_scopes}
+use Rattle.hub_serving.specs.Hall.{Hall}
+use Rattle.hub_serving.specs.Plans.{HasNoPlan, IsPlanOf}
+use Rattle.hub_serving.specs.Ends.{End, status_of}
+use Rattle.hub_serving.specs.Served.{EndsOver}
+use Rattle.hub_serving.specs.Commands.{CommandEnds, EndsChosen, RunEnds}
+use Rattle.hub_serving.specs.declared.plan.Plan.{Plan}
+use Rattle.hub_serving.specs.declared.end.NotServed.TheVariants.{Because}
+
+pub plan_fits : (found : Option ServeWords) (files : FilesTold) (plan : Plan) → IsPlanOf found files plan → plan.hub.limits.trail_bytes ≤ 2 ^ 62
+plan_fits None files plan is = absurd is
+plan_fits (Some words) files plan is =
+    subst (λ (c : HubConfig). c.limits.trail_bytes ≤ 2 ^ 62) (sym is.says.hub) (file_fits files words.config is.file is.found)
+
+pub plan_scopes : (found : Option ServeWords) (files : FilesTold) (plan : Plan) → IsPlanOf found files plan → MakeTable plan.hub.custom_scopes
+plan_scopes None files plan is = absurd is
+plan_scopes (Some words) files plan is =
+    subst (λ (c : HubConfig). MakeTable c.custom_scopes) (sym is.says.hub) (file_scopes files words.config is.file is.found)
+
+-- memory was wanting to read the words
+pub wanting_plan : (found : Option ServeWords) (files : FilesTold) → HasNoPlan found files files (Because Memory)
+wanting_plan None files = (inr refl, refl)
+wanting_plan (Some words) files = tt
+
+same : {K : Type 0} (a b : K) → Some a ≡ Some b → a ≡ b
+same a b is = cc
+
+module _ {K : Type 0} (Tells : K → Type 0) (rows : K → Rows) (faults : K → ℕ) where
+  -- what follows over the book
+  pub ends_over : (plan : Plan) (now : ℕ) (history : Option (List Change)) (h h' : Hall) (k k' : K) (b : Standing) (end : End)
+      → Opens plan.hub now history (rows k) (faults k) b → is_some history ≡ not plan.hub.no_trail → (Tells k' → IsTrue b.start.has_rows)
+      → EndsOver Tells rows faults b.start b.faults plan.connections h h' k' end → EndsChosen Tells rows faults plan now h h' k k' end
+  ends_over plan now history h h' k k' b end opened trail had over =
+      inr (b.start, b.faults, opened_by_end Tells rows faults plan.hub now history k k' b opened trail had, over)
+
+module _ {K : Type 0} (Tells : K → Type 0) (rows : K → Rows) (faults : K → ℕ) (Chooses : K → Option (List ℕ) → K → Type 0) where
+  -- the store was taken from the outside and put back
+  pub run_ends : (found : Option ServeWords) (files files' : FilesTold) (h h' : Hall) (taken back k k' : K) (end : End) (status : ℕ)
+      → CommandEnds Tells rows faults Chooses found files files' h h' taken back end → status ≡ status_of end → Some taken ≡ Some k → Some back ≡ Some k'
+      → RunEnds Tells rows faults Chooses found files files' h h' k k' status
+  run_ends found files files' h h' taken back k k' end status ends is before after = (
+    end,
+    subst (λ (x : K). CommandEnds Tells rows faults Chooses found files files' h h' x k' end) (same taken k before)
+        (subst (λ (x : K). CommandEnds Tells rows faults Chooses found files files' h h' taken x end) (same back k' after) ends),
+    is,
+  )

@@ -1,0 +1,168 @@
+-- What is known at the end of the serving.
+use Rattle.std.proofs.Common.{◌≡◌, ◌≤◌, ◌==◌, ◌∙◌, inl, inr, ℕ, Bool, IsTrue, true, false, not, List, [], Option, Some, Result, Ok, Err, IfOk, IfErr, is_ok, refl, sym, ap, subst, arith}
+use mathlib.Core.List.{IsPrefix}
+use Rattle.atomic_table.specs.Seated.{TableId}
+use Rattle.desk.specs.Passes.{PassState, opening}
+use Rattle.hub_devices.specs.Faults.{Rises}
+use Rattle.keeper.specs.Rows.{Rows}
+use Rattle.server_work.specs.Chains.{Sight}
+use Rattle.server_work.specs.declared.adopt.Adopted.{Adopted}
+use Rattle.hub_core.specs.Visits.{Entry, Reached, Standing, entries_of}
+use Rattle.hub_core.specs.declared.start.Start.{Start}
+use Rattle.hub_machine.specs.KeptRows.{Keeps}
+use Rattle.hub_run.specs.Turns.{Faults, View}
+use Rattle.hub_adopt.specs.Adopting.{Looks, TakesBack}
+use Rattle.hub_serve.specs.Ends.{IsFault}
+use Rattle.hub_serve.specs.Given.{Gave}
+use Rattle.hub_serve.specs.declared.serving.ServeFault.{ServeFault}
+use Rattle.hub_serve.specs.declared.serving.ServeFault.TheVariants as fault
+use Rattle.hub_main.specs.Served.{HasKept, kit_in}
+use Rattle.hub_main.specs.Told.{KitTold}
+use Rattle.hub_main.specs.declared.cause.Cause.TheVariants.{Memory}
+use Rattle.hub_main.proofs.Passes.{last_state}
+use Rattle.hub_serving.specs.Hall.{DoorsTold, Hall, IsQuiet, at_view, view_in}
+use Rattle.hub_serving.specs.Ends.{End, IsWritten, served_line, stream_told}
+use Rattle.hub_serving.specs.Served.{EndsBy, EndsDesk, EndsOver, EndsReady, HasServed, IsUntouched, Serves}
+use Rattle.hub_serving.specs.declared.end.Ended.{Ended}
+use Rattle.hub_serving.specs.declared.end.NotServed.{NotServed}
+use Rattle.hub_serving.specs.declared.end.NotServed.TheVariants.{Because}
+
+pub still : (h : Hall) → IsQuiet h h
+still h = record { output = refl; doors = refl; clock = refl; kit = refl }
+
+-- ---- how the serving ended
+
+unlike : (b : Bool) → b ≡ true → b ≡ false → ⊥
+unlike b is not_so = absurd cc
+
+twice : (b : Bool) → not (not b) ≡ b
+twice true = refl
+twice false = refl
+
+-- the listener's fault
+fault_of : (served : Result Unit ServeFault) (count before after : ℕ) → IfErr served (IsFault count before after)
+    → (served ≡ Err fault.Memory → ⊥) → not (is_ok served) ≡ true → Rises before after
+fault_of (Ok done) count before after faults begun failed = absurd (unlike _ failed refl)
+fault_of (Err (fault.Listener n)) count before after faults begun failed = faults.1
+fault_of (Err fault.Memory) count before after faults begun failed = absurd (begun refl)
+
+abbrev doors_told : {D : Type 0} → (D → Option ℕ) → (D → ℕ) → D → DoorsTold
+doors_told given faults doors = record { given = given doors; faults = faults doors }
+
+-- a hub that served, and one that found no memory
+module _ {O D : Type 0} (held : O → Option (List ℕ)) (write_faults : O → ℕ) (given : D → Option ℕ) (door_faults : D → ℕ) (o o' : O) (d d' : D)
+    (clock : Option (ℕ → ℕ)) (kit : KitTold) where
+  abbrev before : Hall
+  before = record { output = stream_told held write_faults o; doors = doors_told given door_faults d; clock = clock; kit = kit }
+
+  abbrev after : Hall
+  after = record { output = stream_told held write_faults o'; doors = doors_told given door_faults d'; clock = clock; kit = kit }
+
+  pub serves : (connections tally count : ℕ) (served : Result Unit ServeFault) (end : End) → count ≡ tally
+      → Gave (given d) tally (given d') → tally ≤ connections → is_ok served ≡ (tally == connections)
+      → IfErr served (IsFault tally (door_faults d) (door_faults d')) → (served ≡ Err fault.Memory → d' ≡ d)
+      → IfOk end (λ e. (e.count ≡ count) × (e.failed ≡ not (is_ok served))
+      × IsWritten (served_line count) (stream_told held write_faults o) (stream_told held write_faults o') e.line)
+      → IfErr end (λ why. (why ≡ Because Memory) × (served ≡ Err fault.Memory) × (o' ≡ o))
+      → (served ≡ Err fault.Memory → is_ok end ≡ false) → Serves connections before after end
+  serves connections tally count served (Ok e) is gave most all faults quiet told untold begun =
+      let same : e.count ≡ tally = told.0 ∙ is in record {
+        given = subst (λ (n : ℕ). Gave (given d) n (given d')) (sym same) gave;
+        most = subst (λ (n : ℕ). n ≤ connections) (sym same) most;
+        all = ap not told.1 ∙ twice (is_ok served) ∙ all ∙ ap (λ (n : ℕ). n == connections) (sym same);
+        fault = λ failed. fault_of served tally (door_faults d) (door_faults d') faults (λ wanting. unlike _ refl (begun wanting)) (sym told.1 ∙ failed);
+        line = subst (λ (n : ℕ). IsWritten (served_line n) (stream_told held write_faults o) (stream_told held write_faults o') e.line) (sym told.0) told.2;
+        clock = refl;
+        kit = refl;
+      }
+  serves connections tally count served (Err why) is gave most all faults quiet told untold begun = (
+    untold.0,
+    record {
+      output = ap (λ (x : O). stream_told held write_faults x) untold.2;
+      doors = ap (λ (x : D). doors_told given door_faults x) (quiet untold.1);
+      clock = refl;
+      kit = refl;
+    },
+  )
+
+-- ---- a pass that looked
+
+pub looked_kit : (x y : View) → Looks x y → kit_in y ≡ kit_in x
+looked_kit x y looks =
+    ap (λ draws. record { draws = draws; spawner = y.spawner; routes = y.routes; faults = y.faults }) looks.draws
+    ∙ ap (λ spawner. record { draws = x.draws; spawner = spawner; routes = y.routes; faults = y.faults }) looks.spawner
+    ∙ ap (λ routes. record { draws = x.draws; spawner = x.spawner; routes = routes; faults = y.faults }) looks.routes
+    ∙ ap (λ faults. record { draws = x.draws; spawner = x.spawner; routes = x.routes; faults = faults }) looks.faults
+
+pub looked_seen : (x y : View) → Looks x y → x.pass.alone ≡ true → y.pass.seen ≡ x.pass.seen
+looked_seen x y looks alone = ap (λ (s : Sight Entry). s.entries) (looks.comes.2 alone)
+
+module _ {K : Type 0} (Tells : K → Type 0) (rows : K → Rows) (faults : K → ℕ) where
+  -- a book that was closed with these entries
+  pub kept_at : (start : Start) (base : Option Start) (entries : List Entry) (k' : K) (book : Standing) → base ≡ Some book.start → base ≡ Some start
+      → entries_of book ≡ entries → Reached book.start (entries_of book) book.hub → (Tells k' → Keeps (rows k') book.hub.tables)
+      → HasKept Tells rows faults start entries k'
+  kept_at start base entries k' book found given seen reached kept =
+      record { state = book.hub; reached = last_state start base entries book found given seen reached; kept = kept }
+
+  pub ready : (start : Start) (base : Option Start) (seen : List Entry) (connections : ℕ) (h h' : Hall) (k' : K) (end : End) (book : Standing)
+      → Serves connections h h' end → IsPrefix seen (entries_of book) → base ≡ Some book.start → base ≡ Some start
+      → Reached book.start (entries_of book) book.hub → (Tells k' → Keeps (rows k') book.hub.tables)
+      → EndsReady Tells rows faults start seen connections h h' k' end
+  ready start base seen connections h h' k' end book serves begins found given reached kept = record {
+    serves = serves;
+    entries = entries_of book;
+    begins = begins;
+    kept = kept_at start base (entries_of book) k' book found given refl reached kept;
+  }
+
+  -- the running servers were taken back, and then connections were served
+  pub by_adopted : (start : Start) (pass : PassState Entry Start) (ready : View) (told : Adopted) (connections : ℕ) (h h' : Hall) (k' : K) (end : End)
+      → TakesBack start (view_in pass h) told ready → EndsReady Tells rows faults start ready.pass.seen connections (at_view h ready) h' k' end
+      → EndsDesk Tells rows faults start pass connections h h' k' end
+  by_adopted start pass ready told connections h h' k' end takes ends = inr (record { told = told; ready = ready; takes = takes; ends = ends })
+
+  -- the pass looked, and memory was wanting
+  pub looked : (start : Start) (base : Option Start) (pass : PassState Entry Start) (connections : ℕ) (h h' : Hall) (x y : View) (k' : K) (book : Standing)
+      → Looks x y → x.pass.alone ≡ true → x.pass.seen ≡ [] → kit_in x ≡ h.kit → kit_in y ≡ h'.kit → x.clock ≡ h.clock → y.clock ≡ h'.clock
+      → h'.output ≡ h.output → h'.doors ≡ h.doors → base ≡ Some book.start → base ≡ Some start → entries_of book ≡ y.pass.seen
+      → Reached book.start (entries_of book) book.hub → (Tells k' → Keeps (rows k') book.hub.tables)
+      → EndsDesk Tells rows faults start pass connections h h' k' (Err (Because Memory))
+  looked start base pass connections h h' x y k' book looks alone new before after early late output doors found given seen reached kept = inl (record {
+    wanting = refl;
+    quiet = record {
+      output = output;
+      doors = doors;
+      clock = sym late ∙ looks.clock ∙ early;
+      kit = sym after ∙ looked_kit x y looks ∙ before;
+    };
+    kept = kept_at start base [] k' book found given (seen ∙ looked_seen x y looks alone ∙ new) reached kept;
+  })
+
+  -- the first pass of a book without entries
+  pub over_opened : (book : Standing) (connections : ℕ) (h h' : Hall) (k' : K) (end : End) (table : TableId) (pass : PassState Entry Start)
+      → pass ≡ opening table book.start (entries_of book) book.faults → entries_of book ≡ []
+      → ((start : Start) → pass.base ≡ Some start → EndsDesk Tells rows faults start pass connections h h' k' end)
+      → EndsOver Tells rows faults book.start book.faults connections h h' k' end
+  over_opened book connections h h' k' end table pass first none ends =
+      let first' : pass ≡ opening table book.start [] book.faults = first ∙ ap (λ (e : List Entry). opening table book.start e book.faults) none in
+      inr (
+        table,
+        subst (λ (p : PassState Entry Start). EndsDesk Tells rows faults book.start p connections h h' k' end) first'
+            (ends book.start (ap (λ (p : PassState Entry Start). p.base) first')),
+      )
+
+  -- no memory for a pass
+  pub untouched : (book back : Standing) (connections : ℕ) (h : Hall) (k' : K) → back ≡ book → entries_of book ≡ []
+      → Reached back.start (entries_of back) back.hub → (Tells k' → Keeps (rows k') back.hub.tables)
+      → EndsOver Tells rows faults book.start book.faults connections h h k' (Err (Because Memory))
+  untouched book back connections h k' same none reached kept = inl (record {
+    wanting = refl;
+    quiet = still h;
+    kept = record {
+      state = back.hub;
+      reached = subst (λ (e : List Entry). Reached book.start e back.hub) none
+          (subst (λ (b : Standing). Reached b.start (entries_of b) back.hub) same reached);
+      kept = kept;
+    };
+  })

@@ -1,0 +1,69 @@
+-- What the command `serve` does, and with which status it ends.
+use Rattle.std.specs.Prelude.{◌≡◌, ◌⊎◌, ℕ, List, Option, Err}
+use Rattle.keeper.specs.Rows.{Rows}
+use Rattle.hub_devices.specs.ToCome as moments
+use Rattle.hub_core.specs.declared.start.Start.{Start}
+use Rattle.hub_words.specs.declared.serve.ServeWords.{ServeWords}
+use Rattle.hub_main.specs.Told.{FilesTold}
+use Rattle.hub_main.specs.Opened.{IsChosen, IsOpened, IsUnchosen, IsUnopened, Stays}
+use Rattle.hub_main.specs.declared.cause.Cause.{Cause}
+use Rattle.hub_serving.specs.Hall.{Hall, IsQuiet}
+use Rattle.hub_serving.specs.Plans.{HasNoPlan, IsPlanOf}
+use Rattle.hub_serving.specs.Ends.{End, status_of}
+use Rattle.hub_serving.specs.Served.{EndsOver}
+use Rattle.hub_serving.specs.declared.plan.Plan.{Plan}
+use Rattle.hub_serving.specs.declared.end.NotServed.{NotServed}
+use Rattle.hub_serving.specs.declared.end.NotServed.TheVariants.{Because}
+
+-- of stores of a kind that tells of each whether its rows are told, its rows and its count of faults: the store k, which is k' at the end
+module _ {K : Type 0} (Tells : K → Type 0) (rows : K → Rows) (faults : K → ℕ) where
+  -- nothing was written, accepted or called, and the store has the rows that it had
+  pub record IsLeft (h h' : Hall) (k k' : K) : Type 0 where
+    pub quiet : IsQuiet h h'
+    pub store : Stays Tells rows k k'
+
+  -- the store didn't take its place
+  abbrev pub EndsUnchosen : Hall → Hall → K → K → End → Type 0
+  EndsUnchosen h h' k k' end = (cause : Cause) × (end ≡ Err (Because cause)) × IsUnchosen (faults k) (faults k') cause × IsLeft h h' k k'
+
+  -- no book was opened over the store
+  abbrev pub EndsUnopened : Plan → (now : ℕ) → Hall → Hall → K → K → End → Type 0
+  EndsUnopened plan now h h' k k' end =
+      (cause : Cause) × (end ≡ Err (Because cause)) × IsUnopened Tells rows faults plan.hub now k k' cause × IsLeft h h' k k'
+
+  -- a book was opened over the store
+  abbrev pub EndsOpened : Plan → (now : ℕ) → Hall → Hall → K → K → End → Type 0
+  EndsOpened plan now h h' k k' end =
+      (start : Start) × (counted : ℕ) × IsOpened plan.hub now (Tells k') (rows k) (faults k) start counted
+      × EndsOver Tells rows faults start counted plan.connections h h' k' end
+
+  abbrev pub EndsChosen : Plan → (now : ℕ) → Hall → Hall → K → K → End → Type 0
+  EndsChosen plan now h h' k k' end = EndsUnopened plan now h h' k k' end ⊎ EndsOpened plan now h h' k k' end
+
+module _ {K : Type 0} (Tells : K → Type 0) (rows : K → Rows) (faults : K → ℕ) (Chooses : K → Option (List ℕ) → K → Type 0) where
+  -- over the store that the choice of its place left, at the moment that the clock gave then
+  pub record EndsAt (plan : Plan) (h h' : Hall) (k k' : K) (end : End) : Type 0 where
+    pub chosen : K
+    pub chooses : IsChosen Tells rows faults Chooses plan.db k chosen
+    pub now : ℕ
+    pub later : Option (ℕ → ℕ)
+    pub moment : moments.Tells h.clock now later
+    pub ends : EndsChosen Tells rows faults plan now (record h { clock = later }) h' chosen k' end
+
+  abbrev pub EndsPlanned : Plan → Hall → Hall → K → K → End → Type 0
+  EndsPlanned plan h h' k k' end = EndsUnchosen Tells rows faults h h' k k' end ⊎ EndsAt plan h h' k k' end
+
+  -- the words, or what their file says, are none to serve by
+  pub record EndsUnplanned (found : Option ServeWords) (files files' : FilesTold) (h h' : Hall) (k k' : K) (end : End) : Type 0 where
+    pub why : NotServed
+    pub is : end ≡ Err why
+    pub none : HasNoPlan found files files' why
+    pub quiet : IsQuiet h h'
+    pub store : k' ≡ k
+
+  abbrev pub CommandEnds : Option ServeWords → FilesTold → FilesTold → Hall → Hall → K → K → End → Type 0
+  CommandEnds found files files' h h' k k' end =
+      EndsUnplanned found files files' h h' k k' end ⊎ ((plan : Plan) × IsPlanOf found files plan × EndsPlanned plan h h' k k' end)
+
+  abbrev pub RunEnds : Option ServeWords → FilesTold → FilesTold → Hall → Hall → K → K → (status : ℕ) → Type 0
+  RunEnds found files files' h h' k k' status = (end : End) × CommandEnds found files files' h h' k k' end × (status ≡ status_of end)

@@ -1,0 +1,50 @@
+-- How `serve` ends, what it writes then, and which status that has.
+use Rattle.std.specs.Prelude.{◌≡◌, ℕ, List, ◌++◌, codes, decimal, Option, Result, Ok, Err, if◌then◌else◌}
+use Rattle.hub_devices.specs.Faults.{Rises}
+use Rattle.hub_devices.specs.Streams.{Appends}
+use Rattle.hub_main.specs.Ends.{cause_status}
+use Rattle.hub_main.specs.Told.{StreamTold}
+use Rattle.hub_serving.specs.declared.end.NotServed.{NotServed}
+use Rattle.hub_serving.specs.declared.end.NotServed.TheVariants.{Because, NoAddress}
+use Rattle.hub_serving.specs.declared.end.Ended.{Ended}
+use Rattle.hub_serving.specs.declared.end.Line.{Line}
+use Rattle.hub_serving.specs.declared.end.Line.TheVariants.{Written, Failed, NoMemory}
+
+abbrev pub End : Type 0
+End = Result Ended NotServed
+
+-- ---- the line
+
+abbrev pub served_line : ℕ → List ℕ
+served_line n = codes "served " ++ decimal n ++ codes "\n"
+
+abbrev pub stream_told : {O : Type 0} → (O → Option (List ℕ)) → (O → ℕ) → O → StreamTold
+stream_told held faults output = record { bytes = held output; faults = faults output }
+
+-- the output failed after a part of the line
+pub record HasFailed (line : List ℕ) (o o' : StreamTold) : Type 0 where
+  pub part : List ℕ
+  pub more : List ℕ
+  pub parts : line ≡ part ++ more
+  pub wrote : Appends o.bytes part o'.bytes
+  pub rises : Rises o.faults o'.faults
+
+abbrev pub IsWritten : List ℕ → StreamTold → StreamTold → Line → Type 0
+IsWritten line o o' Written = Appends o.bytes line o'.bytes
+IsWritten line o o' Failed = HasFailed line o o'
+IsWritten line o o' NoMemory = o' ≡ o
+
+-- ---- the status
+
+abbrev pub line_status : Line → ℕ
+line_status Written = 0
+line_status Failed = 6
+line_status NoMemory = 7
+
+abbrev pub unserved_status : NotServed → ℕ
+unserved_status (Because cause) = cause_status cause
+unserved_status NoAddress = 3
+
+abbrev pub status_of : End → ℕ
+status_of (Ok ended) = if ended.failed then 8 else line_status ended.line
+status_of (Err why) = unserved_status why

@@ -1,0 +1,59 @@
+-- What a hub that serves has outside, where it is told.
+use Rattle.std.specs.Prelude.{◌≡◌, ℕ, List, Option}
+use Rattle.desk.specs.Passes.{PassState}
+use Rattle.hub_devices.specs.declared.calls.Spawning.{Spawning}
+use Rattle.hub_devices.specs.declared.calls.Routing.{Routing}
+use Rattle.hub_devices.specs.declared.calls.Told.{Told}
+use Rattle.hub_core.specs.Visits.{Entry}
+use Rattle.hub_core.specs.declared.start.Start.{Start}
+use Rattle.hub_run.specs.Turns.{View}
+use Rattle.hub_run.specs.declared.kit.HubKit.{HubKit}
+use Rattle.hub_main.specs.Told.{StreamTold, KitTold, kit_told}
+
+-- how many connections the listener has given, and its faults
+pub record DoorsTold : Type 0 where
+  pub given : Option ℕ
+  pub faults : ℕ
+
+-- the output, the listener, and the devices by which the hub is opened and takes its servers back: the moments to come, and what the
+-- others tell
+pub record Hall : Type 0 where
+  pub output : StreamTold
+  pub doors : DoorsTold
+  pub clock : Option (ℕ → ℕ)
+  pub kit : KitTold
+
+abbrev pub hall : {O D S P C R : Type 0} → (O → Option (List ℕ)) → (O → ℕ) → (D → Option ℕ) → (D → ℕ) → (C → Option (ℕ → ℕ))
+    → (R → Option (List (List ℕ))) → (S → Option (List (Spawning × Told))) → (P → Option (List (Routing × Told)))
+    → (R → ℕ) → (S → ℕ) → (P → ℕ) → O → D → HubKit S P C R → Hall
+hall held write_faults given door_faults to_come left spawned routed draw_faults spawn_faults route_faults output doors kit = record {
+  output = record { bytes = held output; faults = write_faults output };
+  doors = record { given = given doors; faults = door_faults doors };
+  clock = to_come kit.clock;
+  kit = kit_told left spawned routed draw_faults spawn_faults route_faults kit;
+}
+
+-- nothing was written or accepted, no moment was asked, and no device was called
+pub record IsQuiet (h h' : Hall) : Type 0 where
+  pub output : h'.output ≡ h.output
+  pub doors : h'.doors ≡ h.doors
+  pub clock : h'.clock ≡ h.clock
+  pub kit : h'.kit ≡ h.kit
+
+-- what the hub knows by a pass and these devices
+abbrev pub view_in : PassState Entry Start → Hall → View
+view_in pass h = record {
+  pass = pass;
+  clock = h.clock;
+  draws = h.kit.draws;
+  spawner = h.kit.spawner;
+  routes = h.kit.routes;
+  faults = h.kit.faults;
+}
+
+-- what is outside then, at a later view of the same devices
+abbrev pub at_view : Hall → View → Hall
+at_view h y = record h {
+  clock = y.clock;
+  kit = record { draws = y.draws; spawner = y.spawner; routes = y.routes; faults = y.faults };
+}

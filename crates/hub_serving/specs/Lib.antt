@@ -1,0 +1,5 @@
+pub mod Hall
+pub mod Plans
+pub mod Ends
+pub mod Served
+pub mod Commands

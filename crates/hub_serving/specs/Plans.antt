@@ -1,0 +1,41 @@
+-- What the words of `serve` and their file say, and why that is nothing to serve by.
+use Rattle.std.specs.Prelude.{◌≡◌, ◌⊎◌, List, ℕ, Option, Some, None}
+use Rattle.hub_config.specs.declared.config.FileConfig.{FileConfig}
+use Rattle.hub_words.specs.declared.serve.ServeWords.{ServeWords}
+use Rattle.hub_main.specs.Told.{FilesTold}
+use Rattle.hub_main.specs.Configured.{IsFile, IsUnfound}
+use Rattle.hub_main.specs.declared.cause.Cause.TheVariants.{Words, Memory}
+use Rattle.hub_serving.specs.declared.plan.Plan.{Plan}
+use Rattle.hub_serving.specs.declared.end.NotServed.{NotServed}
+use Rattle.hub_serving.specs.declared.end.NotServed.TheVariants.{Because, NoAddress}
+
+-- each part is that of the file or of the words, and the file names an address
+pub record IsOf (file : FileConfig) (words : ServeWords) (plan : Plan) : Type 0 where
+  pub hub : plan.hub ≡ record file.hub { no_trail = words.no_trail }
+  pub listen : file.listen ≡ Some plan.listen
+  pub command : plan.command ≡ file.command
+  pub proxy : plan.proxy ≡ file.proxy
+  pub db : plan.db ≡ words.db
+  pub workers : plan.workers ≡ words.workers
+  pub connections : plan.connections ≡ words.connections
+
+pub record IsPlan (files : FilesTold) (words : ServeWords) (plan : Plan) : Type 0 where
+  pub file : FileConfig
+  pub found : IsFile files words.config file
+  pub says : IsOf file words plan
+
+-- why the file of this name is none to serve by
+abbrev pub IsUnplanned : (files files' : FilesTold) → (name : List ℕ) → NotServed → Type 0
+IsUnplanned files files' name (Because cause) = IsUnfound files files' (Some name) cause
+IsUnplanned files files' name NoAddress = (file : FileConfig) × IsFile files name file × (file.listen ≡ None)
+
+-- ---- the words
+
+abbrev pub IsPlanOf : Option ServeWords → FilesTold → Plan → Type 0
+IsPlanOf None files plan = ⊥
+IsPlanOf (Some words) files plan = IsPlan files words plan
+
+-- the words are refused, or memory was wanting to read them; or they are those of `serve`
+abbrev pub HasNoPlan : Option ServeWords → (files files' : FilesTold) → NotServed → Type 0
+HasNoPlan None files files' why = ((why ≡ Because Words) ⊎ (why ≡ Because Memory)) × (files' ≡ files)
+HasNoPlan (Some words) files files' why = IsUnplanned files files' words.config why
