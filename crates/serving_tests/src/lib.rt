@@ -1,0 +1,17 @@
+//! Tests of many connections to one hub over several workers, and of the command that serves them: a connection that stays open holds up
+//! none of the others, a start holds up none, and what one connection has changed another one sees. A crate of their own, since a crate that
+//! has tests is proved twice. Nothing stands above it.
+#![tactic(auto)]
+
+#[cfg(test)]
+mod check;
+#[cfg(test)]
+mod hubs;
+#[cfg(test)]
+mod of_commands;
+#[cfg(test)]
+mod of_serve;
+#[cfg(test)]
+mod peers;
+#[cfg(test)]
+mod scene;
