@@ -108,32 +108,37 @@ IsStopped wire.ReadFault held held' writes writes' result = (result ≡ Err (Rea
 pub record Place : Type 0 where
   pub left : Option (List ℕ)
   pub held : Option (List ℕ)
-  pub table : Table
   pub reads : ℕ
   pub writes : ℕ
 
+-- of something that answers the API: of a secret, a moment and a request, what it is answered, and what that leaves
+abbrev pub Gave : Type 0 → Type 1
+Gave A = A → List ℕ → ℕ → Request → ApiReply → A → Type 0
+
 -- no request came, and this was answered
-pub record Unread (old new : Place) (result : Result ℕ SessionFault) : Type 0 where
+pub record Unread {A : Type 0} (old new : Place) (routes routes' : A) (result : Result ℕ SessionFault) : Type 0 where
   pub error : WireError
   pub gone : List ℕ
   pub kept : List ℕ
   pub within : WithinRequest gone
   pub took : Took old.left [] new.left (gone ++ kept)
   pub refused : RequestRefusedAt new.left (gone ++ kept) error
-  pub same : new.table ≡ old.table
+  pub same : routes' ≡ routes
   pub stopped : IsStopped error old.held new.held old.writes new.writes result
   pub cause : error ≡ wire.ReadFault → Rises old.reads new.reads
 
 -- a request came, its call was made, and the reply was written
-pub record Answered (secret : List ℕ) (now : ℕ) (old new : Place) (result : Result ℕ SessionFault) : Type 0 where
+pub record Answered {A : Type 0} (gave : Gave A) (secret : List ℕ) (now : ℕ) (old new : Place) (routes routes' : A) (result : Result ℕ SessionFault)
+    : Type 0 where
   pub request : Request
   pub text : List ℕ
   pub kept : List ℕ
   pub is : IsRequestText request text
   pub took : Took old.left [] new.left (text ++ kept)
   pub reply : ApiReply
-  pub answered : IsAnswered (judged secret request) old.table now request reply new.table
+  pub answered : gave routes secret now request reply routes'
   pub replied : IsReplied reply old.held new.held old.writes new.writes result
 
-abbrev pub ApiEnds : List ℕ → ℕ → Place → Place → Result ℕ SessionFault → Type 0
-ApiEnds secret now old new result = Unread old new result ⊎ Answered secret now old new result
+abbrev pub ApiEnds : {A : Type 0} → Gave A → List ℕ → ℕ → Place → Place → A → A → Result ℕ SessionFault → Type 0
+ApiEnds gave secret now old new routes routes' result =
+    Unread old new routes routes' result ⊎ Answered gave secret now old new routes routes' result

@@ -8,6 +8,7 @@ use crate::calls::{ApiRefusal, Call, call_of, route_path};
 use crate::entries::read_entry;
 use crate::listings::listing_text;
 use crate::queries::{serial_given, since_asked};
+use crate::service::RouteService;
 use crate::texts::{ApiReply, write_reply};
 use http_wire::buffer::WireBuffer;
 use http_wire::error::{SessionFault, WireError};
@@ -107,7 +108,7 @@ fn path_in(request: &Request) -> &[u8]
 }
 
 /// Makes the call of a request.
-fn answer(
+fn answer_of(
     alloc: Global,
     routes: &mut Routes,
     secret: &Text,
@@ -122,6 +123,14 @@ fn answer(
         Ok(Call::Add) => add_route(alloc, routes, path, request.body.as_slice(), now),
         Ok(Call::Delete) => delete_route(alloc, routes, path, request.query.as_str()),
         Err(refusal) => ApiReply::Refused(refusal),
+    }
+}
+
+impl RouteService for Routes {
+    ghost gave = { λ t secret now request reply t'. IsAnswered (spec.judged secret request) t now request reply t' };
+
+    fn answer(&mut self, alloc: Global, secret: &Text, now: Moment, request: &Request) -> ApiReply {
+        answer_of(alloc, self, secret, now, request)
     }
 }
 
@@ -146,9 +155,9 @@ fn stopped<O: Sink>(alloc: Global, output: &mut O, error: WireError) -> Result<u
 }
 
 /// The same as `api_one`, with a buffer that is handed in and holds nothing.
-fn api_kept<I: Source, O: Sink>(
+fn api_kept<A: RouteService, I: Source, O: Sink>(
     alloc: Global,
-    routes: &mut Routes,
+    routes: &mut A,
     secret: &Text,
     now: Moment,
     input: &mut I,
@@ -156,22 +165,20 @@ fn api_kept<I: Source, O: Sink>(
     output: &mut O,
 ) -> Result<u16, SessionFault>
     requires { kept.old ≡ [] }
-    ensures ends { ApiEnds secret.now now
+    ensures ends { ApiEnds A.gave secret.now now
         (record {
           left = I.left input.old;
           held = O.held output.old;
-          table = routes.old;
           reads = I.faults input.old;
           writes = O.faults output.old;
         })
         (record {
           left = I.left input.new;
           held = O.held output.new;
-          table = routes.new;
           reads = I.faults input.new;
           writes = O.faults output.new;
         })
-        result }
+        routes.old routes.new result }
     ensures reads { I.faults input.old ≤ I.faults input.new }
     ensures writes { O.faults output.old ≤ O.faults output.new }
 {
@@ -179,37 +186,35 @@ fn api_kept<I: Source, O: Sink>(
         Ok(request) => request,
         Err(e) => return stopped(alloc, output, e),
     };
-    let reply = answer(alloc, routes, secret, now, &request);
+    let reply = routes.answer(alloc, secret, now, &request);
     write_reply(alloc, output, &reply)
 }
 
 /// Answers one request of the API, and gives the status that was written, or 0 where the input ended before or inside the
 /// request: the refusals of the wire first, then those of the token, the place, the method, the query or the body, and of the
 /// table.
-pub fn api_one<I: Source, O: Sink>(
+pub fn api_one<A: RouteService, I: Source, O: Sink>(
     alloc: Global,
-    routes: &mut Routes,
+    routes: &mut A,
     secret: &Text,
     now: Moment,
     input: &mut I,
     output: &mut O,
 ) -> Result<u16, SessionFault>
-    ensures ends { ApiEnds secret.now now
+    ensures ends { ApiEnds A.gave secret.now now
         (record {
           left = I.left input.old;
           held = O.held output.old;
-          table = routes.old;
           reads = I.faults input.old;
           writes = O.faults output.old;
         })
         (record {
           left = I.left input.new;
           held = O.held output.new;
-          table = routes.new;
           reads = I.faults input.new;
           writes = O.faults output.new;
         })
-        result }
+        routes.old routes.new result }
     ensures reads { I.faults input.old ≤ I.faults input.new }
     ensures writes { O.faults output.old ≤ O.faults output.new }
 {

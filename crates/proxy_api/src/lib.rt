@@ -10,4 +10,5 @@ pub mod entries;
 mod floats;
 pub mod listings;
 pub mod queries;
+pub mod service;
 pub mod texts;

@@ -5,20 +5,19 @@ use Rattle.http_wire.specs.declared.error.SessionFault.{SessionFault}
 use Rattle.http_wire.specs.declared.head.Head.{Head}
 use Rattle.http_wire.specs.Head.{head_of}
 use Rattle.http_wire.specs.Took.{Took}
-use Rattle.route_table.specs.Table.{Table}
 use Rattle.proxy_wire.specs.declared.framing.Framing.{Framing}
 use Rattle.proxy_wire.specs.Heads.{request_text, request_passed}
 use Rattle.proxy_core.specs.declared.refusals.Forwarded.{Forwarded}
-use Rattle.proxy_core.specs.Forward.{IsChosen}
+use Rattle.proxy_core.specs.Forward.{Found, IsChosen}
 use Rattle.proxy_core.specs.Passes.{Place, PassOn}
 
 -- nothing was kept at first
 pub took_from : (before after : Option (List ℕ)) (kept bytes : List ℕ) → kept ≡ [] → Took before kept after bytes → Took before [] after bytes
 took_from before after kept bytes none took = subst (λ (x : List ℕ). Took before x after bytes) none took
 
-pub chosen_of : (head : Head) (h : RequestHead) (now : ℕ) (table table' : Option Table) (f : Framing) (to : List ℕ) → head ≡ head_of h
-    → IsChosen head now table table' f to → IsChosen (head_of h) now table table' f to
-chosen_of head h now table table' f to same chosen = subst (λ (x : Head). IsChosen x now table table' f to) same chosen
+pub chosen_of : {L : Type 0} (found : Found L) (head : Head) (h : RequestHead) (now : ℕ) (routes routes' : L) (f : Framing) (to : List ℕ)
+    → head ≡ head_of h → IsChosen found head now routes routes' f to → IsChosen found (head_of h) now routes routes' f to
+chosen_of found head h now routes routes' f to same chosen = subst (λ (x : Head). IsChosen found x now routes routes' f to) same chosen
 
 pub passed_of : (head : Head) (h : RequestHead) (f : Framing) (target : List ℕ) (old new : Place) (result : Result Forwarded SessionFault) → head ≡ head_of h
     → PassOn (record { method = head.method; text = request_text head; framing = f }) target old new result

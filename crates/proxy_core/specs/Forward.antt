@@ -14,7 +14,6 @@ use Rattle.http_wire.specs.Target.{path_of}
 use Rattle.http_wire.specs.Took.{Took}
 use Rattle.route_table.specs.declared.route.RouteRefusal.{RouteRefusal}
 use Rattle.route_table.specs.declared.route.RouteRefusal.TheVariants as route
-use Rattle.route_table.specs.Table.{Table, Looks}
 use Rattle.proxy_wire.specs.declared.framing.Framing.{Framing}
 use Rattle.proxy_wire.specs.Framing.{request_framing}
 use Rattle.proxy_wire.specs.Heads.{request_passed}
@@ -44,39 +43,45 @@ IsStopped wire.Ended held held' writes writes' result = (result ≡ Ok Ended) ×
 IsStopped wire.Cut held held' writes writes' result = (result ≡ Ok Cut) × (held' ≡ held)
 IsStopped wire.ReadFault held held' writes writes' result = (result ≡ Err (ReadFault 0)) × (held' ≡ held)
 
+-- of something that has routes: of a path and a moment, what a look-up answers, and what it leaves
+abbrev pub Found : Type 0 → Type 1
+Found L = L → List ℕ → ℕ → Result (List ℕ) RouteRefusal → L → Type 0
+
 -- why a head is not passed on: its body's framing first, and then its path
-abbrev pub IsUnchosen : Head → ℕ → Option Table → Option Table → Refusal → Type 0
-IsUnchosen head now table table' r =
-    ((e : WireError) × (request_framing head.headers ≡ Err e) × (table' ≡ table) × (r ≡ wire_refusal e))
-    ⊎ ((e : RouteRefusal) × Looks table (path_of head.target) now (Err e) table' × (r ≡ route_refusal e))
+abbrev pub IsUnchosen : {L : Type 0} → Found L → Head → ℕ → L → L → Refusal → Type 0
+IsUnchosen found head now routes routes' r =
+    ((e : WireError) × (request_framing head.headers ≡ Err e) × (routes' ≡ routes) × (r ≡ wire_refusal e))
+    ⊎ ((e : RouteRefusal) × found routes (path_of head.target) now (Err e) routes' × (r ≡ route_refusal e))
 
 -- how a head is passed on
-pub record IsChosen (head : Head) (now : ℕ) (table table' : Option Table) (f : Framing) (to : List ℕ) : Type 0 where
+pub record IsChosen {L : Type 0} (found : Found L) (head : Head) (now : ℕ) (routes routes' : L) (f : Framing) (to : List ℕ) : Type 0 where
   pub framed : request_framing head.headers ≡ Ok f
-  pub looks : Looks table (path_of head.target) now (Ok to) table'
+  pub finds : found routes (path_of head.target) now (Ok to) routes'
 
 -- no head came
-pub record Unread (old new : Place) (table table' : Option Table) (result : Result Forwarded SessionFault) : Type 0 where
+pub record Unread {L : Type 0} (old new : Place) (routes routes' : L) (result : Result Forwarded SessionFault) : Type 0 where
   pub error : WireError
   pub took : Took old.left [] new.left new.kept
   pub refused : RefusedAt new.left new.kept error
   pub told : new.told ≡ old.told
-  pub same : table' ≡ table
+  pub same : routes' ≡ routes
   pub stopped : IsStopped error old.held new.held old.writes new.writes result
   pub cause : error ≡ wire.ReadFault → Rises old.reads new.reads
 
 -- a head came, and is refused before anything is connected
-pub record Unchosen (now : ℕ) (old new : Place) (table table' : Option Table) (result : Result Forwarded SessionFault) : Type 0 where
+pub record Unchosen {L : Type 0} (found : Found L) (now : ℕ) (old new : Place) (routes routes' : L) (result : Result Forwarded SessionFault)
+    : Type 0 where
   pub head : RequestHead
   pub is : IsServedHead head
   pub took : Took old.left [] new.left (print_request head ++ new.kept)
   pub told : new.told ≡ old.told
   pub refused : Refusal
-  pub why : IsUnchosen (head_of head) now table table' refused
+  pub why : IsUnchosen found (head_of head) now routes routes' refused
   pub written : IsWritten refused old.held new.held old.writes new.writes result
 
 -- a head came, and the request was passed on
-pub record Chosen (now : ℕ) (old new : Place) (table table' : Option Table) (result : Result Forwarded SessionFault) : Type 0 where
+pub record Chosen {L : Type 0} (found : Found L) (now : ℕ) (old new : Place) (routes routes' : L) (result : Result Forwarded SessionFault)
+    : Type 0 where
   pub head : RequestHead
   pub is : IsServedHead head
   pub left : Option (List ℕ)
@@ -86,11 +91,12 @@ pub record Chosen (now : ℕ) (old new : Place) (table table' : Option Table) (r
   pub target : List ℕ
   pub took : Took old.left [] left (print_request head ++ kept)
   pub counted : old.reads ≤ reads
-  pub chosen : IsChosen (head_of head) now table table' framing target
+  pub chosen : IsChosen found (head_of head) now routes routes' framing target
   pub passed : PassOn (record { method = head.method; text = request_passed head; framing = framing }) target
       (record old { left = left; kept = kept; reads = reads }) new result
 
 -- how one request is forwarded
-abbrev pub ForwardEnds : ℕ → Place → Place → Option Table → Option Table → Result Forwarded SessionFault → Type 0
-ForwardEnds now old new table table' result =
-    Unread old new table table' result ⊎ (Unchosen now old new table table' result ⊎ Chosen now old new table table' result)
+abbrev pub ForwardEnds : {L : Type 0} → Found L → ℕ → Place → Place → L → L → Result Forwarded SessionFault → Type 0
+ForwardEnds found now old new routes routes' result =
+    Unread old new routes routes' result
+    ⊎ (Unchosen found now old new routes routes' result ⊎ Chosen found now old new routes routes' result)

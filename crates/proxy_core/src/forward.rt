@@ -51,8 +51,8 @@ fn route_refusal(error: RouteRefusal) -> Refusal
     }
 }
 
-/// Answers where there is no head.
-fn stopped<O: Sink>(output: &mut O, error: WireError) -> Result<Forwarded, SessionFault>
+/// Answers where there is no head. The error is that of `read_head`.
+pub fn stopped<O: Sink>(output: &mut O, error: WireError) -> Result<Forwarded, SessionFault>
     ensures stopped { IsStopped error (O.held output.old) (O.held output.new) (O.faults output.old) (O.faults output.new) result }
     ensures counted { O.faults output.old ≤ O.faults output.new }
 {
@@ -81,9 +81,9 @@ fn choose<L: Lookup>(
     routes: &mut L,
     now: Moment,
 ) -> Result<Choice, Refusal>
-    ensures ok { IfOk result (λ c. IsChosen head.now now (L.table routes.old) (L.table routes.new) c.framing c.target
+    ensures ok { IfOk result (λ c. IsChosen L.found head.now now routes.old routes.new c.framing c.target
         × (c.framing ≢ Framing.ToEnd)) }
-    ensures err { IfErr result (IsUnchosen head.now now (L.table routes.old) (L.table routes.new)) }
+    ensures err { IfErr result (IsUnchosen L.found head.now now routes.old routes.new) }
 {
     let framing = match request_framing(head) {
         Ok(framing) => framing,
@@ -106,7 +106,7 @@ fn forward_kept<L: Lookup, I: Source, O: Sink, U: Upstream>(
     up: &mut U,
 ) -> Result<Forwarded, SessionFault>
     requires { kept.old ≡ [] }
-    ensures ends { (kept : List ℕ) × ForwardEnds now
+    ensures ends { (kept : List ℕ) × ForwardEnds L.found now
         (record {
           left = I.left input.old;
           kept = [];
@@ -125,7 +125,7 @@ fn forward_kept<L: Lookup, I: Source, O: Sink, U: Upstream>(
           links = U.faults up.new;
           writes = O.faults output.new;
         })
-        (L.table routes.old) (L.table routes.new) result }
+        routes.old routes.new result }
     ensures reads { I.faults input.old ≤ I.faults input.new }
     ensures links { U.faults up.old ≤ U.faults up.new }
     ensures writes { O.faults output.old ≤ O.faults output.new }
@@ -160,7 +160,7 @@ pub fn forward_one<L: Lookup, I: Source, O: Sink, U: Upstream>(
     output: &mut O,
     up: &mut U,
 ) -> Result<Forwarded, SessionFault>
-    ensures ends { (kept : List ℕ) × ForwardEnds now
+    ensures ends { (kept : List ℕ) × ForwardEnds L.found now
         (record {
           left = I.left input.old;
           kept = [];
@@ -179,7 +179,7 @@ pub fn forward_one<L: Lookup, I: Source, O: Sink, U: Upstream>(
           links = U.faults up.new;
           writes = O.faults output.new;
         })
-        (L.table routes.old) (L.table routes.new) result }
+        routes.old routes.new result }
     ensures reads { I.faults input.old ≤ I.faults input.new }
     ensures links { U.faults up.old ≤ U.faults up.new }
     ensures writes { O.faults output.old ≤ O.faults output.new }

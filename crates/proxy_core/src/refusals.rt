@@ -113,7 +113,7 @@ pub fn refuse<O: Sink>(output: &mut O, refusal: Refusal) -> Result<Forwarded, Se
 }
 
 /// What a refusal of the wire is to the client.
-pub(crate) fn wire_refusal(error: WireError) -> Refusal
+pub fn wire_refusal(error: WireError) -> Refusal
     ensures { result ≡ spec.wire_refusal error }
 {
     match error {

@@ -11,4 +11,3 @@ pub mod RefusalLemmas
 pub mod LawLemmas
 pub mod ListedLemmas
 pub mod ListLemmas
-pub mod LookLemmas

@@ -160,10 +160,6 @@ IsLook t path now (Err (BadPath at)) t' = (bad_place path ≡ Some at) × (t' �
 IsLook t path now (Err Memory) t' = (bad_place path ≡ None) × (t' ≡ t)
 IsLook t path now (Err _) t' = ⊥
 
--- a look-up of something that has a table, where it tells it
-pub record Looks (before : Option Table) (path : List ℕ) (now : ℕ) (result : Result (List ℕ) RouteRefusal) (after : Option Table) : Type 0 where
-  pub looks : (t : Table) → before ≡ Some t → (t' : Table) × (after ≡ Some t') × IsLook t path now result t'
-
 -- the refusals of a look-up: by the path alone, or that nothing was found, or want of memory
 abbrev pub IsLookRefusal : List ℕ → RouteRefusal → Type 0
 IsLookRefusal path (BadPath at) = bad_place path ≡ Some at

@@ -140,9 +140,9 @@ impl Routes {
     }
 }
 
-/// It tells its table.
+/// Each answer is that of the table.
 impl Lookup for Routes {
-    ghost table = { λ t. Some t };
+    ghost found = { IsLook };
 
     fn look(&mut self, alloc: Global, path: &[u8], now: Moment) -> Result<Target, RouteRefusal> {
         self.look_up(alloc, path, now)

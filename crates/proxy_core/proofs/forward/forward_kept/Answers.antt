@@ -29,7 +29,7 @@ returns-in-Err-choose-clause-ends g c =
         took = took_from _ _ c.args.kept.now _ c.requires read.3;
         told = refl;
         refused = c.in-Err-choose.refusal;
-        why = subst (λ (h : Head). IsUnchosen h c.args.now (g.L.Lookup.table c.args.routes.now) (g.L.Lookup.table c.choose.new.routes) c.in-Err-choose.refusal) read.2 c.in-Err-choose.ensures.err;
+        why = subst (λ (h : Head). IsUnchosen g.L.Lookup.found h c.args.now c.args.routes.now c.choose.new.routes c.in-Err-choose.refusal) read.2 c.in-Err-choose.ensures.err;
         written = c.refuse.ensures.written;
       })),
     )
@@ -50,7 +50,7 @@ returns-clause-ends g c =
         target = c.in-Ok-choose.choice.target;
         took = took_from _ _ c.args.kept.now _ c.requires read.3;
         counted = c.read_head.ensures.counted;
-        chosen = chosen_of c.in-Ok.head read.0 _ _ _ _ _ read.2 chosen.0;
+        chosen = chosen_of g.L.Lookup.found c.in-Ok.head read.0 _ _ _ _ _ read.2 chosen.0;
         passed = passed_of c.in-Ok.head read.0 _ _ _ _ _ read.2 passed.1;
       })),
     )
