@@ -1,0 +1,85 @@
+//! How many connections were served. Only `serve` and `add` raise the count.
+ghost use Rattle.std.specs.Prelude.{◌≡◌, ◌+◌, ◌<◌, ◌^◌};
+
+use crate::serves::Serves;
+use std::alloc::Global;
+use std::marker::{Model, PhantomData};
+use std::sync::Wait;
+
+/// A source and a sink as a connection left them. Contracts see both, and no call takes them out: the connection ends
+/// where this is dropped.
+#[derive(Drop)]
+pub struct Finished<I, O> {
+    input: I,
+    output: O,
+}
+
+impl<I, O> Model for Finished<I, O> {
+    ghost Value = { I × O };
+
+    ghost view = { λ f. (f.input, f.output) };
+}
+
+/// How many connections were served. Contracts see the count.
+#[derive(Drop)]
+pub struct Tally<I, O> {
+    count: u64,
+    of: PhantomData<(I, O)>,
+}
+
+impl<I, O> Model for Tally<I, O> {
+    ghost use Rattle.std.specs.Prelude.{ℕ, ◌<◌, ◌^◌};
+
+    ghost Value = { ℕ };
+
+    ghost view = { λ t. t.count };
+
+    ghost invariant = { λ t. t.count < 2 ^ 64 };
+}
+
+impl<I, O> Tally<I, O> {
+    /// A tally of no connection.
+    pub fn new() -> Tally<I, O>
+        ensures { result ≡ 0 }
+    {
+        Tally {
+            count: 0,
+            of: PhantomData,
+        }
+    }
+
+    /// How many connections were served.
+    pub fn count(&self) -> u64
+        ensures { result ≡ self.now }
+    {
+        self.count
+    }
+
+    /// Has a connection served, and counts it.
+    pub fn serve<S: Serves<I, O>, W: Wait>(
+        &mut self,
+        rt: &W,
+        alloc: Global,
+        server: &mut S,
+        input: I,
+        output: O,
+    ) -> Finished<I, O>
+        requires room { self.old + 1 < 2 ^ 64 }
+        ensures counted { self.new ≡ self.old + 1 }
+        ensures served { S.served server.old input output server.new result.0 result.1 }
+    {
+        let mut input = input;
+        let mut output = output;
+        self.count += 1;
+        server.serve(rt, alloc, &mut input, &mut output);
+        Finished { input, output }
+    }
+
+    /// Adds what another tally counts.
+    pub fn add(&mut self, other: Tally<I, O>)
+        requires room { self.old + other < 2 ^ 64 }
+        ensures { self.new ≡ self.old + other }
+    {
+        self.count += other.count;
+    }
+}
