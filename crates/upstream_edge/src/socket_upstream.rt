@@ -1,0 +1,140 @@
+//! An upstream over a socket.
+ghost use Rattle.std.specs.Prelude.{◌≡◌, ◌≤◌, ℕ, None, length, IfOk};
+ghost use Rattle.hub_devices.specs.FailingCalls.{one_more};
+
+use http_wire::writes::write_all;
+use hub_devices::sink::Sink;
+use hub_devices::source::{Failed, Source};
+use hub_edge::connection::{SocketSink, SocketSource};
+use hub_edge::targets::connect;
+use hub_kit::target::Target;
+use upstreams::upstream::Upstream;
+
+/// How many bytes wait for those behind them.
+const ROOM: usize = 16384;
+
+/// The two sides of a connection.
+#[derive(Drop)]
+struct Sides {
+    input: SocketSource,
+    output: SocketSink,
+}
+
+/// One connection after the other. What is sent first waits until more is sent or something is to be received, so that a head and the
+/// first bytes of its body go out in one write.
+#[derive(Drop)]
+pub struct SocketUpstream {
+    rt: HostRuntime,
+    sides: Option<Sides>,
+    waiting: Vec<u8>,
+    /// Whether nothing was sent yet.
+    is_fresh: bool,
+    faults: u64,
+}
+
+impl SocketUpstream {
+    pub fn new(rt: HostRuntime) -> SocketUpstream
+        ensures { ⟦<SocketUpstream as Upstream>⟧.faults result ≡ 0 }
+    {
+        SocketUpstream {
+            rt,
+            sides: None,
+            waiting: Vec::new(rt.alloc()),
+            is_fresh: true,
+            faults: 0,
+        }
+    }
+
+    /// Counts a fault. The count stands still at the greatest `u64`.
+    fn fail(&mut self) -> Failed
+        ensures counted { self.new.faults ≡ one_more self.old.faults }
+        ensures kept { self.old.faults ≤ self.new.faults }
+    {
+        self.faults = self.faults.saturating_add(1);
+        Failed
+    }
+
+    /// Writes what waits, and then these bytes.
+    fn write(&mut self, bytes: &[u8]) -> Result<(), Failed>
+        ensures { self.new.faults ≡ self.old.faults }
+    {
+        let Some(sides) = &mut self.sides else {
+            return Err(Failed);
+        };
+        let written = if self.waiting.is_empty() {
+            write_all(&mut sides.output, bytes)
+        } else {
+            if self.waiting.extend_from_slice(bytes).is_err() {
+                return Err(Failed);
+            }
+            let written = write_all(&mut sides.output, self.waiting.as_slice());
+            self.waiting.clear();
+            written
+        };
+        match written {
+            Ok(()) => Ok(()),
+            Err(_) => Err(Failed),
+        }
+    }
+
+    /// Keeps the first bytes until more come. It is false where they are too many.
+    fn waits(&mut self, bytes: &[u8]) -> bool
+        ensures { self.new.faults ≡ self.old.faults }
+    {
+        let is_first = self.is_fresh;
+        self.is_fresh = false;
+        is_first && bytes.len() <= ROOM && self.waiting.extend_from_slice(bytes).is_ok()
+    }
+
+    fn read(&mut self, into: &mut [u8]) -> Result<usize, Failed>
+        ensures fits { IfOk result (λ n. n ≤ length into.new) }
+        ensures same { self.new.faults ≡ self.old.faults }
+    {
+        let Some(sides) = &mut self.sides else {
+            return Err(Failed);
+        };
+        sides.input.read(into)
+    }
+}
+
+impl Upstream for SocketUpstream {
+    ghost told = { λ _. None };
+
+    ghost faults = { λ u. u.faults };
+
+    fn connect(&mut self, target: &Target) -> Result<(), Failed> {
+        self.waiting.clear();
+        self.is_fresh = true;
+        match connect(self.rt, target) {
+            Ok((input, output)) => {
+                self.sides = Some(Sides { input, output });
+                Ok(())
+            }
+            Err(_) => Err(self.fail()),
+        }
+    }
+
+    fn send(&mut self, bytes: &[u8]) -> Result<(), Failed> {
+        if self.waits(bytes) {
+            return Ok(());
+        }
+        match self.write(bytes) {
+            Ok(()) => Ok(()),
+            Err(_) => Err(self.fail()),
+        }
+    }
+
+    fn receive(&mut self, into: &mut [u8]) -> Result<usize, Failed> {
+        if !self.waiting.is_empty() && self.write(&[]).is_err() {
+            return Err(self.fail());
+        }
+        match self.read(into) {
+            Ok(count) => Ok(count),
+            Err(_) => Err(self.fail()),
+        }
+    }
+
+    fn finish(&mut self) {
+        self.sides = None;
+    }
+}
