@@ -1,0 +1,63 @@
+//! What forwards connections.
+ghost use Rattle.std.specs.Prelude.{[]};
+ghost use Rattle.proxy_serving.specs.Served.{IsForwarded};
+
+use hub_devices::clock::Clock;
+use hub_devices::sink::Sink;
+use hub_devices::source::Source;
+use proxy_core::forward::forward_one;
+use route_table::lookup::Lookup;
+use std::alloc::Global;
+use std::sync::Wait;
+use upstreams::upstream::Upstream;
+use worker_hall::Serves;
+
+/// A worker's own devices.
+#[derive(Drop)]
+pub struct ProxyKit<U: Upstream, C: Clock> {
+    pub upstream: U,
+    pub clock: C,
+}
+
+/// Forwards one request of each connection by the routes of the moment.
+#[derive(Drop)]
+pub struct Forwarder<R: Lookup, U: Upstream, C: Clock> {
+    pub routes: R,
+    pub kit: ProxyKit<U, C>,
+}
+
+impl<R: Lookup, U: Upstream, C: Clock, I: Source, O: Sink> Serves<I, O> for Forwarder<R, U, C> {
+    ghost served = { λ f i o f' i' o'. IsForwarded R.found (C.to_come f.kit.clock) (C.to_come f'.kit.clock)
+        (record {
+          left = I.left i;
+          kept = [];
+          held = O.held o;
+          told = U.told f.kit.upstream;
+          reads = I.faults i;
+          links = U.faults f.kit.upstream;
+          writes = O.faults o;
+        })
+        (record {
+          left = I.left i';
+          kept = [];
+          held = O.held o';
+          told = U.told f'.kit.upstream;
+          reads = I.faults i';
+          links = U.faults f'.kit.upstream;
+          writes = O.faults o';
+        })
+        f.routes f'.routes };
+
+    fn serve<W: Wait>(&mut self, _rt: &W, alloc: Global, input: &mut I, output: &mut O) {
+        let now = self.kit.clock.now();
+        // a fault ends this connection alone
+        let _ = forward_one(
+            alloc,
+            &mut self.routes,
+            now,
+            input,
+            output,
+            &mut self.kit.upstream,
+        );
+    }
+}

@@ -1,0 +1,223 @@
+//! A proxy over its two listeners.
+ghost use Rattle.std.specs.Prelude.{◌≡◌, ◌≤◌, ◌<◌, length};
+ghost use Rattle.worker_hall.specs.Given.{Gave};
+ghost use Rattle.proxy_serving.specs.Ends.{IsFault, IsOver, IsSaid};
+ghost use Rattle.proxy_serving.specs.Ends as spec;
+
+use crate::api_server::ApiServer;
+use crate::ends::{ProxyEnd, ProxyFault};
+use crate::forwarder::{Forwarder, ProxyKit};
+use crate::hiring::hire;
+use desk::{Desk, Pass};
+use http_wire::writes::write_all;
+use hub_devices::clock::Clock;
+use hub_devices::listener::Listener;
+use hub_devices::sink::Sink;
+use hub_kit::text::Text;
+use proxy_api::service::RouteService;
+use route_desk::{RouteBook, Router, open};
+use route_table::lookup::Lookup;
+use route_table::routes::Routes;
+use std::alloc::Global;
+use std::sync::Wait;
+use std::thread::{Threads, join_mut};
+use upstreams::upstream::Upstream;
+use worker_hall::{HallFault, Serves, serve};
+
+/// How many paths a table of routes has at most.
+const PATHS: u32 = 1_048_576;
+
+const READY: &[u8] = b"ready\n";
+
+/// Serves both listeners, that of the browsers and that of the interface for routes, each until it fails.
+pub fn serve_proxy<
+    L: Listener<In: Send, Out: Send> + Send,
+    A: Listener<In: Send, Out: Send> + Send,
+    U: Upstream + Send + Drop,
+    C: Clock + Send + Drop,
+    D: Clock + Send + Drop,
+    O: Sink,
+    W: Threads + Wait + Sync,
+>(
+    rt: &W,
+    alloc: Global,
+    secret: Text,
+    browsers: &mut L,
+    api: &mut A,
+    kits: Vec<ProxyKit<U, C>>,
+    time: D,
+    output: &mut O,
+) -> ProxyEnd
+    requires kits { 0 < length kits.items }
+    ensures said { IsSaid (O.held output.old) (O.held output.new) result.fault }
+    ensures forwarded { Gave (L.given browsers.old) result.forwarded (L.given browsers.new) }
+    ensures answered { Gave (A.given api.old) result.answered (A.given api.new) }
+    ensures fault { IsFault (L.faults browsers.old) (L.faults browsers.new) (A.faults api.old) (A.faults api.new)
+        (O.faults output.old) (O.faults output.new) result.forwarded result.answered result.fault }
+    ensures writes { O.faults output.old ≤ O.faults output.new }
+{
+    let Ok((desk, pass)) = open(alloc, Routes::new(alloc, PATHS)) else {
+        drop(kits);
+        return ended(0, 0, ProxyFault::Memory);
+    };
+    if write_all(output, READY).is_err() {
+        drop(kits);
+        drop(pass);
+        drop(desk);
+        return ended(0, 0, ProxyFault::Output);
+    }
+    serve_over(rt, alloc, &desk, pass, secret, browsers, api, kits, time)
+}
+
+fn ended(forwarded: u64, answered: u64, fault: ProxyFault) -> ProxyEnd
+    ensures { result ≡ record { forwarded = forwarded; answered = answered; fault = fault } }
+{
+    ProxyEnd {
+        forwarded,
+        answered,
+        fault,
+    }
+}
+
+/// The same over an open desk, once `ready` was written.
+fn serve_over<
+    'a,
+    L: Listener<In: Send, Out: Send> + Send,
+    A: Listener<In: Send, Out: Send> + Send,
+    U: Upstream + Send + Drop,
+    C: Clock + Send + Drop,
+    D: Clock + Send + Drop,
+    W: Threads + Wait + Sync,
+>(
+    rt: &'a W,
+    alloc: Global,
+    desk: &'a Desk<RouteBook>,
+    pass: Pass<RouteBook>,
+    secret: Text,
+    browsers: &mut L,
+    api: &mut A,
+    kits: Vec<ProxyKit<U, C>>,
+    time: D,
+) -> ProxyEnd
+    requires of { pass.of ≡ desk.now }
+    requires kits { 0 < length kits.items }
+    ensures forwarded { Gave (L.given browsers.old) result.forwarded (L.given browsers.new) }
+    ensures answered { Gave (A.given api.old) result.answered (A.given api.new) }
+    ensures over { IsOver (L.faults browsers.old) (L.faults browsers.new) (A.faults api.old) (A.faults api.new)
+        result.forwarded result.answered result.fault }
+{
+    let mut pass = pass;
+    let Ok(forwarders) = hire(alloc, rt, desk, &mut pass, kits) else {
+        drop(pass);
+        drop(secret);
+        drop(time);
+        return ended(0, 0, ProxyFault::Memory);
+    };
+    let routes = Router {
+        wait: rt,
+        desk,
+        pass,
+    };
+    let server = ApiServer {
+        routes,
+        secret,
+        clock: time,
+    };
+    serve_routes(rt, alloc, browsers, forwarders, api, server)
+}
+
+/// The same with what serves the connections.
+fn serve_routes<
+    L: Listener<In: Send, Out: Send> + Send,
+    A: Listener<In: Send, Out: Send> + Send,
+    R: Lookup + RouteService + Send + Drop,
+    U: Upstream + Send + Drop,
+    C: Clock + Send + Drop,
+    D: Clock + Send + Drop,
+    W: Threads + Wait + Sync,
+>(
+    rt: &W,
+    alloc: Global,
+    browsers: &mut L,
+    forwarders: Vec<Forwarder<R, U, C>>,
+    api: &mut A,
+    server: ApiServer<R, D>,
+) -> ProxyEnd
+    requires forwarders { 0 < length forwarders.items }
+    ensures forwarded { Gave (L.given browsers.old) result.forwarded (L.given browsers.new) }
+    ensures answered { Gave (A.given api.old) result.answered (A.given api.new) }
+    ensures over { IsOver (L.faults browsers.old) (L.faults browsers.new) (A.faults api.old) (A.faults api.new)
+        result.forwarded result.answered result.fault }
+{
+    let mut forwarders = forwarders;
+    let mut servers = Vec::new(alloc);
+    if servers.push(server).is_err() {
+        drop(forwarders);
+        return ended(0, 0, ProxyFault::Memory);
+    }
+    serve_both(
+        rt,
+        alloc,
+        browsers,
+        forwarders.as_mut_slice(),
+        api,
+        servers.as_mut_slice(),
+    )
+}
+
+/// Serves each listener by its servers, both at once.
+fn serve_both<
+    L: Listener<In: Send, Out: Send> + Send,
+    A: Listener<In: Send, Out: Send> + Send,
+    F: Serves<L::In, L::Out> + Send,
+    S: Serves<A::In, A::Out> + Send,
+    W: Threads + Wait + Sync,
+>(
+    rt: &W,
+    alloc: Global,
+    browsers: &mut L,
+    forwarders: &mut [F],
+    api: &mut A,
+    servers: &mut [S],
+) -> ProxyEnd
+    requires forwarders { 0 < length forwarders.old }
+    requires servers { 0 < length servers.old }
+    ensures forwarded { Gave (L.given browsers.old) result.forwarded (L.given browsers.new) }
+    ensures answered { Gave (A.given api.old) result.answered (A.given api.new) }
+    ensures over { IsOver (L.faults browsers.old) (L.faults browsers.new) (A.faults api.old) (A.faults api.new)
+        result.forwarded result.answered result.fault }
+{
+    let (forwarded, answered) = join_mut(
+        rt,
+        &mut ||
+            requires { 0 < length forwarders.now }
+        { serve(rt, alloc, browsers, forwarders, u64::MAX) },
+        &mut ||
+            requires { 0 < length servers.now }
+        { serve(rt, alloc, api, servers, u64::MAX) },
+    );
+    ended(
+        forwarded.0.count(),
+        answered.0.count(),
+        fault_of(forwarded.1, answered.1),
+    )
+}
+
+/// Why no more connections were served.
+fn fault_of(forwarded: Result<(), HallFault>, answered: Result<(), HallFault>) -> ProxyFault
+    ensures { result ≡ spec.fault_of forwarded answered }
+{
+    match forwarded {
+        Ok(()) => match answered {
+            Ok(()) => ProxyFault::Full,
+            Err(HallFault::Listener(_)) => ProxyFault::Listener,
+            Err(HallFault::Memory) => ProxyFault::Memory,
+        },
+        Err(HallFault::Listener(_)) => match answered {
+            Ok(()) => ProxyFault::Listener,
+            Err(HallFault::Listener(_)) => ProxyFault::Listener,
+            Err(HallFault::Memory) => ProxyFault::Memory,
+        },
+        Err(HallFault::Memory) => ProxyFault::Memory,
+    }
+}
