@@ -1,0 +1,3 @@
+pub mod Access
+pub mod Denials
+pub mod Guards
