@@ -1,0 +1,3 @@
+pub mod CookieLemmas
+pub mod LawLemmas
+pub mod LoginLemmas

@@ -1,0 +1,57 @@
+-- What the rules of a sign-in come to.
+use Rattle.std.specs.Prelude.{◌≡◌, ℕ, true, List, take, bytes_eq, codes, Option, Some, Ok}
+use Rattle.http_wire.specs.declared.head.Head.{Head}
+use Rattle.http_wire.specs.Target.{query_of}
+use Rattle.request_parts.specs.Queries.{query_value}
+use Rattle.guard.specs.Access.{access_request, access_in}
+use Rattle.guard_login.specs.Cookies.{cookie_of}
+use Rattle.guard_login.specs.Nexts.{base_of, is_next}
+use Rattle.guard_login.specs.Signed.{Given, said, signed, passes, gives, token_given, called, token_in}
+use Rattle.guard_login.specs.Texts.{trade_text}
+use Rattle.guard_login.specs.declared.cookies.Cookie.TheVariants.{State}
+use Rattle.guard_login.specs.declared.door.Door.{Door}
+use Rattle.guard_login.specs.declared.steps.Called.{Called}
+
+-- the hub said in this call that it admits the request's token
+pub record Admitted (door : Door) (head : Head) (given : Given) (ask : Option (List ℕ)) : Type 0 where
+  pub token : List ℕ
+  pub body : List ℕ
+  pub given_token : token_given head ≡ Some token
+  pub asks : ask ≡ Some (access_request door.key token)
+  pub says : given ≡ said (Some (200, body))
+  pub admits : access_in body ≡ Some true
+
+-- the state that a callback brings is that of the browser's cookie
+pub record SameState (head : Head) : Type 0 where
+  pub state : List ℕ
+  pub cookie : List ℕ
+  pub brought : query_value (codes "state") (query_of head.target) ≡ Some state
+  pub kept : cookie_of State head.headers ≡ Some cookie
+  pub same : bytes_eq (take 32 cookie) state ≡ true
+
+-- a code that came with the browser's own state was traded in this call for this token
+pub record Traded (door : Door) (head : Head) (given : Given) (ask : Option (List ℕ)) (token next : List ℕ) : Type 0 where
+  pub own : SameState head
+  pub call : Called
+  pub body : List ℕ
+  pub calls : called door head ≡ Ok call
+  pub asks : ask ≡ Some (trade_text door call.code)
+  pub says : given ≡ said (Some (200, body))
+  pub has : token_in body ≡ Some token
+  pub goes : next ≡ call.next
+
+abbrev pub PassesOnlyAdmitted : Type 0
+PassesOnlyAdmitted =
+    (door : Door) (head : Head) (given : Given) (draw : Option (List ℕ)) → (signed door head given draw).answer ≡ passes
+    → Admitted door head given (signed door head given draw).ask
+
+abbrev pub GivesOnlyTraded : Type 0
+GivesOnlyTraded =
+    (door : Door) (head : Head) (given : Given) (draw : Option (List ℕ)) (token next : List ℕ)
+    → (signed door head given draw).answer ≡ gives token next → Traded door head given (signed door head given draw).ask token next
+
+-- a browser that gets its token goes on within the server's own paths
+abbrev pub GoesOnlyWithin : Type 0
+GoesOnlyWithin =
+    (door : Door) (head : Head) (given : Given) (draw : Option (List ℕ)) (token next : List ℕ)
+    → (signed door head given draw).answer ≡ gives token next → is_next (base_of door.key) next ≡ true

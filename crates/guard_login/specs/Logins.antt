@@ -1,0 +1,72 @@
+-- One request at a guard that lets browsers sign in, and how it ends.
+use Rattle.std.specs.Prelude.{◌≡◌, ◌⊎◌, ◌≤◌, ◌++◌, ℕ, List, [], Option, Result, Ok}
+use Rattle.httparse.specs.Grammar.{RequestHead, print_request}
+use Rattle.hub_link.specs.Links.{Exchange}
+use Rattle.http_wire.specs.declared.error.SessionFault.{SessionFault}
+use Rattle.http_wire.specs.declared.head.Head.{Head}
+use Rattle.http_wire.specs.Head.{head_of}
+use Rattle.http_wire.specs.Took.{Took}
+use Rattle.http_wire.specs.Wire.{IsServedHead}
+use Rattle.proxy_wire.specs.declared.framing.Framing.{Framing}
+use Rattle.proxy_wire.specs.Framing.{request_framing}
+use Rattle.proxy_wire.specs.Heads.{request_text}
+use Rattle.proxy_core.specs.declared.refusals.Forwarded.{Forwarded}
+use Rattle.proxy_core.specs.Passes.{Place, Going, PassOn}
+use Rattle.guard.specs.Guards.{Unsent, Unread, Unframed}
+use Rattle.guard_login.specs.Answers.{IsGiven, IsUngiven, draws, Drew, signing, carrying, Wants, Answers}
+use Rattle.guard_login.specs.Signed.{Given, Answer, passes, refuses, sends, gives, asked, stepped, answered}
+use Rattle.guard_login.specs.declared.answers.Signed.{Signed}
+use Rattle.guard_login.specs.declared.door.Door.{Door}
+use Rattle.guard_login.specs.declared.steps.Step.{Step}
+
+-- a request as it is sent on
+abbrev pub going_of : Head → Framing → Going
+going_of head framing = record { method = head.method; text = request_text head; framing = framing }
+
+-- the answer to a request whose head was taken: it was passed on, or nothing was sent to the upstream
+abbrev pub Ends : Door → Head → Framing → Answer → Place → Place → Result Signed SessionFault → Type 0
+Ends door head framing passes old new result =
+    (f : Result Forwarded SessionFault) × PassOn (going_of head framing) door.target old new f × (result ≡ carrying f)
+Ends door head framing (refuses denial) old new result =
+    Unsent old new × Answers door (refuses denial) old.held new.held old.writes new.writes result
+Ends door head framing (sends state next) old new result =
+    Unsent old new × Answers door (sends state next) old.held new.held old.writes new.writes result
+Ends door head framing (gives token next) old new result =
+    Unsent old new × Answers door (gives token next) old.held new.held old.writes new.writes result
+
+-- what the answer to a step did, with its draw if it takes one
+abbrev pub Finishes : {R : Type 0} → (R → Option (List (List ℕ))) → (R → ℕ) → R → R → Door → Head → Framing → Step → Place → Place
+    → Result Signed SessionFault → Type 0
+Finishes left faults random random' door head framing step old new result =
+    (draw : Option (List ℕ)) × Drew left faults random random' (draws step) draw
+    × Ends door head framing (answered door head step draw) old new result
+
+-- what was done with a head: the hub was asked and gave this, and the step was finished; or there was no memory for the ask
+abbrev pub Follows : {R : Type 0} → (R → Option (List (List ℕ))) → (R → ℕ) → R → R → Door → Head → Framing → List Exchange → ℕ → ℕ
+    → Place → Place → Result Signed SessionFault → Type 0
+Follows left faults random random' door head framing asks fails fails' old new result =
+    ((given : Given) × IsGiven (asked door head) asks fails fails' given
+    × Finishes left faults random random' door head framing (stepped door head given) old new result)
+    ⊎ (IsUngiven (asked door head) asks × (random' ≡ random) × Unsent old new × Wants old.held new.held old.writes new.writes result)
+
+-- a head came whose body has a length that is served
+pub record Stepped {R : Type 0} (left_of : R → Option (List (List ℕ))) (faults : R → ℕ) (random random' : R) (door : Door)
+    (asks : List Exchange) (fails fails' : ℕ) (old new : Place) (result : Result Signed SessionFault) : Type 0 where
+  pub head : RequestHead
+  pub is : IsServedHead head
+  pub left : Option (List ℕ)
+  pub kept : List ℕ
+  pub reads : ℕ
+  pub framing : Framing
+  pub took : Took old.left [] left (print_request head ++ kept)
+  pub counted : old.reads ≤ reads
+  pub framed : request_framing (head_of head).headers ≡ Ok framing
+  pub follows : Follows left_of faults random random' door (head_of head) framing asks fails fails'
+      (record old { left = left; kept = kept; reads = reads }) new result
+
+-- how one request ends: without a head that is served nothing was asked or drawn
+abbrev pub LoginEnds : {R : Type 0} → (R → Option (List (List ℕ))) → (R → ℕ) → R → R → Door → List Exchange → ℕ → ℕ
+    → Place → Place → Result Signed SessionFault → Type 0
+LoginEnds left faults random random' door asks fails fails' old new result =
+    ((f : Result Forwarded SessionFault) × (Unread asks old new f ⊎ Unframed asks old new f) × (result ≡ signing f) × (random' ≡ random))
+    ⊎ Stepped left faults random random' door asks fails fails' old new result
