@@ -9,6 +9,10 @@ mod of_api;
 #[cfg(test)]
 mod of_forward;
 #[cfg(test)]
+mod of_guard;
+#[cfg(test)]
+mod of_login;
+#[cfg(test)]
 mod of_routes;
 #[cfg(test)]
 mod of_tunnel;
