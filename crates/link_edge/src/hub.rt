@@ -1,0 +1,95 @@
+//! A hub behind a socket.
+ghost use Rattle.std.specs.Prelude.{◌≡◌, ℕ, None, ⊤};
+
+use crate::limits::{REPLY_BYTES, REPLY_SECONDS};
+use http_wire::writes::write_all;
+use hub_devices::link_error::LinkError;
+use hub_devices::source::Source;
+use hub_edge::connection::SocketSource;
+use hub_edge::targets::connect;
+use hub_kit::bytes::Bytes;
+use hub_kit::target::Target;
+use hub_link::link::HubLink;
+use std::io::{self, ErrorKind};
+use std::time::{Duration, Instant};
+
+/// How many bytes are read at once.
+const PIECE: usize = 16384;
+
+/// Asks the hub at a target, by a connection for each request. A reply ends where the hub ends the connection, so each request
+/// has to wish that.
+#[derive(Drop)]
+pub struct SocketHub {
+    rt: HostRuntime,
+    target: Target,
+    faults: u64,
+}
+
+impl SocketHub {
+    /// Asks nothing yet.
+    pub fn new(rt: HostRuntime, target: Target) -> SocketHub
+        ensures { ⟦<SocketHub as HubLink>⟧.faults result ≡ 0 }
+    {
+        SocketHub {
+            rt,
+            target,
+            faults: 0,
+        }
+    }
+
+    /// Sends a request, and reads all that comes.
+    fn exchange(&self, request: &Bytes) -> io::Result<Bytes> {
+        let (mut input, mut output) = connect(self.rt, &self.target)?;
+        if write_all(&mut output, request.as_slice()).is_err() {
+            return Err(io::Error::from(ErrorKind::WriteZero));
+        }
+        let reply = read_to_end(&self.rt, &mut input);
+        // the connection ends when both of its sides do
+        drop(output);
+        reply
+    }
+}
+
+/// All that comes, within the limits of a reply.
+fn read_to_end(rt: &HostRuntime, input: &mut SocketSource) -> io::Result<Bytes> {
+    let begun = Instant::now(rt)?;
+    let limit = Duration::from_secs(REPLY_SECONDS);
+    let mut reply = Bytes::new(rt.alloc());
+    let mut piece = [0u8; PIECE];
+    // each read gives at least one byte, or the end
+    for _ in 0..=REPLY_BYTES {
+        if begun.elapsed(rt)? > limit {
+            return Err(io::Error::from(ErrorKind::TimedOut));
+        }
+        let Ok(count) = input.read(&mut piece) else {
+            return Err(io::Error::from(ErrorKind::UnexpectedEof));
+        };
+        if count == 0 {
+            return Ok(reply);
+        }
+        if count > REPLY_BYTES || reply.len() > REPLY_BYTES - count {
+            break;
+        }
+        reply.push_all(&piece[..count])?;
+    }
+    Err(io::Error::from(ErrorKind::InvalidData))
+}
+
+impl HubLink for SocketHub {
+    ghost asked = { λ _. None };
+
+    ghost faults = { λ l. l.faults };
+
+    ghost does = { λ before request given after. ⊤ };
+
+    fn ask(&mut self, request: &Bytes) -> Result<Bytes, LinkError> {
+        match self.exchange(request) {
+            Ok(reply) => Ok(reply),
+            Err(error) if error.kind() == ErrorKind::OutOfMemory => Err(LinkError::Memory),
+            Err(_) => {
+                self.faults = self.faults.saturating_add(1);
+                Err(LinkError::Failed)
+            }
+        }
+    }
+}
