@@ -1,9 +1,9 @@
 //! The system's devices.
-use crate::output::Output;
 use hub_devices::mem_routes::MemRouteLink;
 use hub_devices::mem_spawner::MemSpawner;
 use hub_devices::streams::ReaderSource;
 use hub_edge::files::SystemFiles;
+use hub_edge::output::Output;
 use hub_edge::random::SystemRandom;
 use hub_main::world::World;
 use hub_store::file_places::FilePlaces;

@@ -9,13 +9,6 @@ use hub_main::world::Outside;
 use hub_store::file_places::FileError;
 use sqlite::Start;
 use std::io::ErrorKind;
-use std::process::ExitCode;
-
-/// Says why there is this status.
-pub(crate) fn say(rt: &HostRuntime, status: u8, why: &str) -> ExitCode {
-    let _ = eprintln!(rt; "hub: {why}");
-    ExitCode::from(status)
-}
 
 /// Why the file of configuration wasn't read.
 fn file_cause(files: &SystemFiles) -> &'static str {

@@ -1,0 +1,102 @@
+//! The command `proxy` over the system's devices: its words, the file with its secret, its two listeners, and its workers' targets.
+//! What it does is the contract of `proxy_serving::serve_proxy`; it adds the statuses of what can't begin, and what is said to people on
+//! standard error, of which no contract speaks.
+//! The program `hub` stands above.
+#![tactic(auto)]
+
+ghost use Rattle.std.specs.Prelude.{◌<◌, length, IfOk};
+
+use hub_edge::clock::SystemClock;
+use hub_edge::files::SystemFiles;
+use hub_edge::listener::SocketListener;
+use hub_edge::output::{Output, say};
+use hub_kit::text::Text;
+use hub_words::proxy::{ProxyWords, read_proxy};
+use hub_words::word_error::WordError;
+use proxy_serving::{ProxyFault, ProxyKit, serve_proxy};
+use secret_files::{SecretError, read_secret_file};
+use std::alloc::AllocError;
+use std::process::ExitCode;
+use std::sync::Wait;
+use std::thread::Threads;
+use upstream_edge::SocketUpstream;
+
+/// How many connections are forwarded at once.
+const WORKERS: usize = 1024;
+
+const USAGE: &str =
+    "these are not the words of the command: hub proxy --listen A --api A --secret-file F";
+
+type Kit = ProxyKit<SocketUpstream, SystemClock>;
+
+fn new_kit(rt: HostRuntime) -> Kit {
+    ProxyKit {
+        upstream: SocketUpstream::new(rt),
+        clock: SystemClock::new(rt),
+    }
+}
+
+/// The devices of each worker.
+fn new_kits(rt: HostRuntime) -> Result<Vec<Kit>, AllocError>
+    ensures { IfOk result (λ kits. 0 < length kits.items) }
+{
+    let mut kits = Vec::new(rt.alloc());
+    for _ in 1..WORKERS {
+        kits.push(new_kit(rt))?;
+    }
+    kits.push(new_kit(rt))?;
+    Ok(kits)
+}
+
+/// Serves at the addresses of the words.
+fn serve_at<W: Threads + Wait + Sync>(
+    rt: HostRuntime,
+    wait: &W,
+    words: &ProxyWords,
+    secret: Text,
+) -> ExitCode {
+    let Ok(mut browsers) = SocketListener::bind(rt, words.listen.as_str()) else {
+        return say(&rt, 8, "the address of --listen can't be had");
+    };
+    let Ok(mut api) = SocketListener::bind(rt, words.api.as_str()) else {
+        return say(&rt, 8, "the address of --api can't be had");
+    };
+    let Ok(kits) = new_kits(rt) else {
+        return say(&rt, 7, "there is no memory");
+    };
+    let time = SystemClock::new(rt);
+    let mut output = Output::new(rt);
+    let end = serve_proxy(
+        wait,
+        rt.alloc(),
+        secret,
+        &mut browsers,
+        &mut api,
+        kits,
+        time,
+        &mut output,
+    );
+    let why = match end.fault {
+        ProxyFault::Memory => "there is no memory",
+        ProxyFault::Output => "ready couldn't be written",
+        ProxyFault::Listener => "a listener failed",
+        ProxyFault::Full => "no more connections can be counted",
+    };
+    say(&rt, end.fault.status(), why)
+}
+
+/// Runs the command `proxy` with these words over the system's devices.
+pub fn proxy<W: Threads + Wait + Sync>(rt: HostRuntime, wait: &W, words: &[Text]) -> ExitCode {
+    let words = match read_proxy(rt.alloc(), words) {
+        Ok(words) => words,
+        Err(WordError::Refused) => return say(&rt, 2, USAGE),
+        Err(WordError::Memory) => return say(&rt, 7, "there is no memory"),
+    };
+    let mut files = SystemFiles::new(rt);
+    match read_secret_file(rt.alloc(), &mut files, &words.secret_file) {
+        Ok(secret) => serve_at(rt, wait, &words, secret),
+        Err(SecretError::NoFile) => say(&rt, 3, "the file with the secret wasn't read"),
+        Err(SecretError::NoSecret) => say(&rt, 3, "the file's text is no secret"),
+        Err(SecretError::Memory) => say(&rt, 7, "there is no memory"),
+    }
+}

@@ -1,0 +1,212 @@
+//! The command `serve`: a hub on a socket, which starts programs.
+ghost use Rattle.std.specs.Prelude.{◌<◌, length, IfOk};
+
+use crate::stores::{ProgramStore, new_store};
+use crate::system::ServeSystem;
+use crate::telling::{announce, tell_refused, tell_served};
+use hub_edge::clock::SystemClock;
+use hub_edge::ending::close_at_end_of_input;
+use hub_edge::files::SystemFiles;
+use hub_edge::listener::{Closer, SocketListener};
+use hub_edge::output::{Output, say};
+use hub_edge::programs::{AllStarted, Programs};
+use hub_edge::random::SystemRandom;
+use hub_edge::routes::{AllRoutes, KeptRoutes};
+use hub_kit::list::List;
+use hub_kit::text::Text;
+use hub_run::HubKit;
+use hub_serving::end::{End, line_status};
+use hub_serving::plan::{Plan, read_plan};
+use hub_serving::run::run;
+use hub_serving::world::ServeOutside;
+use std::alloc::{AllocError, Global};
+use std::io;
+use std::process::ExitCode;
+use std::sync::{Arc, Mutex, Wait};
+use std::thread::Threads;
+
+/// The status where the listener fails.
+const NO_LISTENER: u8 = 8;
+
+/// What the workers share.
+#[derive(Drop)]
+struct Shared {
+    started: AllStarted,
+    routes: AllRoutes,
+    command: Arc<List<Text>, Global>,
+}
+
+impl Shared {
+    fn new(alloc: Global, command: &[Text]) -> Result<Shared, AllocError> {
+        let mut words = Vec::new(alloc);
+        for word in command {
+            words.push(word.copy(alloc)?)?;
+        }
+        Ok(Shared {
+            started: Arc::new(alloc, Mutex::new(Vec::new(alloc)))?,
+            routes: Arc::new(alloc, Mutex::new(Vec::new(alloc)))?,
+            command: Arc::new(alloc, List::from_vec(words))?,
+        })
+    }
+}
+
+/// The devices of a worker.
+type Kit<H> = HubKit<Programs<H>, KeptRoutes<H>, SystemClock, SystemRandom<HostRuntime>>;
+
+fn new_kit<H: Threads + Wait + Copy + Send + Sync>(
+    rt: HostRuntime,
+    handle: H,
+    shared: &Shared,
+) -> Result<Kit<H>, AllocError> {
+    let started = Arc::try_clone(&shared.started)?;
+    let routes = Arc::try_clone(&shared.routes)?;
+    let command = Arc::try_clone(&shared.command)?;
+    Ok(HubKit {
+        spawner: Programs::new(rt, handle, started, command),
+        routes: KeptRoutes::new(rt.alloc(), handle, routes),
+        clock: SystemClock::new(rt),
+        random: SystemRandom::new(rt),
+    })
+}
+
+/// A kit for each worker, at least one.
+fn new_kits<H: Threads + Wait + Copy + Send + Sync>(
+    rt: HostRuntime,
+    handle: H,
+    shared: &Shared,
+    workers: u32,
+) -> Result<Vec<Kit<H>>, AllocError>
+    ensures { IfOk result (λ kits. 0 < length kits.items) }
+{
+    let mut kits = Vec::new(rt.alloc());
+    for _ in 1..workers {
+        kits.push(new_kit(rt, handle, shared)?)?;
+    }
+    kits.push(new_kit(rt, handle, shared)?)?;
+    Ok(kits)
+}
+
+/// The listener, and what closes it. It is closed where standard input ends.
+fn open_listener<H: Threads + Wait>(
+    rt: HostRuntime,
+    handle: &H,
+    address: &Text,
+) -> io::Result<(SocketListener, Closer)> {
+    let listener = SocketListener::bind(rt, address.as_str())?;
+    let closer = listener.closer()?;
+    close_at_end_of_input(rt, handle, listener.closer()?)?;
+    Ok((listener, closer))
+}
+
+/// The outside, but for what keeps the rows.
+fn outside<K: ProgramStore + Send, H: Threads + Wait + Copy + Send + Sync>(
+    rt: HostRuntime,
+    handle: H,
+    plan: &Plan,
+    listener: SocketListener,
+) -> Result<ServeOutside<ServeSystem<K, H>>, AllocError>
+    ensures { IfOk result (λ o. 0 < length o.kits.items) }
+{
+    let shared = Shared::new(rt.alloc(), plan.command.as_slice())?;
+    let kit = new_kit(rt, handle, &shared)?;
+    let kits = new_kits(rt, handle, &shared, plan.workers)?;
+    Ok(ServeOutside {
+        output: Output::new(rt),
+        store: None,
+        kit,
+        kits,
+        doors: listener,
+        files: SystemFiles::new(rt),
+        end: None,
+    })
+}
+
+/// The status, where a listener that was closed since standard input ended hasn't failed: what was accepted is served.
+fn forgiving(status: u8, end: &Option<End>, closer: &Closer) -> u8 {
+    match end {
+        Some(Ok(ended)) if ended.failed && closer.is_closed() => line_status(ended.line),
+        _ => status,
+    }
+}
+
+/// Runs the command over these devices and this store, and says why it didn't do its work if it didn't.
+fn run_over<K: ProgramStore + Send, H: Threads + Wait + Copy + Send + Sync>(
+    rt: &HostRuntime,
+    handle: &H,
+    words: &[Text],
+    outside: &mut ServeOutside<ServeSystem<K, H>>,
+    store: K,
+    closer: &Closer,
+) -> u8
+    requires { 0 < length outside.old.kits.items }
+{
+    outside.store = Some(store);
+    let status = run(handle, rt.alloc(), words, outside);
+    let status = forgiving(status, &outside.end, closer);
+    if status != 0 {
+        tell_served(rt, words, outside);
+    }
+    status
+}
+
+/// Serves what the words and their file say.
+fn serve_plan<K: ProgramStore + Send, H: Threads + Wait + Copy + Send + Sync>(
+    rt: HostRuntime,
+    handle: H,
+    words: &[Text],
+    plan: &Plan,
+    store: K,
+) -> ExitCode {
+    let Ok((listener, closer)) = open_listener(rt, &handle, &plan.listen) else {
+        drop(store);
+        return say(
+            &rt,
+            NO_LISTENER,
+            "the address of `listen` can't be listened at",
+        );
+    };
+    announce(&rt, plan, &listener);
+    let Ok(mut outside) = outside(rt, handle, plan, listener) else {
+        drop(store);
+        return say(&rt, 7, "there is no memory");
+    };
+    let status = run_over(&rt, &handle, words, &mut outside, store, &closer);
+    if let Some(store) = outside.store.take() {
+        store.close();
+    }
+    drop(outside);
+    ExitCode::from(status)
+}
+
+/// The command over this store.
+fn serve_over<K: ProgramStore + Send, H: Threads + Wait + Copy + Send + Sync>(
+    rt: HostRuntime,
+    handle: H,
+    words: &[Text],
+    store: K,
+) -> ExitCode {
+    let mut files = SystemFiles::new(rt);
+    match read_plan(rt.alloc(), &mut files, words) {
+        Ok(plan) => {
+            let code = serve_plan(rt, handle, words, &plan, store);
+            drop(plan);
+            code
+        }
+        Err(why) => {
+            drop(store);
+            tell_refused(&rt, words, &files, why)
+        }
+    }
+}
+
+/// Runs the command `serve` with these words over the system's devices and a store in memory. A place for the rows is refused.
+pub fn serve<H: Threads + Wait + Copy + Send + Sync>(
+    rt: HostRuntime,
+    handle: H,
+    words: &[Text],
+) -> ExitCode {
+    match new_store(rt) {
+        Ok(store) => serve_over(rt, handle, words, store),
+        Err(_) => say(&rt, 7, "there is no memory"),
+    }
+}

@@ -1,0 +1,37 @@
+//! The system's devices.
+use crate::stores::ProgramStore;
+use hub_edge::clock::SystemClock;
+use hub_edge::files::SystemFiles;
+use hub_edge::listener::SocketListener;
+use hub_edge::output::Output;
+use hub_edge::programs::Programs;
+use hub_edge::random::SystemRandom;
+use hub_edge::routes::KeptRoutes;
+use hub_serving::world::ServeWorld;
+use std::marker::PhantomData;
+use std::sync::Wait;
+use std::thread::Threads;
+
+/// The devices of a hub that serves.
+pub(crate) struct ServeSystem<K: ProgramStore + Send, H: Threads + Wait + Copy + Send + Sync> {
+    of: PhantomData<(K, H)>,
+}
+
+impl<K: ProgramStore + Send, H: Threads + Wait + Copy + Send + Sync> ServeWorld
+    for ServeSystem<K, H> {
+    type Out = Output;
+
+    type Store = K;
+
+    type Starts = Programs<H>;
+
+    type Paths = KeptRoutes<H>;
+
+    type Time = SystemClock;
+
+    type Draws = SystemRandom<HostRuntime>;
+
+    type Doors = SocketListener;
+
+    type Reads = SystemFiles;
+}

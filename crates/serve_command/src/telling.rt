@@ -1,0 +1,111 @@
+//! What is said on standard error: where the hub listens, and why it didn't serve what it was asked for. It changes no status, and where it
+//! can't be said nothing is.
+use crate::stores::ProgramStore;
+use crate::system::ServeSystem;
+use hub_edge::files::SystemFiles;
+use hub_edge::listener::SocketListener;
+use hub_kit::text::Text;
+use hub_main::cause::Cause;
+use hub_serving::end::NotServed;
+use hub_serving::plan::Plan;
+use hub_serving::world::ServeOutside;
+use std::alloc::AllocError;
+use std::io::ErrorKind;
+use std::process::ExitCode;
+use std::sync::Wait;
+use std::thread::Threads;
+
+/// Says why a command didn't do its work, if it didn't, and what the devices add.
+fn say_why(rt: &HostRuntime, why: Result<Option<String>, AllocError>, more: &str) {
+    match why {
+        Ok(Some(why)) => {
+            let _ = eprintln!(rt; "hub: {why}{more}");
+        }
+        Ok(None) => {}
+        Err(_) => {
+            let _ = eprintln!(rt; "hub: there is no memory");
+        }
+    }
+}
+
+/// Why the file of configuration wasn't read.
+fn file_cause(files: &SystemFiles) -> &'static str {
+    match files.cause() {
+        Some(ErrorKind::NotFound) => ": there is no such file",
+        Some(ErrorKind::PermissionDenied) => ": it may not be read",
+        Some(ErrorKind::InvalidInput) => ": it is no regular file",
+        _ => ": reading it failed",
+    }
+}
+
+/// What the devices add.
+fn device_cause<K: ProgramStore>(
+    cause: &Cause,
+    files: &SystemFiles,
+    store: &Option<K>,
+) -> &'static str {
+    match cause {
+        Cause::NoFile => file_cause(files),
+        Cause::NoStore => match store {
+            Some(store) => store.refusal(),
+            None => "",
+        },
+        _ => "",
+    }
+}
+
+/// Says why the hub didn't serve all that it was asked for, if it didn't.
+pub(crate) fn tell_served<K: ProgramStore + Send, H: Threads + Wait + Copy + Send + Sync>(
+    rt: &HostRuntime,
+    words: &[Text],
+    outside: &ServeOutside<ServeSystem<K, H>>,
+) {
+    let Some(end) = &outside.end else {
+        return;
+    };
+    let more = match end {
+        Err(NotServed::Because(cause)) => device_cause(cause, &outside.files, &outside.store),
+        _ => "",
+    };
+    say_why(
+        rt,
+        hub_serving::explain::explain(rt.alloc(), words, end),
+        more,
+    );
+}
+
+/// Says why the words or the file of `serve` are refused.
+pub(crate) fn tell_refused(
+    rt: &HostRuntime,
+    words: &[Text],
+    files: &SystemFiles,
+    why: NotServed,
+) -> ExitCode {
+    let status = why.status();
+    let more = match &why {
+        NotServed::Because(Cause::NoFile) => file_cause(files),
+        _ => "",
+    };
+    let end = Err(why);
+    say_why(
+        rt,
+        hub_serving::explain::explain(rt.alloc(), words, &end),
+        more,
+    );
+    ExitCode::from(status)
+}
+
+/// Says where the hub listens, over which store, and with how many configured users and workers.
+pub(crate) fn announce(rt: &HostRuntime, plan: &Plan, listener: &SocketListener) {
+    let place = match &plan.db {
+        Some(name) => name.as_str(),
+        None => "memory",
+    };
+    let address = plan.listen.as_str();
+    let port = listener.port().unwrap_or(0);
+    let users = plan.hub.users.as_slice().len();
+    let workers = plan.workers;
+    let _ = eprintln!(rt;
+        "hub: listens at {address}, port {port}, over {place}: {users} configured users, {workers} workers"
+    );
+}
