@@ -121,7 +121,7 @@ fn proxy(rt: HostRuntime) -> Result<(), AllocError> {
     Ok(())
 }
 
-const GUARD: [(&str, bool); 5] = [
+const GUARD: [(&str, bool); 7] = [
     (
         "guard --listen hub:1 --for ann/lab --hub http://hub --target http://lab:8",
         true,
@@ -140,6 +140,14 @@ const GUARD: [(&str, bool); 5] = [
     ),
     (
         "guard --listen hub:1 --for ann/ --hub http://hub --target lab:8",
+        false,
+    ),
+    (
+        "guard --listen hub:1 --for ann/ --hub http://hub --target http://lab --secret-file F",
+        true,
+    ),
+    (
+        "guard --listen hub:1 --for ann/ --hub http://hub --target http://lab --secret-file",
         false,
     ),
 ];

@@ -6,8 +6,8 @@ ghost use Rattle.clap.specs.Walk.{rows_of};
 ghost use Rattle.hub_words.specs.Commands.{Answers};
 ghost use Rattle.hub_words.specs.Guard as spec;
 
-use crate::command::{begins, matches_in, needed_choice, texts_of, with};
-use crate::from_word::{both, needed};
+use crate::command::{begins, choice, matches_in, needed_choice, texts_of, with};
+use crate::from_word::{both, needed, optional};
 use crate::word_error::WordError;
 use addresses::address::Address;
 use clap::{ArgMatches, Command};
@@ -26,10 +26,12 @@ pub struct GuardWords {
     pub hub: Target,
     /// Where the server listens.
     pub target: Target,
+    /// The name of the file with the server's secret, where browsers sign in.
+    pub secret_file: Option<Text>,
 }
 
-/// Reads the words `guard --listen A --for U/S --hub T --target T`, of which `guard` is the first. An address A is `HOST:PORT`, of
-/// which `http://HOST:PORT` is a target, U/S the key of a server, and T a target.
+/// Reads the words `guard --listen A --for U/S --hub T --target T [--secret-file F]`, of which `guard` is the first. An address A is
+/// `HOST:PORT`, of which `http://HOST:PORT` is a target, U/S the key of a server, and T a target.
 pub fn read_guard(alloc: Global, words: &[Text]) -> Result<GuardWords, WordError>
     ensures { Answers (spec.guard_read words.now) result }
 {
@@ -55,11 +57,12 @@ fn guard_command<'a>(alloc: Global) -> Result<Command<'a>, AllocError>
     let command = with(Command::new(alloc, "guard"), needed_choice(alloc, "listen"))?;
     let command = with(command, needed_choice(alloc, "for"))?;
     let command = with(command, needed_choice(alloc, "hub"))?;
-    with(command, needed_choice(alloc, "target"))
+    let command = with(command, needed_choice(alloc, "target"))?;
+    with(command, choice(alloc, "secret-file"))
 }
 
-/// The address and the server, and the two targets.
-type GuardValues = ((Address, ServerKey), (Target, Target));
+/// The address and the server, the two targets, and the name of the file.
+type GuardValues = ((Address, ServerKey), (Target, (Target, Option<Text>)));
 
 /// What the matches say.
 fn guard_of(alloc: Global, matches: &ArgMatches) -> Result<GuardWords, WordError>
@@ -72,7 +75,10 @@ fn guard_of(alloc: Global, matches: &ArgMatches) -> Result<GuardWords, WordError
         ),
         both(
             needed::<Target>(alloc, matches, "hub"),
-            needed::<Target>(alloc, matches, "target"),
+            both(
+                needed::<Target>(alloc, matches, "target"),
+                optional::<Text>(alloc, matches, "secret-file"),
+            ),
         ),
     );
     match values {
@@ -85,11 +91,12 @@ fn guard_of(alloc: Global, matches: &ArgMatches) -> Result<GuardWords, WordError
 fn guard_with(values: GuardValues) -> GuardWords
     ensures { result ≡ spec.guard_with values }
 {
-    let ((listen, server), (hub, target)) = values;
+    let ((listen, server), (hub, (target, secret_file))) = values;
     GuardWords {
         listen: listen.into_text(),
         server,
         hub,
         target,
+        secret_file,
     }
 }

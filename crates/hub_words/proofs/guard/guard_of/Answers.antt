@@ -5,8 +5,14 @@ use Rattle.hub_words.proofs.guard.guard_of.Goals as goal
 
 pub returns-in-Ok : goal.returns-in-Ok
 returns-in-Ok c =
-    mapped guard_with _ _ _ (c.both-values.ensures _ _ (c.both.ensures _ _ c.needed.ensures c.needed-2.ensures) (c.both-2.ensures _ _ c.needed-3.ensures c.needed-4.ensures)) c.in-Ok.is ∙ ap Some (sym c.guard_with.ensures)
+    let server = c.both.ensures _ _ c.needed.ensures c.needed-2.ensures in
+    let target = c.both-2.ensures _ _ c.needed-4.ensures c.optional.ensures in
+    let said = c.both-values.ensures _ _ server (c.both-3.ensures _ _ c.needed-3.ensures target) in
+    mapped guard_with _ _ _ said c.in-Ok.is ∙ ap Some (sym c.guard_with.ensures)
 
 pub returns-in-Err : goal.returns-in-Err
 returns-in-Err c =
-    unmapped guard_with _ _ _ (c.both-values.ensures _ _ (c.both.ensures _ _ c.needed.ensures c.needed-2.ensures) (c.both-2.ensures _ _ c.needed-3.ensures c.needed-4.ensures)) c.in-Err.is
+    let server = c.both.ensures _ _ c.needed.ensures c.needed-2.ensures in
+    let target = c.both-2.ensures _ _ c.needed-4.ensures c.optional.ensures in
+    let said = c.both-values.ensures _ _ server (c.both-3.ensures _ _ c.needed-3.ensures target) in
+    unmapped guard_with _ _ _ said c.in-Err.is
