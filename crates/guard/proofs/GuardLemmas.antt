@@ -1,5 +1,5 @@
 -- What a link's one ask came to; and from what was judged and followed of a head that was read, to the same of one of the grammar.
-use Rattle.std.proofs.Common.{◌≡◌, ℕ, List, [], ◌∷◌, Option, Result, Ok, Err, IfOk, IfErr, refl, sym, subst, inr}
+use Rattle.std.proofs.Common.{◌≡◌, ℕ, false, List, [], ◌∷◌, Option, Result, Ok, Err, IfOk, IfErr, refl, sym, subst, inr}
 use Rattle.httparse.specs.Grammar.{RequestHead}
 use Rattle.hub_devices.specs.Faults.{Rises}
 use Rattle.hub_devices.specs.declared.link_error.LinkError.{LinkError}
@@ -45,7 +45,7 @@ pub follows_by : (v w : Verdict) (q : Going) (target : List ℕ) (old new : Plac
 follows_by v w q target old new result is follows = subst (λ (x : Verdict). Follows x q target old new result) (sym is) follows
 
 pub follows_of : (head : Head) (h : RequestHead) (v : Verdict) (f : Framing) (target : List ℕ) (old new : Place) (result : Result Forwarded SessionFault)
-    → head ≡ head_of h → Follows v (record { method = head.method; text = request_text head; framing = f }) target old new result
-    → Follows v (record { method = h.method; text = request_passed h; framing = f }) target old new result
+    → head ≡ head_of h → Follows v (record { upgrade = false; method = head.method; text = request_text false head; framing = f }) target old new result
+    → Follows v (record { upgrade = false; method = h.method; text = request_passed false h; framing = f }) target old new result
 follows_of head h v f target old new result same follows =
-    subst (λ (x : Head). Follows v (record { method = x.method; text = request_text x; framing = f }) target old new result) same follows
+    subst (λ (x : Head). Follows v (record { upgrade = false; method = x.method; text = request_text false x; framing = f }) target old new result) same follows

@@ -1,5 +1,5 @@
 -- One request at a guard, and how it ends.
-use Rattle.std.specs.Prelude.{◌≡◌, ◌⊎◌, ◌≤◌, ◌++◌, ℕ, List, [], Option, Some, None, Result, Ok, Err}
+use Rattle.std.specs.Prelude.{◌≡◌, ◌⊎◌, ◌≤◌, ◌++◌, ℕ, false, List, [], Option, Some, None, Result, Ok, Err}
 use Rattle.httparse.specs.Grammar.{RequestHead, print_request}
 use Rattle.hub_devices.specs.declared.link_error.LinkError.{LinkError}
 use Rattle.hub_devices.specs.declared.link_error.LinkError.TheVariants.{Failed, Memory}
@@ -99,7 +99,7 @@ pub record Judged (key : ServerKey) (target : List ℕ) (asks : List Exchange) (
   pub counted : old.reads ≤ reads
   pub framed : request_framing (head_of head).headers ≡ Ok framing
   pub judged : Judges key (token_of (head_of head).headers) asks faults faults' verdict
-  pub follows : Follows verdict (record { method = head.method; text = request_passed head; framing = framing }) target
+  pub follows : Follows verdict (record { upgrade = false; method = head.method; text = request_passed false head; framing = framing }) target
       (record old { left = left; kept = kept; reads = reads }) new result
 
 -- how one request at a guard ends

@@ -1,5 +1,5 @@
 //! One request at a guard.
-ghost use Rattle.std.specs.Prelude.{◌≡◌, ◌≢◌, ◌≤◌, ◌++◌, ℕ, List, []};
+ghost use Rattle.std.specs.Prelude.{◌≡◌, ◌≢◌, ◌≤◌, ◌++◌, ℕ, List, [], false};
 ghost use Rattle.std.specs.Prelude as prelude;
 ghost use Rattle.http_wire.specs.Token as tokens;
 ghost use Rattle.hub_link.specs.Links.{Exchange, Asks};
@@ -76,7 +76,8 @@ pub fn follow<I: Source, O: Sink, U: Upstream>(
     requires minor { head.now.minor ≤ 1 }
     requires sized { framing ≢ Framing.ToEnd }
     ensures ends { (rest : List ℕ)
-        × Follows verdict (record { method = head.now.method; text = heads.request_text head.now; framing = framing }) target.now
+        × Follows verdict (record { upgrade = false; method = head.now.method; text = heads.request_text false head.now; framing = framing })
+        target.now
         (record {
           left = I.left input.old;
           kept = kept.old;

@@ -1,5 +1,5 @@
 -- One request at a guard that lets browsers sign in, and how it ends.
-use Rattle.std.specs.Prelude.{◌≡◌, ◌⊎◌, ◌≤◌, ◌++◌, ℕ, List, [], Option, Result, Ok}
+use Rattle.std.specs.Prelude.{◌≡◌, ◌⊎◌, ◌≤◌, ◌++◌, ℕ, List, [], Option, Result, Ok, false}
 use Rattle.httparse.specs.Grammar.{RequestHead, print_request}
 use Rattle.hub_link.specs.Links.{Exchange}
 use Rattle.http_wire.specs.declared.error.SessionFault.{SessionFault}
@@ -21,7 +21,7 @@ use Rattle.guard_login.specs.declared.steps.Step.{Step}
 
 -- a request as it is sent on
 abbrev pub going_of : Head → Framing → Going
-going_of head framing = record { method = head.method; text = request_text head; framing = framing }
+going_of head framing = record { upgrade = false; method = head.method; text = request_text false head; framing = framing }
 
 -- the answer to a request whose head was taken: it was passed on, or nothing was sent to the upstream
 abbrev pub Ends : Door → Head → Framing → Answer → Place → Place → Result Signed SessionFault → Type 0

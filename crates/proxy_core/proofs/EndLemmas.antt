@@ -1,8 +1,8 @@
 -- How the parts of a passage end it.
-use Rattle.std.proofs.Common.{◌≡◌, ℕ, ◌≤◌, ◌⊎◌, List, [], ◌++◌, Option, Result, Ok, Err, refl, sym, ap, ◌∙◌, subst, inl, inr, append_assoc, arith}
+use Rattle.std.proofs.Common.{◌≡◌, ℕ, Bool, false, ◌≤◌, ◌⊎◌, List, [], ◌++◌, Option, Result, Ok, Err, refl, sym, ap, ◌∙◌, subst, inl, inr, append_assoc, arith}
 use Rattle.std.specs.List.{flat_map}
 use Rattle.std.proofs.lemmas.List.{append-nil}
-use Rattle.httparse.specs.Grammar.{ResponseHead, print_response}
+use Rattle.httparse.specs.Grammar.{ResponseHead, print_response, status_code}
 use Rattle.hub_devices.specs.Faults.{Rises}
 use Rattle.hub_devices.specs.Streams.{Appends}
 use Rattle.http_wire.specs.declared.error.SessionFault.{SessionFault}
@@ -15,7 +15,7 @@ use Rattle.proxy_wire.specs.declared.framing.Framing.TheVariants.{Length, Chunke
 use Rattle.proxy_wire.specs.declared.replies.ReplyError.{ReplyError}
 use Rattle.proxy_wire.specs.declared.replies.ReplyError.TheVariants as reply
 use Rattle.proxy_wire.specs.Heads.{reply_passed}
-use Rattle.proxy_wire.specs.Replies.{BeginsReply, IsNoReply}
+use Rattle.proxy_wire.specs.Replies.{BeginsReply, IsNoReply, IsFinal}
 use Rattle.proxy_bodies.specs.declared.sends.BodyEnd.{BodyEnd}
 use Rattle.proxy_bodies.specs.declared.sends.BodyEnd.TheVariants as body
 use Rattle.proxy_bodies.specs.Bodies.{IsWholeBody, IsBodyFront, StopsRequest}
@@ -43,7 +43,7 @@ whole_front Chunked bytes (b, is, g) = (b, [], is, sym g ∙ sym (append-nil byt
 whole_front ToEnd bytes whole = absurd whole
 
 -- no reply came
-pub refused_reply : (q : Going) (told : Option Told) (links links' : ℕ) (kept bytes given got : List ℕ) (e : ReplyError) → IsSent q bytes given → IsNoReply q.method told got e
+pub refused_reply : (q : Going) (told : Option Told) (links links' : ℕ) (kept bytes given got : List ℕ) (e : ReplyError) → IsSent q bytes given → IsNoReply q.upgrade q.method told got e
     → (e ≡ reply.Fault → Rises links links') → IsRefused q kept told links links' bytes given got (refusal_of e)
 refused_reply q told links links' kept bytes given got reply.Bad sent none fault = (sent, none)
 refused_reply q told links links' kept bytes given got reply.Fault sent none fault = (
@@ -87,8 +87,8 @@ back_refused text f behind held held' told u w w' (Err (ReadFault n)) written = 
 back_refused text f behind held held' told u w w' (Err (WriteFault n)) written = (written.0, written.1, refl, written.3, written.4, written.5, inl written.2)
 
 -- more bytes behind the reply's head
-pub begins_more : (method bytes : List ℕ) (r : ResponseHead) (f : Framing) (rest more : List ℕ) → BeginsReply method bytes r f rest → BeginsReply method (bytes ++ more) r f (rest ++ more)
-begins_more method bytes r f rest more b = record {
+pub begins_more : (up : Bool) (method bytes : List ℕ) (r : ResponseHead) (f : Framing) (rest more : List ℕ) → BeginsReply up method bytes r f rest → BeginsReply up method (bytes ++ more) r f (rest ++ more)
+begins_more up method bytes r f rest more b = record {
   interim = b.interim;
   each = b.each;
   head = b.head;
@@ -110,19 +110,25 @@ moved_left old mid new bytes left kept took =
 abbrev Unwritten : Going → Place → Place → List ℕ → List ℕ → List ℕ → List ℕ → List ℕ → Type 0
 Unwritten q old new bytes given got part more =
     ((r : Refusal) × (refusal_text r ≡ part ++ more) × IsRefused q new.kept new.told old.links new.links bytes given got r)
-    ⊎ ((r : ResponseHead) × (f : Framing) × (rest : List ℕ) × BeginsReply q.method got r f rest × (reply_passed r ≡ part ++ more) × IsSent q bytes given)
+    ⊎ ((r : ResponseHead) × (f : Framing) × (rest : List ℕ) × BeginsReply q.upgrade q.method got r f rest × (reply_passed r ≡ part ++ more) × IsSent q bytes given)
 
-unwritten : (q : Going) (old new : Place) (bytes given got part more : List ℕ) (r : ResponseHead) (f : Framing) (behind : List ℕ) → IsSent q bytes given → BeginsReply q.method got r f behind
+unwritten : (q : Going) (old new : Place) (bytes given got part more : List ℕ) (r : ResponseHead) (f : Framing) (behind : List ℕ) → IsSent q bytes given → BeginsReply q.upgrade q.method got r f behind
     → (refusal_text refusal.Memory ≡ part ++ more) ⊎ (reply_passed r ≡ part ++ more) → Unwritten q old new bytes given got part more
 unwritten q old new bytes given got part more r f behind sent begins (inl is) = inl (refusal.Memory, is, tt)
 unwritten q old new bytes given got part more r f behind sent begins (inr is) = inr (r, f, behind, begins, is, sent)
 
+-- the reply to a request that is no upgrade doesn't switch over
+pub no_switch : (s : ℕ) → IsFinal false s → s ≡ 101 → ⊥
+no_switch s (inl low) is = omega (arith, is, low)
+no_switch s (inr (inl high)) is = omega (arith, is, high)
+no_switch s (inr (inr (at, on))) is = absurd (cc)
+
 -- the reply was read, and then passed back
 pub ends_back : (q : Going) (old mid new : Place) (bytes given got behind : List ℕ) (r : ResponseHead) (f : Framing) (result : Result Forwarded SessionFault)
-    → Moved old mid bytes given got → IsSent q bytes given → BeginsReply q.method got r f behind
+    → Moved old mid bytes given got → IsSent q bytes given → BeginsReply q.upgrade q.method got r f behind → (status_code r ≡ 101 → ⊥)
     → mid.left ≡ new.left → mid.kept ≡ new.kept → mid.held ≡ old.held → mid.writes ≡ old.writes → old.links ≤ mid.links → mid.links ≤ new.links → mid.writes ≤ new.writes
     → BackEnds (reply_passed r) f behind mid.held new.held mid.told new.told mid.links new.links mid.writes new.writes result → PassEnds q old new result
-ends_back q old mid new bytes given got behind r f (Ok Passed) moved sent begins left kept held writes early late written back = (
+ends_back q old mid new bytes given got behind r f (Ok Passed) moved sent begins settled left kept held writes early late written back = (
   bytes,
   given,
   got ++ back.1,
@@ -136,13 +142,14 @@ ends_back q old mid new bytes given got behind r f (Ok Passed) moved sent begins
     rest = behind ++ back.1;
     body = back.0;
     tail = back.2;
-    begins = begins_more q.method got r f behind back.1 begins;
+    begins = begins_more q.upgrade q.method got r f behind back.1 begins;
+    settled = settled;
     split = back.3;
     text = refl;
     ends = later_end f new.told back.0 back.2 old.links mid.links new.links old.writes mid.writes new.writes early late (omega (arith, writes)) written back.6;
   },
 )
-ends_back q old mid new bytes given got behind r f (Ok (Refused s)) moved sent begins left kept held writes early late written back = (
+ends_back q old mid new bytes given got behind r f (Ok (Refused s)) moved sent begins settled left kept held writes early late written back = (
   refusal.Memory,
   bytes,
   given,
@@ -152,10 +159,10 @@ ends_back q old mid new bytes given got behind r f (Ok (Refused s)) moved sent b
   subst (λ (h : Option (List ℕ)). Appends h (refusal_text refusal.Memory) new.held) held back.2,
   tt,
 )
-ends_back q old mid new bytes given got behind r f (Ok Ended) moved sent begins left kept held writes early late written back = absurd back
-ends_back q old mid new bytes given got behind r f (Ok Cut) moved sent begins left kept held writes early late written back = absurd back
-ends_back q old mid new bytes given got behind r f (Err (ReadFault n)) moved sent begins left kept held writes early late written back = absurd back
-ends_back q old mid new bytes given got behind r f (Err (WriteFault n)) moved sent begins left kept held writes early late written back = (
+ends_back q old mid new bytes given got behind r f (Ok Ended) moved sent begins settled left kept held writes early late written back = absurd back
+ends_back q old mid new bytes given got behind r f (Ok Cut) moved sent begins settled left kept held writes early late written back = absurd back
+ends_back q old mid new bytes given got behind r f (Err (ReadFault n)) moved sent begins settled left kept held writes early late written back = absurd back
+ends_back q old mid new bytes given got behind r f (Err (WriteFault n)) moved sent begins settled left kept held writes early late written back = (
   bytes,
   given,
   got,
@@ -168,14 +175,14 @@ ends_back q old mid new bytes given got behind r f (Err (WriteFault n)) moved se
 )
 
 -- the same of equal parts
-pub ends_as : (m m' t t' : List ℕ) (framing : Framing) (old : Place) (left : Option (List ℕ)) (kept : List ℕ) (held : Option (List ℕ)) (told : Option Told) (reads l l' writes : ℕ) (result : Result Forwarded SessionFault)
+pub ends_as : (up : Bool) (m m' t t' : List ℕ) (framing : Framing) (old : Place) (left : Option (List ℕ)) (kept : List ℕ) (held : Option (List ℕ)) (told : Option Told) (reads l l' writes : ℕ) (result : Result Forwarded SessionFault)
     → m ≡ m' → t ≡ t' → l' ≡ l
-    → PassEnds (record { method = m; text = t; framing = framing }) old (record { left = left; kept = kept; held = held; told = told; reads = reads; links = l; writes = writes }) result
-    → PassEnds (record { method = m'; text = t'; framing = framing }) old (record { left = left; kept = kept; held = held; told = told; reads = reads; links = l'; writes = writes }) result
-ends_as m m' t t' framing old left kept held told reads l l' writes result ms ts ls ends =
-    subst (λ (x : List ℕ). PassEnds (record { method = x; text = t'; framing = framing }) old (record { left = left; kept = kept; held = held; told = told; reads = reads; links = l'; writes = writes }) result) ms
-    (subst (λ (x : List ℕ). PassEnds (record { method = m; text = x; framing = framing }) old (record { left = left; kept = kept; held = held; told = told; reads = reads; links = l'; writes = writes }) result) ts
-    (subst (λ (x : ℕ). PassEnds (record { method = m; text = t; framing = framing }) old (record { left = left; kept = kept; held = held; told = told; reads = reads; links = x; writes = writes }) result) (sym ls) ends))
+    → PassEnds (record { upgrade = up; method = m; text = t; framing = framing }) old (record { left = left; kept = kept; held = held; told = told; reads = reads; links = l; writes = writes }) result
+    → PassEnds (record { upgrade = up; method = m'; text = t'; framing = framing }) old (record { left = left; kept = kept; held = held; told = told; reads = reads; links = l'; writes = writes }) result
+ends_as up m m' t t' framing old left kept held told reads l l' writes result ms ts ls ends =
+    subst (λ (x : List ℕ). PassEnds (record { upgrade = up; method = x; text = t'; framing = framing }) old (record { left = left; kept = kept; held = held; told = told; reads = reads; links = l'; writes = writes }) result) ms
+    (subst (λ (x : List ℕ). PassEnds (record { upgrade = up; method = m; text = x; framing = framing }) old (record { left = left; kept = kept; held = held; told = told; reads = reads; links = l'; writes = writes }) result) ts
+    (subst (λ (x : ℕ). PassEnds (record { upgrade = up; method = m; text = t; framing = framing }) old (record { left = left; kept = kept; held = held; told = told; reads = reads; links = x; writes = writes }) result) (sym ls) ends))
 
 -- nothing stands before what is kept
 pub took_in_front : (before after : Option (List ℕ)) (front kept bytes : List ℕ) → front ≡ [] → Took before (front ++ kept) after bytes → Took before kept after bytes

@@ -1,5 +1,5 @@
 -- From a head that was read to one of the grammar.
-use Rattle.std.proofs.Common.{◌≡◌, ℕ, List, [], Option, Result, subst}
+use Rattle.std.proofs.Common.{◌≡◌, ℕ, Bool, List, [], Option, Result, subst}
 use Rattle.httparse.specs.Grammar.{RequestHead}
 use Rattle.http_wire.specs.declared.error.SessionFault.{SessionFault}
 use Rattle.http_wire.specs.declared.head.Head.{Head}
@@ -19,8 +19,8 @@ pub chosen_of : {L : Type 0} (found : Found L) (head : Head) (h : RequestHead) (
     → head ≡ head_of h → IsChosen found head now routes routes' f to → IsChosen found (head_of h) now routes routes' f to
 chosen_of found head h now routes routes' f to same chosen = subst (λ (x : Head). IsChosen found x now routes routes' f to) same chosen
 
-pub passed_of : (head : Head) (h : RequestHead) (f : Framing) (target : List ℕ) (old new : Place) (result : Result Forwarded SessionFault) → head ≡ head_of h
-    → PassOn (record { method = head.method; text = request_text head; framing = f }) target old new result
-    → PassOn (record { method = h.method; text = request_passed h; framing = f }) target old new result
-passed_of head h f target old new result same passed =
-    subst (λ (x : Head). PassOn (record { method = x.method; text = request_text x; framing = f }) target old new result) same passed
+pub passed_of : (up : Bool) (head : Head) (h : RequestHead) (f : Framing) (target : List ℕ) (old new : Place) (result : Result Forwarded SessionFault) → head ≡ head_of h
+    → PassOn (record { upgrade = up; method = head.method; text = request_text up head; framing = f }) target old new result
+    → PassOn (record { upgrade = up; method = h.method; text = request_passed up h; framing = f }) target old new result
+passed_of up head h f target old new result same passed =
+    subst (λ (x : Head). PassOn (record { upgrade = up; method = x.method; text = request_text up x; framing = f }) target old new result) same passed

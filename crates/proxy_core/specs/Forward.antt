@@ -1,5 +1,5 @@
 -- One request that is read, and passed on by its path.
-use Rattle.std.specs.Prelude.{◌≡◌, ◌⊎◌, ◌≤◌, ◌++◌, ℕ, List, [], Option, Result, Ok, Err}
+use Rattle.std.specs.Prelude.{◌≡◌, ◌⊎◌, ◌≤◌, ◌++◌, ℕ, false, List, [], Option, Result, Ok, Err}
 use Rattle.httparse.specs.Grammar.{RequestHead, print_request}
 use Rattle.hub_devices.specs.Faults.{Rises}
 use Rattle.http_wire.specs.declared.error.SessionFault.{SessionFault}
@@ -92,7 +92,7 @@ pub record Chosen {L : Type 0} (found : Found L) (now : ℕ) (old new : Place) (
   pub took : Took old.left [] left (print_request head ++ kept)
   pub counted : old.reads ≤ reads
   pub chosen : IsChosen found (head_of head) now routes routes' framing target
-  pub passed : PassOn (record { method = head.method; text = request_passed head; framing = framing }) target
+  pub passed : PassOn (record { upgrade = false; method = head.method; text = request_passed false head; framing = framing }) target
       (record old { left = left; kept = kept; reads = reads }) new result
 
 -- how one request is forwarded

@@ -1,6 +1,6 @@
 -- One request that is passed on, and how it ends.
-use Rattle.std.specs.Prelude.{◌≡◌, ◌≤◌, ◌⊎◌, ℕ, List, [], ◌++◌, Option, Result, Ok, Err}
-use Rattle.httparse.specs.Grammar.{ResponseHead}
+use Rattle.std.specs.Prelude.{◌≡◌, ◌≤◌, ◌⊎◌, ℕ, Bool, List, [], ◌++◌, Option, Result, Ok, Err}
+use Rattle.httparse.specs.Grammar.{ResponseHead, status_code}
 use Rattle.hub_devices.specs.Faults.{Rises}
 use Rattle.hub_devices.specs.Streams.{Appends, IsEnd}
 use Rattle.http_wire.specs.declared.error.SessionFault.{SessionFault}
@@ -34,8 +34,9 @@ pub record Place : Type 0 where
   pub links : ℕ
   pub writes : ℕ
 
--- a request as it is sent on: its method, the text of its head, how long its body is
+-- a request as it is sent on: whether it is an upgrade, its method, the text of its head, how long its body is
 pub record Going : Type 0 where
+  pub upgrade : Bool
   pub method : List ℕ
   pub text : List ℕ
   pub framing : Framing
@@ -76,7 +77,7 @@ refusal_of reply.Memory = refusal.Memory
 
 -- why nothing was passed back: `kept` and `told` are those after, `links` the upstream's count before and `links'` after
 abbrev pub IsRefused : Going → List ℕ → Option Told → ℕ → ℕ → List ℕ → List ℕ → List ℕ → Refusal → Type 0
-IsRefused q kept told links links' body given got refusal.BadUpstream = IsSent q body given × NoReply q.method told got
+IsRefused q kept told links links' body given got refusal.BadUpstream = IsSent q body given × NoReply q.upgrade q.method told got
 IsRefused q kept told links links' body given got refusal.Link = IsFront q kept body given × Rises links links'
 IsRefused q kept told links links' body given got refusal.BadChunk = (given ≡ q.text ++ body) × IsBadBody q.framing body kept × (got ≡ [])
 IsRefused q kept told links links' body given got refusal.Coding = ⊥
@@ -92,14 +93,15 @@ IsStop q left kept told reads reads' links links' body given got stop.Cut = IsSh
 IsStop q left kept told reads reads' links links' body given got stop.ReadFault = IsShort q kept body given got × Rises reads reads'
 IsStop q left kept told reads reads' links links' body given got (stop.Refused r) = IsRefused q kept told links links' body given got r
 
--- the reply's head, and its body or a part of it, and why no more
-pub record PassedBack (method got gave : List ℕ) (old new : Place) : Type 0 where
+-- the reply's head, which doesn't switch the connection over, and its body or a part of it, and why no more
+pub record PassedBack (q : Going) (got gave : List ℕ) (old new : Place) : Type 0 where
   pub reply : ResponseHead
   pub framing : Framing
   pub rest : List ℕ
   pub body : List ℕ
   pub tail : List ℕ
-  pub begins : BeginsReply method got reply framing rest
+  pub begins : BeginsReply q.upgrade q.method got reply framing rest
+  pub settled : ¬ (status_code reply ≡ 101)
   pub split : rest ≡ body ++ tail
   pub text : gave ≡ reply_passed reply ++ body
   pub ends : IsBackEnd framing new.told body tail old.links new.links old.writes new.writes
@@ -108,14 +110,14 @@ pub record PassedBack (method got gave : List ℕ) (old new : Place) : Type 0 wh
 pub record IsUnwritten (q : Going) (old new : Place) (body given got part : List ℕ) : Type 0 where
   pub more : List ℕ
   pub of : ((r : Refusal) × (refusal_text r ≡ part ++ more) × IsRefused q new.kept new.told old.links new.links body given got r)
-      ⊎ ((r : ResponseHead) × (f : Framing) × (rest : List ℕ) × BeginsReply q.method got r f rest × (reply_passed r ≡ part ++ more)
+      ⊎ ((r : ResponseHead) × (f : Framing) × (rest : List ℕ) × BeginsReply q.upgrade q.method got r f rest × (reply_passed r ≡ part ++ more)
       × IsSent q body given)
 
 -- how a request to an upstream that is connected ends
 abbrev pub PassEnds : Going → Place → Place → Result Forwarded SessionFault → Type 0
 PassEnds q old new (Ok Passed) =
     (body given got gave : List ℕ) × Moved old new body given got × IsSent q body given × Appends old.held gave new.held
-    × PassedBack q.method got gave old new
+    × PassedBack q got gave old new
 PassEnds q old new (Ok (Refused s)) =
     (r : Refusal) × (body given got : List ℕ) × Moved old new body given got × (s ≡ status_of r)
     × Appends old.held (refusal_text r) new.held × IsRefused q new.kept new.told old.links new.links body given got r

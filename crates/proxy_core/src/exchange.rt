@@ -1,5 +1,5 @@
 //! A request that is sent, and the head of its reply.
-ghost use Rattle.std.specs.Prelude.{◌≡◌, ◌≢◌, ◌++◌, ◌≤◌, ℕ, List, [], IfOk, IfErr};
+ghost use Rattle.std.specs.Prelude.{◌≡◌, ◌≢◌, ◌++◌, ◌≤◌, ℕ, List, [], false, IfOk, IfErr};
 ghost use Rattle.httparse.specs.Grammar.{ResponseHead};
 ghost use Rattle.http_wire.specs.Took.{Took};
 ghost use Rattle.upstreams.specs.Upstream.{Moves};
@@ -38,7 +38,7 @@ fn stop_of(end: BodyEnd) -> Stop
     }
 }
 
-fn refusal_of(error: ReplyError) -> Refusal
+pub fn refusal_of(error: ReplyError) -> Refusal
     ensures { result ≡ spec.refusal_of error }
 {
     match error {
@@ -48,7 +48,7 @@ fn refusal_of(error: ReplyError) -> Refusal
     }
 }
 
-/// Sends a request to an upstream that is connected, and reads the head of its reply. What came behind that head stands in
+/// Sends a request that is no upgrade to an upstream that is connected, and reads the head of its reply. What came behind that head stands in
 /// `back`.
 pub(crate) fn exchange<I: Source, U: Upstream>(
     alloc: Global,
@@ -66,12 +66,12 @@ pub(crate) fn exchange<I: Source, U: Upstream>(
     ensures ok { IfOk result (λ reply. (body given got : List ℕ) × (r : ResponseHead)
         × Took (I.left input.old) (window.old ++ kept.old) (I.left input.new) (body ++ (window.new ++ kept.new))
         × Moves (U.told up.old) given got (U.told up.new)
-        × IsSent (record { method = method.now; text = text.now; framing = framing }) body given
-        × (reply.text ≡ reply_passed r) × BeginsReply method.now got r reply.framing back.new) }
+        × IsSent (record { upgrade = false; method = method.now; text = text.now; framing = framing }) body given
+        × (reply.text ≡ reply_passed r) × BeginsReply false method.now got r reply.framing back.new) }
     ensures err { IfErr result (λ e. (body given got : List ℕ)
         × Took (I.left input.old) (window.old ++ kept.old) (I.left input.new) (body ++ (window.new ++ kept.new))
         × Moves (U.told up.old) given got (U.told up.new)
-        × IsStop (record { method = method.now; text = text.now; framing = framing })
+        × IsStop (record { upgrade = false; method = method.now; text = text.now; framing = framing })
         (I.left input.new) (window.new ++ kept.new) (U.told up.new) (I.faults input.old) (I.faults input.new)
         (U.faults up.old) (U.faults up.new) body given got e) }
     ensures reads { I.faults input.old ≤ I.faults input.new }
@@ -81,7 +81,7 @@ pub(crate) fn exchange<I: Source, U: Upstream>(
         Ok(()) => {}
         Err(e) => return Err(stop_of(e)),
     }
-    match read_reply(alloc, method, up, back) {
+    match read_reply(alloc, false, method, up, back) {
         Ok(reply) => Ok(reply),
         Err(e) => Err(Stop::Refused(refusal_of(e))),
     }

@@ -69,13 +69,13 @@ pub fn stopped<O: Sink>(output: &mut O, error: WireError) -> Result<Forwarded, S
 
 /// How a request's body is framed and where it goes.
 #[derive(Drop)]
-struct Choice {
-    framing: Framing,
-    target: Target,
+pub struct Choice {
+    pub framing: Framing,
+    pub target: Target,
 }
 
 /// The body's framing first, and then the route of the path; or why the request is refused.
-fn choose<L: Lookup>(
+pub fn choose<L: Lookup>(
     alloc: Global,
     head: &Head,
     routes: &mut L,

@@ -4,7 +4,7 @@
 //! asks a table of routes for the target of its path and calls `pass_on`. A proxy's worker calls it once for each connection.
 #![tactic(auto)]
 
-mod exchange;
+pub mod exchange;
 pub mod forward;
 pub mod passes;
 pub mod refusals;

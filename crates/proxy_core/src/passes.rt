@@ -1,5 +1,5 @@
 //! One request that is passed on to a target.
-ghost use Rattle.std.specs.Prelude.{◌≡◌, ◌≢◌, ◌≤◌, ◌++◌, ℕ, List, []};
+ghost use Rattle.std.specs.Prelude.{◌≡◌, ◌≢◌, ◌≤◌, ◌++◌, ℕ, List, [], false};
 ghost use Rattle.proxy_wire.specs.Heads as heads;
 ghost use Rattle.proxy_core.specs.Passes.{PassEnds, BackEnds, PassOn};
 
@@ -22,7 +22,7 @@ use std::alloc::Global;
 use upstreams::upstream::Upstream;
 
 /// Passes back a reply whose head was read. All memory is taken before the head is written.
-fn give_back<O: Sink, U: Upstream>(
+pub fn give_back<O: Sink, U: Upstream>(
     alloc: Global,
     reply: &Reply,
     back: &mut Window,
@@ -57,7 +57,7 @@ fn pass_linked<I: Source, O: Sink, U: Upstream>(
     up: &mut U,
 ) -> Result<Forwarded, SessionFault>
     requires { framing ≢ Framing.ToEnd }
-    ensures ends { (rest : List ℕ) × PassEnds (record { method = method.now; text = text.now; framing = framing })
+    ensures ends { (rest : List ℕ) × PassEnds (record { upgrade = false; method = method.now; text = text.now; framing = framing })
         (record {
           left = I.left input.old;
           kept = kept.old;
@@ -117,7 +117,8 @@ pub fn pass_on<I: Source, O: Sink, U: Upstream>(
     requires minor { head.now.minor ≤ 1 }
     requires sized { framing ≢ Framing.ToEnd }
     ensures ends { (rest : List ℕ)
-        × PassOn (record { method = head.now.method; text = heads.request_text head.now; framing = framing }) target.now
+        × PassOn (record { upgrade = false; method = head.now.method; text = heads.request_text false head.now; framing = framing })
+        target.now
         (record {
           left = I.left input.old;
           kept = kept.old;
@@ -140,7 +141,7 @@ pub fn pass_on<I: Source, O: Sink, U: Upstream>(
     ensures links { U.faults up.old ≤ U.faults up.new }
     ensures writes { O.faults output.old ≤ O.faults output.new }
 {
-    let Ok(text) = request_text(alloc, head) else {
+    let Ok(text) = request_text(alloc, false, head) else {
         return refuse(output, Refusal::Memory);
     };
     match up.connect(target) {

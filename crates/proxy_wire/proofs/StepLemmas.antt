@@ -1,5 +1,5 @@
 -- From what the parser answers to a head.
-use Rattle.std.proofs.Common.{◌≡◌, ℕ, ◌<◌, ◌≤◌, List, [], ◌∷◌, length, take, drop, map, sym, ap, ◌∙◌, arith, length-append, refl}
+use Rattle.std.proofs.Common.{◌≡◌, ℕ, Bool, false, ◌<◌, ◌≤◌, List, [], ◌∷◌, length, take, drop, map, sym, ap, ◌∙◌, arith, length-append, refl}
 use Rattle.std.proofs.lemmas.List.{length-map, length-take-le, take_at}
 use Rattle.httparse.specs.declared.spans.HeaderSpan.{HeaderSpan}
 use Rattle.httparse.specs.declared.spans.ResponseSpans.{ResponseSpans}
@@ -34,9 +34,9 @@ head_at bytes spans r h within room at = record {
   some = omega (arith, at.len, some_head h);
 }
 
-pub switched : (bytes : List ℕ) (h : ResponseHead) (rest : List ℕ) → ReadsResponse bytes h rest → status_code h ≡ 101 → NoHead bytes
-switched bytes h rest reads is more k after there few =
-    sym (ap status_code (response_prefix_free bytes more h k rest after reads there).0) ∙ is
+pub switched : (upgrade : Bool) (bytes : List ℕ) (h : ResponseHead) (rest : List ℕ) → ReadsResponse bytes h rest → status_code h ≡ 101 → upgrade ≡ false → NoHead upgrade bytes
+switched upgrade bytes h rest reads is off more k after there few =
+    (sym (ap status_code (response_prefix_free bytes more h k rest after reads there).0) ∙ is, off)
 
 abbrev as_header : List ℕ × List ℕ → Header
 as_header (name, value) = record { name = name; value = value }

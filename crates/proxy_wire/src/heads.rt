@@ -2,7 +2,7 @@
 ghost use Rattle.std.specs.Prelude.{◌≡◌, ◌<◌, ◌≤◌, ◌++◌, length, take, map, not, All, IfOk, OnOk};
 ghost use Rattle.httparse.specs.Spans.{IsHeaderWithin, IsResponseWithin, span_bytes};
 ghost use Rattle.http_wire.specs.Head.{header_at};
-ghost use Rattle.proxy_wire.specs.Heads.{is_hop, header_line, header_lines, request_line, status_line};
+ghost use Rattle.proxy_wire.specs.Heads.{is_hop, is_switched, last_line, header_line, header_lines, request_line, status_line};
 ghost use Rattle.proxy_wire.specs.Heads as spec;
 
 use http_wire::head::{Head, Header};
@@ -10,27 +10,48 @@ use httparse::spans::{HeaderSpan, ResponseSpans};
 use hub_kit::bytes::Bytes;
 use std::alloc::{AllocError, Global};
 
-const CONNECTION: &[u8] = b"connection";
+pub(crate) const CONNECTION: &[u8] = b"connection";
 
 const KEEP_ALIVE: &[u8] = b"keep-alive";
 
 const PROXY_CONNECTION: &[u8] = b"proxy-connection";
 
-const UPGRADE: &[u8] = b"upgrade";
+pub(crate) const UPGRADE: &[u8] = b"upgrade";
 
 const VERSION: &[u8] = b"HTTP/1.";
 
 /// The last line of a head, and the empty line behind it.
 const CLOSE_AND_END: &[u8] = b"Connection: close\r\n\r\n";
 
-/// Whether the header speaks to the next hop alone, and isn't passed on.
-fn is_hop(name: &[u8]) -> bool
-    ensures { result ≡ is_hop name.now }
+/// The same of an upgrade, and of the reply that switches over.
+const UPGRADE_AND_END: &[u8] = b"Connection: Upgrade\r\n\r\n";
+
+/// Whether the header speaks to the next hop alone, and isn't passed on. An upgrade keeps `Upgrade`.
+fn is_hop(upgrade: bool, name: &[u8]) -> bool
+    ensures { result ≡ is_hop upgrade name.now }
 {
     name.eq_ignore_ascii_case(CONNECTION)
         || name.eq_ignore_ascii_case(KEEP_ALIVE)
         || name.eq_ignore_ascii_case(PROXY_CONNECTION)
-        || name.eq_ignore_ascii_case(UPGRADE)
+        || (!upgrade && name.eq_ignore_ascii_case(UPGRADE))
+}
+
+/// The last line of a head, and the empty line behind it.
+fn last_line(upgrade: bool) -> &'static [u8]
+    ensures { result.now ≡ last_line upgrade }
+{
+    if upgrade {
+        UPGRADE_AND_END
+    } else {
+        CLOSE_AND_END
+    }
+}
+
+/// Whether the connection is switched over to another protocol.
+pub(crate) fn is_switched(status: u16) -> bool
+    ensures { result ≡ is_switched status }
+{
+    status == 101
 }
 
 fn push_header(text: &mut Bytes, name: &[u8], value: &[u8]) -> Result<(), AllocError>
@@ -43,11 +64,11 @@ fn push_header(text: &mut Bytes, name: &[u8], value: &[u8]) -> Result<(), AllocE
 }
 
 /// The lines of a request's headers.
-fn push_headers(text: &mut Bytes, headers: &[Header]) -> Result<(), AllocError>
-    ensures { OnOk result (text.new ≡ text.old ++ header_lines headers.now) }
+fn push_headers(text: &mut Bytes, upgrade: bool, headers: &[Header]) -> Result<(), AllocError>
+    ensures { OnOk result (text.new ≡ text.old ++ header_lines upgrade headers.now) }
 {
     'lines: for header in headers {
-        if !is_hop(header.name.as_bytes()) {
+        if !is_hop(upgrade, header.name.as_bytes()) {
             push_header(text, header.name.as_bytes(), header.value.as_slice())?;
         }
     }
@@ -55,12 +76,17 @@ fn push_headers(text: &mut Bytes, headers: &[Header]) -> Result<(), AllocError>
 }
 
 /// The lines of a reply's headers, which stand in the bytes where the spans say.
-fn push_spans(text: &mut Bytes, bytes: &[u8], spans: &[HeaderSpan]) -> Result<(), AllocError>
+fn push_spans(
+    text: &mut Bytes,
+    upgrade: bool,
+    bytes: &[u8],
+    spans: &[HeaderSpan],
+) -> Result<(), AllocError>
     requires { All (IsHeaderWithin (length bytes.now)) spans.now }
-    ensures { OnOk result (text.new ≡ text.old ++ header_lines (map (header_at bytes.now) spans.now)) }
+    ensures { OnOk result (text.new ≡ text.old ++ header_lines upgrade (map (header_at bytes.now) spans.now)) }
 {
     'lines: for span in spans {
-        if !is_hop(span.name.of(bytes)) {
+        if !is_hop(upgrade, span.name.of(bytes)) {
             push_header(text, span.name.of(bytes), span.value.of(bytes))?;
         }
     }
@@ -79,15 +105,15 @@ fn push_request_line(text: &mut Bytes, head: &Head) -> Result<(), AllocError>
     text.push_all(&[48 + head.minor, 13, 10])
 }
 
-/// The head of a request as it is sent on.
-pub fn request_text(alloc: Global, head: &Head) -> Result<Bytes, AllocError>
+/// The head of a request as it is sent on, as an upgrade or not.
+pub fn request_text(alloc: Global, upgrade: bool, head: &Head) -> Result<Bytes, AllocError>
     requires { head.now.minor ≤ 1 }
-    ensures { IfOk result (λ text. text ≡ spec.request_text head.now) }
+    ensures { IfOk result (λ text. text ≡ spec.request_text upgrade head.now) }
 {
     let mut text = Bytes::new(alloc);
     push_request_line(&mut text, head)?;
-    push_headers(&mut text, head.headers.as_slice())?;
-    text.push_all(CLOSE_AND_END)?;
+    push_headers(&mut text, upgrade, head.headers.as_slice())?;
+    text.push_all(last_line(upgrade))?;
     Ok(text)
 }
 
@@ -122,8 +148,9 @@ pub(crate) fn reply_text(
         (map (header_at bytes.now) (take r.headers spans.now))) }
 {
     let mut text = Bytes::new(alloc);
+    let switched = is_switched(r.code);
     push_status_line(&mut text, r.version, r.code, r.reason.of(bytes))?;
-    push_spans(&mut text, bytes, &spans[..r.headers])?;
-    text.push_all(CLOSE_AND_END)?;
+    push_spans(&mut text, switched, bytes, &spans[..r.headers])?;
+    text.push_all(last_line(switched))?;
     Ok(text)
 }

@@ -9,3 +9,4 @@ pub mod framing;
 mod given;
 pub mod heads;
 pub mod replies;
+pub mod upgrades;

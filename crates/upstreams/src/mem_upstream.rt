@@ -4,12 +4,15 @@ ghost use Rattle.hub_devices.specs.FailingCalls.{is_failing, after_call, new_scr
 ghost use Rattle.hub_devices.specs.Faults.{Rises};
 ghost use Rattle.upstreams.specs.Upstream.{Told, Connects, Moves, Finishes, IsSpent};
 
+use crate::tunnelled::Tunnelled;
 use crate::upstream::Upstream;
 use hub_devices::failing_calls::FailingCalls;
+use hub_devices::mem_bytes::{MemSink, MemSource};
 use hub_devices::source::Failed;
 use hub_kit::bytes::Bytes;
 use hub_kit::target::Target;
 use std::alloc::Global;
+use tunnel::gate::Gate;
 
 /// Gives at most `cut` bytes for each receive, and keeps the target, what was sent and whether it is finished. It fails at
 /// the calls that `failing` numbers, the first call being 0, and where it finds no memory; a `send` that is to fail keeps
@@ -108,5 +111,24 @@ impl Upstream for MemUpstream {
 
     fn finish(&mut self) {
         self.finished = true;
+    }
+}
+
+impl Tunnelled for MemUpstream {
+    type Reads = MemSource;
+
+    type Writes = Gate<MemSink>;
+
+    fn halves(&mut self) -> Result<(MemSource, Gate<MemSink>), Failed> {
+        if self.script.next() {
+            return Err(Failed);
+        }
+        let Ok(left) = Bytes::from_slice(self.alloc, &self.given.as_slice()[self.at..]) else {
+            self.script.fail();
+            return Err(Failed);
+        };
+        let reads = MemSource::new(left, self.cut, Vec::new(self.alloc));
+        let writes = MemSink::new(self.alloc, Vec::new(self.alloc));
+        Ok((reads, Gate::new(writes)))
     }
 }

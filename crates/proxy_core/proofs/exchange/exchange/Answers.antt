@@ -1,4 +1,4 @@
-use Rattle.std.proofs.Common.{◌++◌, Err, ap, refl}
+use Rattle.std.proofs.Common.{◌++◌, false, Err, ap, refl}
 use Rattle.upstreams.proofs.MoveLemmas.{Moves_both}
 use Rattle.proxy_bodies.proofs.BackLemmas.{rises_from}
 use Rattle.proxy_core.proofs.EndLemmas.{refused_reply}
@@ -14,7 +14,7 @@ returns-in-Err-read_reply-clause-err g c =
       sent.2,
       Moves_both _ _ _ (c.args.text.now ++ sent.0) e.0 sent.3 e.2,
       rw c.refusal_of.ensures (refused_reply
-          (record { method = c.args.method.now; text = c.args.text.now; framing = c.args.framing })
+          (record { upgrade = false; method = c.args.method.now; text = c.args.text.now; framing = c.args.framing })
           (g.U.Upstream.told c.read_reply.new.up) (g.U.Upstream.faults c.args.up.now) (g.U.Upstream.faults c.read_reply.new.up)
           (c.send_request.new.window ++ c.send_request.new.kept) sent.0 (c.args.text.now ++ sent.0) e.0 c.in-Err-read_reply.e (record { whole = sent.1; text = refl }) e.1
           (λ is. rises_from _ _ _ c.send_request.ensures.sends c.read_reply.ensures.counted (c.in-Err-read_reply.ensures.cause (ap Err is)))),

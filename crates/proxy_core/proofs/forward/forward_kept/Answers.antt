@@ -51,6 +51,6 @@ returns-clause-ends g c =
         took = took_from _ _ c.args.kept.now _ c.requires read.3;
         counted = c.read_head.ensures.counted;
         chosen = chosen_of g.L.Lookup.found c.in-Ok.head read.0 _ _ _ _ _ read.2 chosen.0;
-        passed = passed_of c.in-Ok.head read.0 _ _ _ _ _ read.2 passed.1;
+        passed = passed_of _ c.in-Ok.head read.0 _ _ _ _ _ read.2 passed.1;
       })),
     )

@@ -1,13 +1,13 @@
-use Rattle.std.proofs.Common.{◌++◌, List, ℕ, subst, refl}
+use Rattle.std.proofs.Common.{◌++◌, List, ℕ, false, subst, refl}
 use Rattle.proxy_core.specs.Passes.{Place, Going, BackEnds}
-use Rattle.proxy_core.proofs.EndLemmas.{ends_back, ends_refused, took_in_front}
+use Rattle.proxy_core.proofs.EndLemmas.{ends_back, ends_refused, took_in_front, no_switch}
 use Rattle.proxy_core.proofs.passes.pass_linked.Goals as goal
 
 pub returns-in-Ok-clause-ends : goal.returns-in-Ok-clause-ends
 returns-in-Ok-clause-ends g c =
     let x = c.in-Ok.ensures.ok in
     let rest : List ℕ = c.exchange.new.window in
-    let q : Going = record { method = c.args.method.now; text = c.args.text.now; framing = c.args.framing } in
+    let q : Going = record { upgrade = false; method = c.args.method.now; text = c.args.text.now; framing = c.args.framing } in
     let old : Place = record {
       left = g.I.Source.left c.args.input.now;
       kept = c.args.kept.now;
@@ -37,7 +37,7 @@ returns-in-Ok-clause-ends g c =
     } in (
       rest,
       ends_back q old mid new x.0 x.1 x.2 c.exchange.new.back x.3 c.in-Ok.reply.framing c.give_back.result
-          (took_in_front _ _ c.new-window.result c.args.kept.now _ c.new-window.ensures x.4, x.5) x.6 x.8 refl refl refl refl
+          (took_in_front _ _ c.new-window.result c.args.kept.now _ c.new-window.ensures x.4, x.5) x.6 x.8 (no_switch _ x.8.final) refl refl refl refl
           c.exchange.ensures.links c.give_back.ensures.links c.give_back.ensures.writes
           (subst (λ (t : List ℕ). BackEnds t c.in-Ok.reply.framing c.exchange.new.back mid.held new.held mid.told new.told mid.links new.links mid.writes new.writes c.give_back.result)
           x.7 c.give_back.ensures.ends),
@@ -63,7 +63,7 @@ returns-in-Refused-clause-ends g c =
     let rest : List ℕ = c.exchange.new.window in (
       rest,
       ends_refused
-          (record { method = c.args.method.now; text = c.args.text.now; framing = c.args.framing })
+          (record { upgrade = false; method = c.args.method.now; text = c.args.text.now; framing = c.args.framing })
           (record {
             left = g.I.Source.left c.args.input.now;
             kept = c.args.kept.now;

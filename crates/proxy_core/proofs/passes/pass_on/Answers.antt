@@ -30,6 +30,6 @@ returns-clause-ends g c =
         connects = c.in-Ok-connect.ensures.ok;
         counted = c.connect.ensures.counted;
         finishes = c.finish.ensures.finished;
-        ends = ends_as _ _ _ _ _ _ _ _ _ _ _ _ _ _ _ c.as_bytes.ensures (c.as_slice.ensures ∙ c.in-Ok.ensures) c.finish.ensures.counted ends.1;
+        ends = ends_as _ _ _ _ _ _ _ _ _ _ _ _ _ _ _ _ c.as_bytes.ensures (c.as_slice.ensures ∙ c.in-Ok.ensures) c.finish.ensures.counted ends.1;
       }),
     )

@@ -15,4 +15,4 @@ returns-in-Skipped c =
 pub returns-in-Neither : goal.returns-in-Neither
 returns-in-Neither c =
     let at = c.requires.head.1 in
-    switched c.args.bytes.now c.requires.head.0 _ at.reads (sym at.code ∙ c.in-Neither.ensures)
+    switched c.args.upgrade c.args.bytes.now c.requires.head.0 _ at.reads (sym at.code ∙ c.in-Neither.ensures.0) c.in-Neither.ensures.1

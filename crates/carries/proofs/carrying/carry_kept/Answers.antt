@@ -1,0 +1,74 @@
+use Rattle.std.proofs.Common.{◌++◌, Err, refl, ap, subst, inl, inr}
+use Rattle.http_wire.specs.declared.head.Head.{Head}
+use Rattle.proxy_core.specs.Forward.{IsUnchosen}
+use Rattle.proxy_core.proofs.ForwardLemmas.{took_from, chosen_of}
+use Rattle.carries.specs.Carries.{Sides}
+use Rattle.carries.proofs.CarryLemmas.{carried_of}
+use Rattle.carries.proofs.carrying.carry_kept.Goals as goal
+
+pub returns-in-Err-clause-ends : goal.returns-in-Err-clause-ends
+returns-in-Err-clause-ends g c =
+    let e = c.in-Err.ensures.err in (
+      c.read_head.new.kept,
+      inl (
+        c.stopped.result,
+        c.one_of.ensures,
+        inl (record {
+          error = c.in-Err.e;
+          took = took_from _ _ c.args.kept.now _ c.requires e.0;
+          refused = e.1;
+          told = refl;
+          same = refl;
+          stopped = c.stopped.ensures.stopped;
+          cause = λ is. c.in-Err.ensures.cause (ap Err is);
+        }),
+      ),
+    )
+
+pub returns-in-Err-choose-clause-ends : goal.returns-in-Err-choose-clause-ends
+returns-in-Err-choose-clause-ends g c =
+    let read = c.in-Ok.ensures.ok in (
+      c.read_head.new.kept,
+      inl (
+        c.refuse.result,
+        c.one_of-in-Err-choose.ensures,
+        inr (record {
+          head = read.0;
+          is = read.1;
+          took = took_from _ _ c.args.kept.now _ c.requires read.3;
+          told = refl;
+          refused = c.in-Err-choose.refusal;
+          why = subst (λ (h : Head). IsUnchosen g.L.Lookup.found h c.args.now c.args.routes.now c.choose.new.routes c.in-Err-choose.refusal) read.2 c.in-Err-choose.ensures.err;
+          written = c.refuse.ensures.written;
+        }),
+      ),
+    )
+
+pub returns-clause-ends : goal.returns-clause-ends
+returns-clause-ends g c =
+    let read = c.in-Ok.ensures.ok in
+    let carried = c.carry_head.ensures.ends in
+    let chosen = c.in-Ok-choose.ensures.ok in
+    let sides : g.row.U-Reads.Denot → g.row.U-Writes.Denot → Sides = λ reads writes. record {
+      left = g.U.Reads.Source.left reads;
+      held = g.U.Writes.Sink.held writes;
+      reads = g.U.Reads.Source.faults reads;
+      writes = g.U.Writes.Sink.faults writes;
+      upper_shut = g.U.Writes.Sink.closed writes;
+      lower_shut = g.O.Sink.closed c.carry_head.new.output;
+    } in (
+      carried.0 ++ c.carry_head.new.kept,
+      inr (record {
+        head = read.0;
+        is = read.1;
+        left = g.I.Source.left c.read_head.new.input;
+        kept = c.read_head.new.kept;
+        reads = g.I.Source.faults c.read_head.new.input;
+        framing = c.in-Ok-choose.choice.framing;
+        target = c.in-Ok-choose.choice.target;
+        took = took_from _ _ c.args.kept.now _ c.requires read.3;
+        counted = c.read_head.ensures.counted;
+        chosen = chosen_of g.L.Lookup.found c.in-Ok.head read.0 _ _ _ _ _ read.2 chosen.0;
+        carried = carried_of sides c.in-Ok.head read.0 _ _ _ _ _ read.2 carried.1;
+      }),
+    )

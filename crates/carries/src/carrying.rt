@@ -1,0 +1,190 @@
+//! One request that is carried.
+ghost use Rattle.std.specs.Prelude.{◌≡◌, ◌≢◌, ◌≤◌, ◌++◌, ℕ, List, []};
+ghost use Rattle.carries.specs.Carries.{CarryOn, CarryEnds, going};
+
+use crate::carried::{Carried, one_of};
+use crate::upgraded::carry_upgrade;
+use http_wire::buffer::WireBuffer;
+use http_wire::error::SessionFault;
+use http_wire::head::Head;
+use http_wire::heads::read_head;
+use hub_devices::source::Source;
+use hub_kit::moment::Moment;
+use hub_kit::target::Target;
+use proxy_core::forward::{choose, stopped};
+use proxy_core::passes::pass_on;
+use proxy_core::refusals::refuse;
+use proxy_wire::framing::Framing;
+use proxy_wire::upgrades::is_upgrade;
+use route_table::lookup::Lookup;
+use std::alloc::Global;
+use std::thread::Threads;
+use tunnel::shuts::Shuts;
+use upstreams::tunnelled::Tunnelled;
+
+/// Carries a request whose head was read to a target, over one connection to it: as a tunnel, where it is an upgrade and the upstream's
+/// reply switches over, and else as `pass_on` does. Where no tunnel opens, what was taken of the client behind the request is lost
+/// (`rest`), since a connection takes one request.
+pub fn carry_head<R: Threads, I: Source + Send, O: Shuts, U: Tunnelled<Writes: Send>>(
+    rt: &R,
+    alloc: Global,
+    head: &Head,
+    framing: Framing,
+    target: &Target,
+    input: &mut I,
+    kept: &mut WireBuffer,
+    output: &mut O,
+    up: &mut U,
+) -> Result<Carried<U::Reads, U::Writes>, SessionFault>
+    requires minor { head.now.minor ≤ 1 }
+    requires sized { framing ≢ Framing.ToEnd }
+    ensures ends { (rest : List ℕ)
+        × CarryOn
+        (λ reads writes. record {
+          left = U.Reads.left reads;
+          held = U.Writes.held writes;
+          reads = U.Reads.faults reads;
+          writes = U.Writes.faults writes;
+          upper_shut = U.Writes.closed writes;
+          lower_shut = O.closed output.new;
+        })
+        (going head.now framing) target.now
+        (record {
+          left = I.left input.old;
+          kept = kept.old;
+          held = O.held output.old;
+          told = U.told up.old;
+          reads = I.faults input.old;
+          links = U.faults up.old;
+          writes = O.faults output.old;
+        })
+        (record {
+          left = I.left input.new;
+          kept = rest ++ kept.new;
+          held = O.held output.new;
+          told = U.told up.new;
+          reads = I.faults input.new;
+          links = U.faults up.new;
+          writes = O.faults output.new;
+        }) result }
+    ensures reads { I.faults input.old ≤ I.faults input.new }
+    ensures links { U.faults up.old ≤ U.faults up.new }
+    ensures writes { O.faults output.old ≤ O.faults output.new }
+{
+    if is_upgrade(head, framing) {
+        return carry_upgrade(rt, alloc, head, target, input, kept, output, up);
+    }
+    one_of(pass_on(alloc, head, framing, target, input, kept, output, up))
+}
+
+/// The same as `carry_one`, with a buffer that is handed in and holds nothing.
+fn carry_kept<R: Threads, L: Lookup, I: Source + Send, O: Shuts, U: Tunnelled<Writes: Send>>(
+    rt: &R,
+    alloc: Global,
+    routes: &mut L,
+    now: Moment,
+    input: &mut I,
+    kept: &mut WireBuffer,
+    output: &mut O,
+    up: &mut U,
+) -> Result<Carried<U::Reads, U::Writes>, SessionFault>
+    requires { kept.old ≡ [] }
+    ensures ends { (kept : List ℕ) × CarryEnds L.found
+        (λ reads writes. record {
+          left = U.Reads.left reads;
+          held = U.Writes.held writes;
+          reads = U.Reads.faults reads;
+          writes = U.Writes.faults writes;
+          upper_shut = U.Writes.closed writes;
+          lower_shut = O.closed output.new;
+        }) now
+        (record {
+          left = I.left input.old;
+          kept = [];
+          held = O.held output.old;
+          told = U.told up.old;
+          reads = I.faults input.old;
+          links = U.faults up.old;
+          writes = O.faults output.old;
+        })
+        (record {
+          left = I.left input.new;
+          kept = kept;
+          held = O.held output.new;
+          told = U.told up.new;
+          reads = I.faults input.new;
+          links = U.faults up.new;
+          writes = O.faults output.new;
+        })
+        routes.old routes.new result }
+    ensures reads { I.faults input.old ≤ I.faults input.new }
+    ensures links { U.faults up.old ≤ U.faults up.new }
+    ensures writes { O.faults output.old ≤ O.faults output.new }
+{
+    let head = match read_head(alloc, input, kept) {
+        Ok(head) => head,
+        Err(e) => return one_of(stopped(output, e)),
+    };
+    let choice = match choose(alloc, &head, routes, now) {
+        Ok(choice) => choice,
+        Err(refusal) => return one_of(refuse(output, refusal)),
+    };
+    carry_head(
+        rt,
+        alloc,
+        &head,
+        choice.framing,
+        &choice.target,
+        input,
+        kept,
+        output,
+        up,
+    )
+}
+
+/// Reads one request and carries it to the target of its path's route: as a tunnel, where it is an upgrade and the upstream's reply
+/// switches over, and else as `forward_one` does. A tunnel ends when both directions have.
+pub fn carry_one<R: Threads, L: Lookup, I: Source + Send, O: Shuts, U: Tunnelled<Writes: Send>>(
+    rt: &R,
+    alloc: Global,
+    routes: &mut L,
+    now: Moment,
+    input: &mut I,
+    output: &mut O,
+    up: &mut U,
+) -> Result<Carried<U::Reads, U::Writes>, SessionFault>
+    ensures ends { (kept : List ℕ) × CarryEnds L.found
+        (λ reads writes. record {
+          left = U.Reads.left reads;
+          held = U.Writes.held writes;
+          reads = U.Reads.faults reads;
+          writes = U.Writes.faults writes;
+          upper_shut = U.Writes.closed writes;
+          lower_shut = O.closed output.new;
+        }) now
+        (record {
+          left = I.left input.old;
+          kept = [];
+          held = O.held output.old;
+          told = U.told up.old;
+          reads = I.faults input.old;
+          links = U.faults up.old;
+          writes = O.faults output.old;
+        })
+        (record {
+          left = I.left input.new;
+          kept = kept;
+          held = O.held output.new;
+          told = U.told up.new;
+          reads = I.faults input.new;
+          links = U.faults up.new;
+          writes = O.faults output.new;
+        })
+        routes.old routes.new result }
+    ensures reads { I.faults input.old ≤ I.faults input.new }
+    ensures links { U.faults up.old ≤ U.faults up.new }
+    ensures writes { O.faults output.old ≤ O.faults output.new }
+{
+    let mut kept = WireBuffer::new(alloc);
+    carry_kept(rt, alloc, routes, now, input, &mut kept, output, up)
+}

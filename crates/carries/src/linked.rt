@@ -1,0 +1,78 @@
+//! An upgrade, to an upstream that is connected.
+ghost use Rattle.std.specs.Prelude.{◌≡◌, ◌≤◌, ◌++◌, [], true};
+ghost use Rattle.carries.specs.Carries.{LinkEnds, upgrade_of};
+
+use crate::asking::ask_switch;
+use crate::carried::{Carried, one_of};
+use crate::opening::open;
+use http_wire::error::SessionFault;
+use hub_devices::source::Source;
+use piece_window::window::Window;
+use proxy_core::passes::give_back;
+use proxy_core::refusals::refuse;
+use std::alloc::Global;
+use std::thread::Threads;
+use tunnel::shuts::Shuts;
+use upstreams::tunnelled::Tunnelled;
+
+/// Sends an upgrade on, whose client has sent `first` behind its head, and opens a tunnel, or passes back what else comes.
+pub(crate) fn carry_linked<R: Threads, I: Source + Send, O: Shuts, U: Tunnelled<Writes: Send>>(
+    rt: &R,
+    alloc: Global,
+    method: &[u8],
+    text: &[u8],
+    first: &[u8],
+    input: &mut I,
+    output: &mut O,
+    up: &mut U,
+) -> Result<Carried<U::Reads, U::Writes>, SessionFault>
+    ensures ends { LinkEnds
+        (λ reads writes. record {
+          left = U.Reads.left reads;
+          held = U.Writes.held writes;
+          reads = U.Reads.faults reads;
+          writes = U.Writes.faults writes;
+          upper_shut = U.Writes.closed writes;
+          lower_shut = O.closed output.new;
+        })
+        (upgrade_of method.now text.now)
+        (record {
+          left = I.left input.old;
+          kept = first.now;
+          held = O.held output.old;
+          told = U.told up.old;
+          reads = I.faults input.old;
+          links = U.faults up.old;
+          writes = O.faults output.old;
+        })
+        (record {
+          left = I.left input.new;
+          kept = first.now;
+          held = O.held output.new;
+          told = U.told up.new;
+          reads = I.faults input.new;
+          links = U.faults up.new;
+          writes = O.faults output.new;
+        }) result }
+    ensures reads { I.faults input.old ≤ I.faults input.new }
+    ensures links { U.faults up.old ≤ U.faults up.new }
+    ensures writes { O.faults output.old ≤ O.faults output.new }
+{
+    let mut back = Window::new();
+    let reply = match ask_switch(alloc, method, text, up, &mut back) {
+        Ok(reply) => reply,
+        Err(refusal) => return one_of(refuse(output, refusal)),
+    };
+    if reply.switched {
+        return open(
+            rt,
+            first,
+            reply.text.as_slice(),
+            back.as_slice(),
+            input,
+            output,
+            up,
+        );
+    }
+    one_of(give_back(alloc, &reply, &mut back, output, up))
+}

@@ -1,0 +1,83 @@
+//! A tunnel, behind a reply that switches over.
+ghost use Rattle.std.specs.Prelude.{◌≡◌, ◌≤◌};
+ghost use Rattle.carries.specs.Carries.{OpenEnds};
+
+use crate::carried::{Carried, one_of};
+use http_wire::error::SessionFault;
+use http_wire::writes::write_all;
+use hub_devices::source::Source;
+use proxy_core::refusals::{Refusal, refuse};
+use std::thread::Threads;
+use tunnel::relays::relay;
+use tunnel::shuts::Shuts;
+use upstreams::tunnelled::Tunnelled;
+
+/// The most bytes that go one way.
+pub(crate) const BUDGET: u64 = 9_223_372_036_854_775_807;
+
+/// Takes the upstream's sides, passes the reply's head back, and then all bytes both ways: those first that came behind either head.
+pub(crate) fn open<R: Threads, I: Source + Send, O: Shuts, U: Tunnelled<Writes: Send>>(
+    rt: &R,
+    first: &[u8],
+    text: &[u8],
+    behind: &[u8],
+    input: &mut I,
+    output: &mut O,
+    up: &mut U,
+) -> Result<Carried<U::Reads, U::Writes>, SessionFault>
+    ensures ends { OpenEnds
+        (λ reads writes. record {
+          left = U.Reads.left reads;
+          held = U.Writes.held writes;
+          reads = U.Reads.faults reads;
+          writes = U.Writes.faults writes;
+          upper_shut = U.Writes.closed writes;
+          lower_shut = O.closed output.new;
+        })
+        (record {
+          left = I.left input.old;
+          kept = first.now;
+          held = O.held output.old;
+          told = U.told up.old;
+          reads = I.faults input.old;
+          links = U.faults up.old;
+          writes = O.faults output.old;
+        })
+        (record {
+          left = I.left input.new;
+          kept = first.now;
+          held = O.held output.new;
+          told = U.told up.new;
+          reads = I.faults input.new;
+          links = U.faults up.new;
+          writes = O.faults output.new;
+        }) first.now text.now behind.now result }
+    ensures told { U.told up.new ≡ U.told up.old }
+    ensures reads { I.faults input.old ≤ I.faults input.new }
+    ensures links { U.faults up.old ≤ U.faults up.new }
+    ensures writes { O.faults output.old ≤ O.faults output.new }
+{
+    let Ok((mut reads, mut writes)) = up.halves() else {
+        return one_of(refuse(output, Refusal::Link));
+    };
+    match write_all(output, text) {
+        Ok(()) => {}
+        Err(_) => return Err(SessionFault::WriteFault(0)),
+    }
+    let (upward, downward) = relay(
+        rt,
+        first,
+        input,
+        output,
+        behind,
+        &mut reads,
+        &mut writes,
+        BUDGET,
+    );
+    Ok(Carried::Tunnel {
+        up: upward,
+        down: downward,
+        reads,
+        writes,
+    })
+}

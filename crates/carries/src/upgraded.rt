@@ -1,0 +1,89 @@
+//! An upgrade whose head was read.
+ghost use Rattle.std.specs.Prelude.{◌≡◌, ◌≤◌, ◌++◌, ℕ, List, true};
+ghost use Rattle.proxy_wire.specs.Heads as heads;
+ghost use Rattle.carries.specs.Carries.{CarryOn, upgrade_of};
+
+use crate::carried::{Carried, one_of};
+use crate::early::take_kept;
+use crate::linked::carry_linked;
+use http_wire::buffer::WireBuffer;
+use http_wire::error::SessionFault;
+use http_wire::head::Head;
+use hub_devices::source::Source;
+use hub_kit::target::Target;
+use proxy_core::refusals::{Refusal, refuse};
+use proxy_wire::heads::request_text;
+use std::alloc::Global;
+use std::thread::Threads;
+use tunnel::shuts::Shuts;
+use upstreams::tunnelled::Tunnelled;
+
+/// Carries an upgrade whose head was read to a target, over one connection to it. Where no tunnel opens, what the client sent behind its
+/// head is lost (`rest`), since a connection takes one request.
+pub(crate) fn carry_upgrade<R: Threads, I: Source + Send, O: Shuts, U: Tunnelled<Writes: Send>>(
+    rt: &R,
+    alloc: Global,
+    head: &Head,
+    target: &Target,
+    input: &mut I,
+    kept: &mut WireBuffer,
+    output: &mut O,
+    up: &mut U,
+) -> Result<Carried<U::Reads, U::Writes>, SessionFault>
+    requires minor { head.now.minor ≤ 1 }
+    ensures ends { (rest : List ℕ)
+        × CarryOn
+        (λ reads writes. record {
+          left = U.Reads.left reads;
+          held = U.Writes.held writes;
+          reads = U.Reads.faults reads;
+          writes = U.Writes.faults writes;
+          upper_shut = U.Writes.closed writes;
+          lower_shut = O.closed output.new;
+        })
+        (upgrade_of head.now.method (heads.request_text true head.now)) target.now
+        (record {
+          left = I.left input.old;
+          kept = kept.old;
+          held = O.held output.old;
+          told = U.told up.old;
+          reads = I.faults input.old;
+          links = U.faults up.old;
+          writes = O.faults output.old;
+        })
+        (record {
+          left = I.left input.new;
+          kept = rest ++ kept.new;
+          held = O.held output.new;
+          told = U.told up.new;
+          reads = I.faults input.new;
+          links = U.faults up.new;
+          writes = O.faults output.new;
+        }) result }
+    ensures reads { I.faults input.old ≤ I.faults input.new }
+    ensures links { U.faults up.old ≤ U.faults up.new }
+    ensures writes { O.faults output.old ≤ O.faults output.new }
+{
+    let Ok(text) = request_text(alloc, true, head) else {
+        return one_of(refuse(output, Refusal::Memory));
+    };
+    let Ok(first) = take_kept(alloc, kept) else {
+        return one_of(refuse(output, Refusal::Memory));
+    };
+    match up.connect(target) {
+        Ok(()) => {}
+        Err(_) => return one_of(refuse(output, Refusal::Link)),
+    }
+    let outcome = carry_linked(
+        rt,
+        alloc,
+        head.method.as_bytes(),
+        text.as_slice(),
+        first.as_slice(),
+        input,
+        output,
+        up,
+    );
+    up.finish();
+    outcome
+}
