@@ -1,0 +1,13 @@
+-- What a guard has outside, where it is told.
+use Rattle.std.specs.Prelude.{ℕ, List, Option}
+
+-- how many connections its listener has given, what stands on its output, and how often either has failed
+pub record Hall : Type 0 where
+  pub given : Option ℕ
+  pub held : Option (List ℕ)
+  pub accepts : ℕ
+  pub writes : ℕ
+
+abbrev pub hall : {L O : Type 0} → (L → Option ℕ) → (L → ℕ) → (O → Option (List ℕ)) → (O → ℕ) → L → O → Hall
+hall given accepts held writes doors output =
+    record { given = given doors; held = held output; accepts = accepts doors; writes = writes output }

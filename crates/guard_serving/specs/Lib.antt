@@ -1,0 +1,4 @@
+pub mod Served
+pub mod Hall
+pub mod Ends
+pub mod Runs

@@ -1,0 +1,150 @@
+//! The command `guard`, over the outside that the program makes.
+ghost use Rattle.std.specs.Prelude.{◌≡◌, ◌≤◌, ◌<◌, Some, length};
+ghost use Rattle.guard_serving.specs.Ends.{IsOver};
+ghost use Rattle.guard_serving.specs.Hall.{hall};
+ghost use Rattle.guard_serving.specs.Runs as spec;
+ghost use Rattle.hub_words.specs.Guard.{guard_read};
+
+use crate::ends::{GuardEnd, GuardFault, unserved};
+use crate::kit::GuardKit;
+use crate::secret::secret_of;
+use crate::serving::{serve_at_door, serve_by_token};
+use guard_login::door::Door;
+use hub_devices::files::Files;
+use hub_devices::listener::Listener;
+use hub_devices::random::Random;
+use hub_devices::sink::Sink;
+use hub_kit::text::Text;
+use hub_link::link::HubLink;
+use hub_words::guard::{GuardWords, read_guard};
+use hub_words::word_error::WordError;
+use std::alloc::Global;
+use std::sync::Wait;
+use std::thread::Threads;
+use upstreams::upstream::Upstream;
+
+/// The door of these words, with this secret.
+fn door_of(words: GuardWords, secret: Text) -> Door
+    ensures { result ≡ spec.door_of words secret }
+{
+    Door {
+        key: words.server,
+        target: words.target,
+        hub: words.hub,
+        secret,
+    }
+}
+
+/// Serves by these words, with this secret where browsers sign in.
+fn serve_words<
+    L: Listener<In: Send, Out: Send> + Send,
+    H: HubLink + Send + Drop,
+    R: Random + Send + Drop,
+    U: Upstream + Send + Drop,
+    O: Sink,
+    W: Threads + Wait + Sync,
+>(
+    rt: &W,
+    alloc: Global,
+    words: GuardWords,
+    secret: Option<Text>,
+    doors: &mut L,
+    kits: Vec<GuardKit<H, R, U>>,
+    output: &mut O,
+) -> GuardEnd
+    requires kits { 0 < length kits.items }
+    ensures over { IsOver (hall L.given L.faults O.held O.faults doors.old output.old) result
+        (hall L.given L.faults O.held O.faults doors.new output.new) }
+    ensures writes { O.faults output.old ≤ O.faults output.new }
+{
+    match secret {
+        Some(secret) => {
+            let door = door_of(words, secret);
+            let end = serve_at_door(rt, alloc, &door, doors, kits, output);
+            drop(door);
+            end
+        }
+        None => {
+            let end = serve_by_token(rt, alloc, &words.server, &words.target, doors, kits, output);
+            drop(words);
+            end
+        }
+    }
+}
+
+/// The command of these words.
+fn run_words<
+    L: Listener<In: Send, Out: Send> + Send,
+    H: HubLink + Send + Drop,
+    R: Random + Send + Drop,
+    U: Upstream + Send + Drop,
+    F: Files,
+    O: Sink,
+    W: Threads + Wait + Sync,
+>(
+    rt: &W,
+    alloc: Global,
+    words: GuardWords,
+    files: &mut F,
+    doors: &mut L,
+    kits: Vec<GuardKit<H, R, U>>,
+    output: &mut O,
+) -> GuardEnd
+    requires kits { 0 < length kits.items }
+    ensures ends { spec.RunEnds (Some words) (F.files files.old) (F.faults files.old) (F.faults files.new)
+        (hall L.given L.faults O.held O.faults doors.old output.old) result (hall L.given L.faults O.held O.faults doors.new output.new) }
+    ensures files { F.files files.new ≡ F.files files.old }
+    ensures looked { F.faults files.old ≤ F.faults files.new }
+    ensures writes { O.faults output.old ≤ O.faults output.new }
+{
+    match secret_of(alloc, files, &words.secret_file) {
+        Ok(secret) => serve_words(rt, alloc, words, secret, doors, kits, output),
+        Err(error) => {
+            drop(kits);
+            drop(words);
+            unserved(GuardFault::of_secret(error))
+        }
+    }
+}
+
+/// Runs the command `guard` that the words say: reads the secret in the file that they name, if they do, writes `ready` and a line end, and
+/// takes the listener's connections until it fails. Each is served by a worker with one of the kits: one request by
+/// `guard::guards::guard_one`, and by `guard_login::logins::login_one` where there is a secret.
+///
+/// Refused words, and a file that can't be read or has no secret, do nothing, and so does want of memory before `ready`.
+pub fn run<
+    L: Listener<In: Send, Out: Send> + Send,
+    H: HubLink + Send + Drop,
+    R: Random + Send + Drop,
+    U: Upstream + Send + Drop,
+    F: Files,
+    O: Sink,
+    W: Threads + Wait + Sync,
+>(
+    rt: &W,
+    alloc: Global,
+    words: &[Text],
+    files: &mut F,
+    doors: &mut L,
+    kits: Vec<GuardKit<H, R, U>>,
+    output: &mut O,
+) -> GuardEnd
+    requires kits { 0 < length kits.items }
+    ensures ends { spec.RunEnds (guard_read words.now) (F.files files.old) (F.faults files.old) (F.faults files.new)
+        (hall L.given L.faults O.held O.faults doors.old output.old) result (hall L.given L.faults O.held O.faults doors.new output.new) }
+    ensures files { F.files files.new ≡ F.files files.old }
+    ensures looked { F.faults files.old ≤ F.faults files.new }
+    ensures writes { O.faults output.old ≤ O.faults output.new }
+{
+    match read_guard(alloc, words) {
+        Ok(words) => run_words(rt, alloc, words, files, doors, kits, output),
+        Err(WordError::Refused) => {
+            drop(kits);
+            unserved(GuardFault::Words)
+        }
+        Err(WordError::Memory) => {
+            drop(kits);
+            unserved(GuardFault::Memory)
+        }
+    }
+}

@@ -1,0 +1,104 @@
+//! A guard over its listener.
+ghost use Rattle.std.specs.Prelude.{◌<◌, ◌≡◌, ◌≤◌, length};
+ghost use Rattle.guard_serving.specs.Ends.{IsOver};
+ghost use Rattle.guard_serving.specs.Hall.{hall};
+
+use crate::ends::{GuardEnd, GuardFault, unserved};
+use crate::hiring::{hire_at_door, hire_by_token};
+use crate::kit::GuardKit;
+use guard_login::door::Door;
+use http_wire::writes::write_all;
+use hub_devices::listener::Listener;
+use hub_devices::random::Random;
+use hub_devices::sink::Sink;
+use hub_kit::names::ServerKey;
+use hub_kit::target::Target;
+use hub_link::link::HubLink;
+use std::alloc::Global;
+use std::sync::Wait;
+use std::thread::Threads;
+use upstreams::upstream::Upstream;
+use worker_hall::{Serves, serve};
+
+const READY: &[u8] = b"ready\n";
+
+/// Says that it is ready, and has the listener's connections served until it fails.
+fn serve_all<
+    L: Listener<In: Send, Out: Send> + Send,
+    G: Serves<L::In, L::Out> + Send,
+    O: Sink,
+    W: Threads + Wait + Sync,
+>(rt: &W, alloc: Global, guards: &mut [G], doors: &mut L, output: &mut O) -> GuardEnd
+    requires guards { 0 < length guards.old }
+    ensures over { IsOver (hall L.given L.faults O.held O.faults doors.old output.old) result
+        (hall L.given L.faults O.held O.faults doors.new output.new) }
+    ensures writes { O.faults output.old ≤ O.faults output.new }
+{
+    if write_all(output, READY).is_err() {
+        return unserved(GuardFault::Output);
+    }
+    let (tally, served) = serve(rt, alloc, doors, guards, u64::MAX);
+    GuardEnd {
+        served: tally.count(),
+        fault: GuardFault::of_hall(served),
+    }
+}
+
+/// Serves by the tokens of requests alone.
+pub(crate) fn serve_by_token<
+    L: Listener<In: Send, Out: Send> + Send,
+    H: HubLink + Send + Drop,
+    R: Random + Send + Drop,
+    U: Upstream + Send + Drop,
+    O: Sink,
+    W: Threads + Wait + Sync,
+>(
+    rt: &W,
+    alloc: Global,
+    key: &ServerKey,
+    target: &Target,
+    doors: &mut L,
+    kits: Vec<GuardKit<H, R, U>>,
+    output: &mut O,
+) -> GuardEnd
+    requires kits { 0 < length kits.items }
+    ensures over { IsOver (hall L.given L.faults O.held O.faults doors.old output.old) result
+        (hall L.given L.faults O.held O.faults doors.new output.new) }
+    ensures writes { O.faults output.old ≤ O.faults output.new }
+{
+    let Ok(mut guards) = hire_by_token(alloc, key, target, kits) else {
+        return unserved(GuardFault::Memory);
+    };
+    let end = serve_all(rt, alloc, guards.as_mut_slice(), doors, output);
+    drop(guards);
+    end
+}
+
+/// Serves, and lets browsers sign in.
+pub(crate) fn serve_at_door<
+    L: Listener<In: Send, Out: Send> + Send,
+    H: HubLink + Send + Drop,
+    R: Random + Send + Drop,
+    U: Upstream + Send + Drop,
+    O: Sink,
+    W: Threads + Wait + Sync,
+>(
+    rt: &W,
+    alloc: Global,
+    door: &Door,
+    doors: &mut L,
+    kits: Vec<GuardKit<H, R, U>>,
+    output: &mut O,
+) -> GuardEnd
+    requires kits { 0 < length kits.items }
+    ensures over { IsOver (hall L.given L.faults O.held O.faults doors.old output.old) result
+        (hall L.given L.faults O.held O.faults doors.new output.new) }
+    ensures writes { O.faults output.old ≤ O.faults output.new }
+{
+    let Ok(mut guards) = hire_at_door(alloc, door, kits) else {
+        return unserved(GuardFault::Memory);
+    };
+    let end = serve_all(rt, alloc, guards.as_mut_slice(), doors, output);
+    drop(guards);
+    end
+}

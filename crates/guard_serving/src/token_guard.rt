@@ -1,0 +1,60 @@
+//! What serves connections by the token of their request alone.
+ghost use Rattle.std.specs.Prelude.{[]};
+ghost use Rattle.guard_serving.specs.Served.{IsGuarded};
+
+use crate::kit::GuardKit;
+use guard::guards::guard_one;
+use hub_devices::random::Random;
+use hub_devices::sink::Sink;
+use hub_devices::source::Source;
+use hub_kit::names::ServerKey;
+use hub_kit::target::Target;
+use hub_link::link::HubLink;
+use std::alloc::Global;
+use std::sync::Wait;
+use upstreams::upstream::Upstream;
+use worker_hall::Serves;
+
+/// Passes one request of each connection on to the target, where the hub admits its token to the server of this key.
+#[derive(Drop)]
+pub struct TokenGuard<'a, H: HubLink, R: Random, U: Upstream> {
+    pub key: &'a ServerKey,
+    pub target: &'a Target,
+    pub kit: GuardKit<H, R, U>,
+}
+
+impl<'a, H: HubLink, R: Random, U: Upstream, I: Source, O: Sink> Serves<I, O>
+    for TokenGuard<'a, H, R, U> {
+    ghost served = { λ g i o g' i' o'. IsGuarded H.asked H.does H.faults g.key.now g.target.now g.kit.link g'.kit.link
+        (record {
+          left = I.left i;
+          kept = [];
+          held = O.held o;
+          told = U.told g.kit.upstream;
+          reads = I.faults i;
+          links = U.faults g.kit.upstream;
+          writes = O.faults o;
+        })
+        (record {
+          left = I.left i';
+          kept = [];
+          held = O.held o';
+          told = U.told g'.kit.upstream;
+          reads = I.faults i';
+          links = U.faults g'.kit.upstream;
+          writes = O.faults o';
+        }) };
+
+    fn serve<W: Wait>(&mut self, _rt: &W, alloc: Global, input: &mut I, output: &mut O) {
+        // a fault ends this connection alone
+        let _ = guard_one(
+            alloc,
+            self.key,
+            self.target,
+            &mut self.kit.link,
+            input,
+            output,
+            &mut self.kit.upstream,
+        );
+    }
+}
