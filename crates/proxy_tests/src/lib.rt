@@ -7,9 +7,13 @@ mod check;
 #[cfg(test)]
 mod of_api;
 #[cfg(test)]
+mod of_carry;
+#[cfg(test)]
 mod of_forward;
 #[cfg(test)]
 mod of_guard;
+#[cfg(test)]
+mod of_guard_command;
 #[cfg(test)]
 mod of_login;
 #[cfg(test)]

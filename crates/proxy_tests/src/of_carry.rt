@@ -1,0 +1,381 @@
+//! One request carried: a tunnel behind a head of status 101, what is none, and two ends that wait for one another.
+ghost use Rattle.std.specs.Prelude.{◌<◌, ◌≤◌, None, false, ℕ, length};
+
+use crate::check::check;
+use carries::{Carried, carry_one};
+use http_wire::error::SessionFault;
+use hub_devices::mem_bytes::{MemSink, MemSource};
+use hub_devices::sink::Sink;
+use hub_devices::source::{Failed, Source};
+use hub_kit::bytes::Bytes;
+use hub_kit::moment::Moment;
+use hub_kit::target::Target;
+use hub_kit::targets::read_target;
+use hub_kit::text::Text;
+use proxy_core::refusals::Forwarded;
+use route_table::route::RouteEntry;
+use route_table::routes::Routes;
+use std::alloc::Global;
+use std::process::Abort;
+use std::sync::atomic::{AtomicU64, Ordering};
+use std::thread;
+use std::thread::Threads;
+use tunnel::ends::{Pump, PumpEnd};
+use tunnel::gate::Gate;
+use upstreams::mem_upstream::MemUpstream;
+use upstreams::tunnelled::Tunnelled;
+use upstreams::upstream::Upstream;
+
+/// What stands on the input and comes from the upstream, and what comes of them.
+struct Carriage {
+    name: &'static str,
+    /// The number of the upstream's call that fails.
+    failing: u64,
+    input: &'static [u8],
+    given: &'static [u8],
+    end: Seen,
+    sent: &'static [u8],
+    output: &'static [u8],
+}
+
+/// How a request ended: as one that is passed on, or with what went up a tunnel and how both directions ended.
+#[derive(Clone, Copy, PartialEq, Eq)]
+enum Seen {
+    One(Result<Forwarded, SessionFault>),
+    Tunnel(&'static [u8], Pump, Pump),
+}
+
+/// The number of a call that doesn't come.
+const NEVER: u64 = u64::MAX;
+
+const BAD_UPSTREAM: &[u8] =
+    b"HTTP/1.1 502 Bad Gateway\r\nContent-Type: application/json\r\nContent-Length: 39\r\n\
+    Connection: close\r\n\r\n{\"message\":\"bad upstream\",\"status\":502}";
+
+const NO_UPSTREAM: &[u8] = b"HTTP/1.1 503 Service Unavailable\r\nContent-Type: application/json\r\n\
+    Content-Length: 35\r\nConnection: close\r\n\r\n{\"message\":\"upstream\",\"status\":503}";
+
+const ASKED: &[u8] = b"GET /user/ann/ws HTTP/1.1\r\nHost: h\r\nConnection: keep-alive, Upgrade\r\n\
+    Upgrade: websocket\r\n\r\nabc";
+
+const SENT: &[u8] =
+    b"GET /user/ann/ws HTTP/1.1\r\nHost: h\r\nUpgrade: websocket\r\nConnection: Upgrade\r\n\r\n";
+
+const SWITCHED: &[u8] = b"HTTP/1.1 101 Switching Protocols\r\nConnection: upgrade\r\n\
+    Upgrade: websocket\r\nKeep-Alive: timeout=5\r\n\r\nxy";
+
+/// The table has one route, `/user/ann`.
+const CARRIAGES: [Carriage; 6] = [
+    Carriage {
+        name: "both ways, behind the head of status 101",
+        failing: NEVER,
+        input: ASKED,
+        given: SWITCHED,
+        end: Seen::Tunnel(
+            b"abc",
+            Pump {
+                bytes: 3,
+                end: PumpEnd::Ended,
+            },
+            Pump {
+                bytes: 2,
+                end: PumpEnd::Ended,
+            },
+        ),
+        sent: SENT,
+        output: b"HTTP/1.1 101 Switching Protocols\r\nUpgrade: websocket\r\n\
+    Connection: Upgrade\r\n\r\nxy",
+    },
+    Carriage {
+        name: "101 to a request that asked for no upgrade",
+        failing: NEVER,
+        input: b"GET /user/ann/ws HTTP/1.1\r\nHost: h\r\nUpgrade: websocket\r\n\r\n",
+        given: SWITCHED,
+        end: Seen::One(Ok(Forwarded::Refused(502))),
+        sent: b"GET /user/ann/ws HTTP/1.1\r\nHost: h\r\nConnection: close\r\n\r\n",
+        output: BAD_UPSTREAM,
+    },
+    Carriage {
+        name: "an upgrade with a body is none",
+        failing: NEVER,
+        input: b"GET /user/ann/ws HTTP/1.1\r\nConnection: Upgrade\r\nUpgrade: websocket\r\n\
+    Content-Length: 1\r\n\r\na",
+        given: SWITCHED,
+        end: Seen::One(Ok(Forwarded::Refused(502))),
+        sent: b"GET /user/ann/ws HTTP/1.1\r\nContent-Length: 1\r\nConnection: close\r\n\r\na",
+        output: BAD_UPSTREAM,
+    },
+    Carriage {
+        name: "another reply to an upgrade",
+        failing: NEVER,
+        input: ASKED,
+        given: b"HTTP/1.1 403 Forbidden\r\nUpgrade: websocket\r\nContent-Length: 2\r\n\r\nno",
+        end: Seen::One(Ok(Forwarded::Passed)),
+        sent: SENT,
+        output: b"HTTP/1.1 403 Forbidden\r\nContent-Length: 2\r\nConnection: close\r\n\r\nno",
+    },
+    Carriage {
+        name: "the sides aren't had",
+        failing: 3,
+        input: ASKED,
+        given: SWITCHED,
+        end: Seen::One(Ok(Forwarded::Refused(503))),
+        sent: SENT,
+        output: NO_UPSTREAM,
+    },
+    Carriage {
+        name: "no route",
+        failing: NEVER,
+        input: b"GET /other HTTP/1.1\r\nConnection: Upgrade\r\nUpgrade: websocket\r\n\r\n",
+        given: SWITCHED,
+        end: Seen::One(Ok(Forwarded::Refused(404))),
+        sent: b"",
+        output: b"HTTP/1.1 404 Not Found\r\nContent-Type: application/json\r\nContent-Length: 36\r\n\
+    Connection: close\r\n\r\n{\"message\":\"not found\",\"status\":404}",
+    },
+];
+
+fn table(rt: &impl Abort, alloc: Global) -> Routes {
+    let mut routes = Routes::new(alloc, 10);
+    let entry = RouteEntry {
+        target: read_target(alloc, b"http://127.0.0.1:9001").expect(rt, "it is a target"),
+        serial: None,
+        extra: Text::from_str(alloc, "{}").expect(rt, "there is memory"),
+    };
+    let added = routes.add(b"/user/ann", entry, Moment::zero());
+    added.expect(rt, "there is memory");
+    routes
+}
+
+/// Whether a request ended so.
+fn ended_so(ended: Result<Carried<MemSource, Gate<MemSink>>, SessionFault>, end: Seen) -> bool {
+    match ended {
+        Ok(Carried::One(forwarded)) => end == Seen::One(Ok(forwarded)),
+        Ok(
+            Carried::Tunnel {
+                up,
+                down,
+                reads: _,
+                writes,
+            },
+        ) => match end {
+            Seen::Tunnel(bytes, upward, downward) => {
+                (writes.inner().as_slice() == bytes) & (up == upward) & (down == downward)
+            }
+            Seen::One(_) => false,
+        },
+        Err(fault) => end == Seen::One(Err(fault)),
+    }
+}
+
+fn ends_so<R: Threads + Abort>(rt: &R, alloc: Global, cut: usize, row: &Carriage) -> bool {
+    let mut routes = table(rt, alloc);
+    let input = Bytes::from_slice(alloc, row.input).expect(rt, "there is memory");
+    let given = Bytes::from_slice(alloc, row.given).expect(rt, "there is memory");
+    let failing = Vec::from_slice(alloc, &[row.failing]).expect(rt, "there is memory");
+    let mut source = MemSource::new(input, cut, Vec::new(alloc));
+    let mut sink = Gate::new(MemSink::new(alloc, Vec::new(alloc)));
+    let mut up = MemUpstream::new(alloc, given, cut, failing);
+    let ended = carry_one(
+        rt,
+        alloc,
+        &mut routes,
+        Moment::zero(),
+        &mut source,
+        &mut sink,
+        &mut up,
+    );
+    ended_so(ended, row.end) & (up.sent() == row.sent) & (sink.inner().as_slice() == row.output)
+}
+
+#[test]
+fn carriages(rt: HostRuntime) {
+    for row in &CARRIAGES {
+        check(&rt, ends_so(&rt, rt.alloc(), 1000, row), row.name);
+    }
+}
+
+/// Where calls of the upstream fail, their numbers depend on the pieces.
+#[test]
+fn byte_by_byte(rt: HostRuntime) {
+    for row in &CARRIAGES {
+        if row.failing == NEVER {
+            check(&rt, ends_so(&rt, rt.alloc(), 1, row), row.name);
+        }
+    }
+}
+
+/// Gives a head, then the byte 0, then waits until the other end's first byte has come, and ends.
+#[derive(Drop)]
+struct Waiting<'a> {
+    head: &'static [u8],
+    gave: bool,
+    came: &'a AtomicU64,
+    faults: u64,
+}
+
+impl Waiting<'_> {
+    /// The next bytes of the head.
+    fn next_of_head(&mut self, into: &mut [u8]) -> usize
+        ensures within { result ≤ length into.new }
+        ensures counted { self.old.faults ≤ self.new.faults }
+    {
+        let count = self.head.len().min(into.len());
+        into[..count].copy_from_slice(&self.head[..count]);
+        self.head = &self.head[count..];
+        count
+    }
+}
+
+impl Source for Waiting<'_> {
+    ghost left = { λ s. None };
+
+    ghost faults = { λ s. s.faults };
+
+    fn read(&mut self, into: &mut [u8]) -> Result<usize, Failed> {
+        if into.is_empty() {
+            return Ok(0);
+        }
+        if !self.head.is_empty() {
+            return Ok(self.next_of_head(into));
+        }
+        if !self.gave {
+            self.gave = true;
+            into[0] = 0;
+            return Ok(1);
+        }
+        for _ in 0..10_000_000 {
+            if self.came.load(Ordering::SeqCst) != 0 {
+                return Ok(0);
+            }
+            thread::yield_now();
+        }
+        self.faults = self.faults.saturating_add(1);
+        Err(Failed)
+    }
+}
+
+/// Tells that the byte 0 came.
+#[derive(Drop)]
+struct Telling<'a> {
+    came: &'a AtomicU64,
+}
+
+impl Sink for Telling<'_> {
+    ghost held = { λ s. None };
+
+    ghost faults = { λ s. 0 };
+
+    ghost closed = { λ s. false };
+
+    fn write(&mut self, from: &[u8]) -> Result<usize, Failed> {
+        if from.contains(&0) {
+            self.came.store(1, Ordering::SeqCst);
+        }
+        Ok(from.len())
+    }
+}
+
+/// An upstream that switches over, whose end of the tunnel waits.
+#[derive(Drop)]
+struct WaitingUp<'a> {
+    head: &'static [u8],
+    came: &'a AtomicU64,
+}
+
+impl Upstream for WaitingUp<'_> {
+    ghost told = { λ u. None };
+
+    ghost faults = { λ u. 0 };
+
+    fn connect(&mut self, _target: &Target) -> Result<(), Failed> {
+        Ok(())
+    }
+
+    fn send(&mut self, _bytes: &[u8]) -> Result<(), Failed> {
+        Ok(())
+    }
+
+    fn receive(&mut self, into: &mut [u8]) -> Result<usize, Failed> {
+        let count = self.head.len().min(into.len());
+        into[..count].copy_from_slice(&self.head[..count]);
+        self.head = &self.head[count..];
+        Ok(count)
+    }
+
+    fn finish(&mut self) {}
+}
+
+impl<'a> Tunnelled for WaitingUp<'a> {
+    type Reads = Waiting<'a>;
+
+    type Writes = Gate<Telling<'a>>;
+
+    fn halves(&mut self) -> Result<(Waiting<'a>, Gate<Telling<'a>>), Failed> {
+        let came = self.came;
+        let reads = Waiting {
+            head: &[],
+            gave: false,
+            came,
+            faults: 0,
+        };
+        Ok((reads, Gate::new(Telling { came })))
+    }
+}
+
+/// Whether one byte went each way, though either end gives nothing more until its own has come to the other one.
+fn one_byte_each<R: Threads + Abort>(
+    rt: &R,
+    alloc: Global,
+    client: &AtomicU64,
+    upstream: &AtomicU64,
+) -> bool {
+    let mut routes = table(rt, alloc);
+    let mut input = Waiting {
+        head: b"GET /user/ann/ws HTTP/1.1\r\nConnection: Upgrade\r\nUpgrade: a\r\n\r\n",
+        gave: false,
+        came: client,
+        faults: 0,
+    };
+    let mut output = Gate::new(Telling { came: client });
+    let mut up = WaitingUp {
+        head: b"HTTP/1.1 101 Switching Protocols\r\nUpgrade: a\r\n\r\n",
+        came: upstream,
+    };
+    let ended = carry_one(
+        rt,
+        alloc,
+        &mut routes,
+        Moment::zero(),
+        &mut input,
+        &mut output,
+        &mut up,
+    );
+    let one = Pump {
+        bytes: 1,
+        end: PumpEnd::Ended,
+    };
+    match ended {
+        Ok(
+            Carried::Tunnel {
+                up,
+                down,
+                reads: _,
+                writes: _,
+            },
+        ) => (up == one) & (down == one),
+        _ => false,
+    }
+}
+
+#[test]
+fn ends_that_wait(rt: HostRuntime) {
+    let client = AtomicU64::new(0);
+    let upstream = AtomicU64::new(0);
+    let holds = one_byte_each(&rt, rt.alloc(), &client, &upstream);
+    check(
+        &rt,
+        holds,
+        "two ends that wait for one another's first byte",
+    );
+}
