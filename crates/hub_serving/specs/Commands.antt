@@ -35,7 +35,7 @@ module _ {K : Type 0} (Tells : K → Type 0) (rows : K → Rows) (faults : K →
   abbrev pub EndsOpened : Plan → (now : ℕ) → Hall → Hall → K → K → End → Type 0
   EndsOpened plan now h h' k k' end =
       (start : Start) × (counted : ℕ) × IsOpened plan.hub now (Tells k') (rows k) (faults k) start counted
-      × EndsOver Tells rows faults start counted plan.connections h h' k' end
+      × EndsOver Tells rows faults start counted plan h h' k' end
 
   abbrev pub EndsChosen : Plan → (now : ℕ) → Hall → Hall → K → K → End → Type 0
   EndsChosen plan now h h' k k' end = EndsUnopened plan now h h' k k' end ⊎ EndsOpened plan now h h' k k' end

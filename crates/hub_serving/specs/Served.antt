@@ -1,15 +1,24 @@
--- What is done over an opened book: running servers are taken back, and connections are served.
-use Rattle.std.specs.Prelude.{◌≡◌, ◌==◌, ◌⊎◌, ℕ, ◌≤◌, true, not, List, [], Option, Ok, Err}
+-- What is done over an opened book: running servers are taken back, the routes are brought into step, and connections are served.
+use Rattle.std.specs.Prelude.{◌≡◌, ◌==◌, ◌⊎◌, ℕ, ◌≤◌, true, not, List, [], Option, Result, Ok, Err}
 use mathlib.Core.List.{IsPrefix}
 use Rattle.atomic_table.specs.Seated.{TableId}
-use Rattle.desk.specs.Passes.{PassState, opening}
+use Rattle.desk.specs.Passes.{PassState, IsSamePass, opening}
+use Rattle.hub_devices.specs.Calls.{Grows}
 use Rattle.hub_devices.specs.Faults.{Rises}
+use Rattle.hub_devices.specs.declared.calls.Routing.{Routing}
+use Rattle.hub_devices.specs.declared.calls.Told.{Told}
 use Rattle.keeper.specs.Rows.{Rows}
+use Rattle.server_work.specs.Chains.{Comes, sight}
 use Rattle.server_work.specs.declared.adopt.Adopted.{Adopted}
 use Rattle.hub_core.specs.Visits.{Entry}
 use Rattle.hub_core.specs.declared.start.Start.{Start}
 use Rattle.hub_run.specs.Turns.{View}
 use Rattle.hub_adopt.specs.Adopting.{TakesBack}
+use Rattle.hub_sync.specs.Plans.{IsPlanAt}
+use Rattle.hub_sync.specs.Syncing.{SyncTold}
+use Rattle.hub_sync.specs.declared.calls.Synced.{Synced}
+use Rattle.hub_sync.specs.declared.calls.SyncFault.{SyncFault}
+use Rattle.hub_sync.specs.declared.calls.SyncFault.TheVariants as sync
 use Rattle.hub_serve.specs.Given.{Gave}
 use Rattle.hub_main.specs.Served.{HasKept}
 use Rattle.hub_main.specs.declared.cause.Cause.TheVariants.{Memory}
@@ -17,6 +26,7 @@ use Rattle.hub_serving.specs.Hall.{Hall, IsQuiet, at_view, view_in}
 use Rattle.hub_serving.specs.Ends.{End, IsWritten, served_line}
 use Rattle.hub_serving.specs.declared.end.Ended.{Ended}
 use Rattle.hub_serving.specs.declared.end.NotServed.TheVariants.{Because}
+use Rattle.hub_serving.specs.declared.plan.Plan.{Plan}
 
 -- As many connections were served as the listener gave: all that were asked for, unless its count of faults rose. The line tells their
 -- number, and the devices of the opening weren't asked
@@ -34,6 +44,24 @@ abbrev pub Serves : ℕ → Hall → Hall → End → Type 0
 Serves connections h h' (Ok end) = HasServed connections h h' end
 Serves connections h h' (Err why) = (why ≡ Because Memory) × IsQuiet h h'
 
+-- The calls on the route link were those that bring its routes into step with the servers of the state which the pass then saw, and with the
+-- hub's own target, up to one that failed. The pass made no entry, and no other device was asked
+pub record Syncs (start : Start) (hub : Option (List ℕ)) (x : View) (answer : Result Synced SyncFault) (y : View) : Type 0 where
+  pub same : IsSamePass x.pass y.pass
+  pub comes : Comes x.pass.alone (sight x.pass) (sight y.pass)
+  pub mine : y.pass.mine ≡ x.pass.mine
+  pub failed : y.pass.failed ≡ x.pass.failed
+  pub told : List (Routing × Told)
+  pub calls : Grows x.routes told y.routes
+  pub does : SyncTold (IsPlanAt start y.pass.seen hub) told answer
+  pub fault : answer ≡ Err sync.Routes → Rises x.faults.routes y.faults.routes
+  pub counted : x.faults.routes ≤ y.faults.routes
+  pub clock : y.clock ≡ x.clock
+  pub draws : y.draws ≡ x.draws
+  pub spawner : y.spawner ≡ x.spawner
+  pub random : y.faults.random ≡ x.faults.random
+  pub spawns : y.faults.spawner ≡ x.faults.spawner
+
 module _ {K : Type 0} (Tells : K → Type 0) (rows : K → Rows) (faults : K → ℕ) where
   -- connections were served by passes that had seen these entries, and the store has exactly the rows of the state that the last entries
   -- left
@@ -43,12 +71,20 @@ module _ {K : Type 0} (Tells : K → Type 0) (rows : K → Rows) (faults : K →
     pub begins : IsPrefix seen entries
     pub kept : HasKept Tells rows faults start entries k'
 
-  -- from the view x on the servers that were being adopted were taken back, and then connections were served
-  pub record EndsBy (start : Start) (x : View) (connections : ℕ) (h h' : Hall) (k' : K) (end : End) : Type 0 where
+  -- the routes were brought into step, as far as the link didn't fail, and then connections were served; or memory was wanting for that
+  pub record EndsSynced (start : Start) (pass : PassState Entry Start) (plan : Plan) (h h' : Hall) (k' : K) (end : End) : Type 0 where
+    pub answer : Result Synced SyncFault
+    pub synced : View
+    pub syncs : Syncs start plan.hub.hub_url (view_in pass h) answer synced
+    pub wanting : answer ≡ Err sync.Memory → end ≡ Err (Because Memory)
+    pub ends : EndsReady start synced.pass.seen plan.connections (at_view h synced) h' k' end
+
+  -- from the view x on the servers that were being adopted were taken back, and then the routes brought into step and connections served
+  pub record EndsBy (start : Start) (x : View) (plan : Plan) (h h' : Hall) (k' : K) (end : End) : Type 0 where
     pub told : Adopted
     pub ready : View
     pub takes : TakesBack start x told ready
-    pub ends : EndsReady start ready.pass.seen connections (at_view h ready) h' k' end
+    pub ends : EndsSynced start ready.pass plan (at_view h ready) h' k' end
 
   -- memory was wanting before the first call of a device
   pub record IsUntouched (start : Start) (h h' : Hall) (k' : K) (end : End) : Type 0 where
@@ -57,10 +93,10 @@ module _ {K : Type 0} (Tells : K → Type 0) (rows : K → Rows) (faults : K →
     pub kept : HasKept Tells rows faults start [] k'
 
   -- by the first pass of a book without entries
-  abbrev pub EndsDesk : Start → PassState Entry Start → (connections : ℕ) → Hall → Hall → K → End → Type 0
-  EndsDesk start pass connections h h' k' end = IsUntouched start h h' k' end ⊎ EndsBy start (view_in pass h) connections h h' k' end
+  abbrev pub EndsDesk : Start → PassState Entry Start → Plan → Hall → Hall → K → End → Type 0
+  EndsDesk start pass plan h h' k' end = IsUntouched start h h' k' end ⊎ EndsBy start (view_in pass h) plan h h' k' end
 
   -- over a book that was opened, whose history is empty; or there was no memory for its first pass
-  abbrev pub EndsOver : Start → (counted connections : ℕ) → Hall → Hall → K → End → Type 0
-  EndsOver start counted connections h h' k' end =
-      IsUntouched start h h' k' end ⊎ ((table : TableId) × EndsDesk start (opening table start [] counted) connections h h' k' end)
+  abbrev pub EndsOver : Start → (counted : ℕ) → Plan → Hall → Hall → K → End → Type 0
+  EndsOver start counted plan h h' k' end =
+      IsUntouched start h h' k' end ⊎ ((table : TableId) × EndsDesk start (opening table start [] counted) plan h h' k' end)

@@ -41,7 +41,7 @@ fn run_over<W: ServeWorld, T: Trail<Entry = Change> + Send, R: Threads + Wait + 
     ensures files { outside.new.files ≡ outside.old.files }
 {
     match open_book(alloc, store, trail, &plan.hub, now) {
-        Ok(book) => serve_book(rt, alloc, book, plan.connections, outside),
+        Ok(book) => serve_book(rt, alloc, book, plan, outside),
         Err((store, cause)) => (Err(NotServed::Because(cause)), store),
     }
 }
@@ -125,8 +125,8 @@ fn run_words<W: ServeWorld, R: Threads + Wait + Sync>(
 /// The status is 2 where the words are refused; 3 where the file of configuration can't be read, is none, names no address to listen at, or
 /// has a name in a list that is neither kept nor configured, where a running server has a target that the pool hasn't, or a table would
 /// pass its limit; 4 where the store doesn't take its place, fails at opening, or has a row that doesn't read; 7 where memory is wanting
-/// before the first connection. Nothing is accepted or written then. Otherwise running servers were taken back, the line `served N` is
-/// written, and the rows are those of the last state of the history. The status is then 0 where as many connections were served as the
+/// before the first connection. Nothing is accepted or written then. Otherwise running servers were taken back, the routes were brought into
+/// step unless their link failed, the line `served N` is written, and the rows are those of the last state of the history. The status is then 0 where as many connections were served as the
 /// words ask for, 8 where the listener failed before that, 6 where the output failed, and 7 where memory was wanting for the line.
 pub fn run<W: ServeWorld, R: Threads + Wait + Sync>(
     rt: &R,

@@ -58,7 +58,7 @@ struct Command {
 }
 
 /// The number of a call that doesn't come.
-const NEVER: u64 = u64::MAX;
+pub const NEVER: u64 = u64::MAX;
 
 const LISTEN_ALONE: &str = "listen = \"127.0.0.1:8000\"";
 
@@ -122,7 +122,7 @@ const COMMANDS: [Command; 8] = [
     },
 ];
 
-fn words_of(rt: &impl Abort, alloc: Global, line: &str) -> Vec<Text> {
+pub fn words_of(rt: &impl Abort, alloc: Global, line: &str) -> Vec<Text> {
     let mut words = Vec::new(alloc);
     for word in line.split(' ') {
         words
@@ -132,14 +132,14 @@ fn words_of(rt: &impl Abort, alloc: Global, line: &str) -> Vec<Text> {
     words
 }
 
-fn files(rt: &impl Abort, alloc: Global, file: &str) -> MemFiles {
+pub fn files(rt: &impl Abort, alloc: Global, file: &str) -> MemFiles {
     let bytes = Bytes::from_slice(alloc, file.as_bytes()).expect(rt, "there is memory");
     let files = vec![in alloc; (text(rt, alloc, "hub.toml"), bytes)];
     MemFiles::new(alloc, files.expect(rt, "there is memory"), Vec::new(alloc))
 }
 
 /// Three callers, of whom none asks anything.
-fn doors(rt: &impl Abort, alloc: Global, failing_call: u64) -> MemListener<MemSource, MemSink> {
+pub fn doors(rt: &impl Abort, alloc: Global, failing_call: u64) -> MemListener<MemSource, MemSink> {
     let mut doors = Vec::new(alloc);
     for _ in 0..3 {
         let source = MemSource::new(Bytes::new(alloc), 1, Vec::new(alloc));
@@ -150,10 +150,10 @@ fn doors(rt: &impl Abort, alloc: Global, failing_call: u64) -> MemListener<MemSo
     MemListener::new(doors, failing.expect(rt, "there is memory"))
 }
 
-type MemKit = HubKit<MemSpawner, MemRouteLink, FixedClock, ListRandom>;
+pub type MemKit = HubKit<MemSpawner, MemRouteLink, FixedClock, ListRandom>;
 
 /// A kit of which the clock alone is asked: it has no draws.
-fn quiet_kit(alloc: Global) -> MemKit {
+pub fn quiet_kit(alloc: Global) -> MemKit {
     HubKit {
         spawner: MemSpawner::new(alloc, Vec::new(alloc)),
         routes: MemRouteLink::new(alloc, Vec::new(alloc)),
@@ -163,14 +163,14 @@ fn quiet_kit(alloc: Global) -> MemKit {
 }
 
 /// The kits of two workers.
-fn kits(rt: &impl Abort, alloc: Global) -> Vec<MemKit>
+pub fn kits(rt: &impl Abort, alloc: Global) -> Vec<MemKit>
     ensures { 0 < length result.items }
 {
     let kits = vec![in alloc; quiet_kit(alloc), quiet_kit(alloc)];
     kits.expect(rt, "there is memory")
 }
 
-fn store(rt: &impl Abort, alloc: Global) -> MemKeeper {
+pub fn store(rt: &impl Abort, alloc: Global) -> MemKeeper {
     let store = MemKeeper::new(alloc, Vec::new(alloc), Vec::new(alloc));
     store.expect(rt, "there is memory")
 }
