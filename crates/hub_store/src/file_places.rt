@@ -36,11 +36,10 @@ impl FileError {
             _ => KeeperError::Failed,
         }
     }
-}
 
-impl fmt::Display for FileError {
-    fn fmt<W: fmt::Write>(&self, f: &mut fmt::Formatter<W>) -> fmt::Result {
-        let why = match self {
+    /// The same in words.
+    pub fn text(self) -> &'static str {
+        match self {
             FileError::Memory => "there is no memory",
             FileError::Busy => "another hub has the file",
             FileError::CannotOpen => "there is no such folder, or the file may not be opened",
@@ -48,8 +47,13 @@ impl fmt::Display for FileError {
             FileError::NoDatabase => "the file is no database, or a damaged one",
             FileError::Foreign => "the file is a database of another program",
             FileError::Twice => "a file was opened already",
-        };
-        f.write_str(why)
+        }
+    }
+}
+
+impl fmt::Display for FileError {
+    fn fmt<W: fmt::Write>(&self, f: &mut fmt::Formatter<W>) -> fmt::Result {
+        f.write_str(self.text())
     }
 }
 

@@ -4,6 +4,7 @@
 //! The program stands above it.
 #![tactic(auto)]
 
+pub mod command;
 pub mod file_places;
 pub mod places;
 pub mod store;

@@ -1,0 +1,73 @@
+//! Commands over the program's store.
+use crate::file_places::{self, FileError, FilePlaces};
+use crate::store::Store;
+use keeper::keeper::Keeper;
+use keeper::mem_keeper::MemKeeper;
+use sqlite::Start;
+use std::alloc::AllocError;
+use std::process::ExitCode;
+
+/// A store of rows that the program can speak of and close.
+pub trait ProgramStore: Keeper {
+    /// Why it didn't take its place, if it didn't.
+    fn refusal(&self) -> Option<FileError>;
+
+    /// Leaves what was kept so that it stands alone.
+    fn close(self);
+}
+
+impl ProgramStore for MemKeeper {
+    fn refusal(&self) -> Option<FileError> {
+        None
+    }
+
+    fn close(self) {
+        drop(self);
+    }
+}
+
+impl<S: Start> ProgramStore for Store<MemKeeper, FilePlaces<S>> {
+    fn refusal(&self) -> Option<FileError> {
+        self.places().refusal()
+    }
+
+    // the log goes into the file
+    fn close(self) {
+        if let Some(kept) = self.into_placed() {
+            let _ = file_places::close(kept);
+        }
+    }
+}
+
+/// A command over a store, of whose type it knows no more.
+pub trait StoreCommand {
+    /// Runs the command over this store, to its end.
+    fn run<K: ProgramStore>(&self, rt: HostRuntime, store: K) -> ExitCode;
+}
+
+/// A store in memory, which takes a file where a place is chosen.
+fn new_store<S: Start>(
+    rt: HostRuntime,
+    start: S,
+) -> Result<Store<MemKeeper, FilePlaces<S>>, AllocError> {
+    let alloc = rt.alloc();
+    let places = FilePlaces::new(rt, start);
+    match MemKeeper::new(alloc, Vec::new(alloc), Vec::new(alloc)) {
+        Ok(own) => Ok(Store::new(own, places)),
+        Err(error) => {
+            drop(places);
+            Err(error)
+        }
+    }
+}
+
+/// Runs a command over a store in memory that takes a file of SQLite where a place is chosen. `S` names what is supposed of the first
+/// contents of that file.
+pub fn run_over_file<S: Start, C: StoreCommand>(
+    rt: HostRuntime,
+    start: S,
+    command: &C,
+) -> Result<ExitCode, AllocError> {
+    let store = new_store(rt, start)?;
+    Ok(command.run(rt, store))
+}
