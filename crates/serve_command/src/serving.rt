@@ -1,7 +1,7 @@
 //! The command `serve`: a hub on a socket, which starts programs.
 ghost use Rattle.std.specs.Prelude.{◌<◌, length, IfOk};
 
-use crate::stores::{ProgramStore, new_store};
+use crate::paths::HubRoutes;
 use crate::system::ServeSystem;
 use crate::telling::{announce, tell_refused, tell_served};
 use hub_edge::clock::SystemClock;
@@ -11,7 +11,7 @@ use hub_edge::listener::{Closer, SocketListener};
 use hub_edge::output::{Output, say};
 use hub_edge::programs::{AllStarted, Programs};
 use hub_edge::random::SystemRandom;
-use hub_edge::routes::{AllRoutes, KeptRoutes};
+use hub_edge::routes::AllRoutes;
 use hub_kit::list::List;
 use hub_kit::text::Text;
 use hub_run::HubKit;
@@ -19,11 +19,15 @@ use hub_serving::end::{End, line_status};
 use hub_serving::plan::{Plan, read_plan};
 use hub_serving::run::run;
 use hub_serving::world::ServeOutside;
+use hub_store::command::{ProgramStore, run_over_file};
+use keeper::mem_keeper::MemKeeper;
+use sqlite::Start;
 use std::alloc::{AllocError, Global};
 use std::io;
 use std::process::ExitCode;
 use std::sync::{Arc, Mutex, Wait};
-use std::thread::Threads;
+use std::thread::{Builder, Threads};
+use store_thread::store_thread::{StoreThread, far_store};
 
 /// The status where the listener fails.
 const NO_LISTENER: u8 = 8;
@@ -51,19 +55,20 @@ impl Shared {
 }
 
 /// The devices of a worker.
-type Kit<H> = HubKit<Programs<H>, KeptRoutes<H>, SystemClock, SystemRandom<HostRuntime>>;
+type Kit<H> = HubKit<Programs<H>, HubRoutes<H>, SystemClock, SystemRandom<HostRuntime>>;
 
 fn new_kit<H: Threads + Wait + Copy + Send + Sync>(
     rt: HostRuntime,
     handle: H,
+    plan: &Plan,
     shared: &Shared,
 ) -> Result<Kit<H>, AllocError> {
+    let routes = HubRoutes::new(rt, handle, &plan.proxy, &shared.routes)?;
     let started = Arc::try_clone(&shared.started)?;
-    let routes = Arc::try_clone(&shared.routes)?;
     let command = Arc::try_clone(&shared.command)?;
     Ok(HubKit {
         spawner: Programs::new(rt, handle, started, command),
-        routes: KeptRoutes::new(rt.alloc(), handle, routes),
+        routes,
         clock: SystemClock::new(rt),
         random: SystemRandom::new(rt),
     })
@@ -73,16 +78,16 @@ fn new_kit<H: Threads + Wait + Copy + Send + Sync>(
 fn new_kits<H: Threads + Wait + Copy + Send + Sync>(
     rt: HostRuntime,
     handle: H,
+    plan: &Plan,
     shared: &Shared,
-    workers: u32,
 ) -> Result<Vec<Kit<H>>, AllocError>
     ensures { IfOk result (λ kits. 0 < length kits.items) }
 {
     let mut kits = Vec::new(rt.alloc());
-    for _ in 1..workers {
-        kits.push(new_kit(rt, handle, shared)?)?;
+    for _ in 1..plan.workers {
+        kits.push(new_kit(rt, handle, plan, shared)?)?;
     }
-    kits.push(new_kit(rt, handle, shared)?)?;
+    kits.push(new_kit(rt, handle, plan, shared)?)?;
     Ok(kits)
 }
 
@@ -108,8 +113,8 @@ fn outside<K: ProgramStore + Send, H: Threads + Wait + Copy + Send + Sync>(
     ensures { IfOk result (λ o. 0 < length o.kits.items) }
 {
     let shared = Shared::new(rt.alloc(), plan.command.as_slice())?;
-    let kit = new_kit(rt, handle, &shared)?;
-    let kits = new_kits(rt, handle, &shared, plan.workers)?;
+    let kit = new_kit(rt, handle, plan, &shared)?;
+    let kits = new_kits(rt, handle, plan, &shared)?;
     Ok(ServeOutside {
         output: Output::new(rt),
         store: None,
@@ -178,35 +183,72 @@ fn serve_plan<K: ProgramStore + Send, H: Threads + Wait + Copy + Send + Sync>(
     ExitCode::from(status)
 }
 
-/// The command over this store.
-fn serve_over<K: ProgramStore + Send, H: Threads + Wait + Copy + Send + Sync>(
+/// Serves over a store in memory.
+fn serve_in_memory<H: Threads + Wait + Copy + Send + Sync>(
     rt: HostRuntime,
     handle: H,
     words: &[Text],
-    store: K,
+    plan: &Plan,
+) -> ExitCode {
+    let alloc = rt.alloc();
+    match MemKeeper::new(alloc, Vec::new(alloc), Vec::new(alloc)) {
+        Ok(store) => serve_plan(rt, handle, words, plan, store),
+        Err(_) => say(&rt, 7, "there is no memory"),
+    }
+}
+
+/// What the thread does that has the store.
+fn keep<S: Start, H: Wait + Copy>(rt: HostRuntime, start: S, thread: StoreThread<H>) {
+    let _ = run_over_file(rt, start, &thread);
+    // a call that is still made is refused
+    drop(thread);
+}
+
+/// Serves over a store in a file. A thread of its own has it.
+fn serve_in_file<S: Start + Send + 'static, H: Threads + Wait + Copy + Send + Sync + 'static>(
+    rt: HostRuntime,
+    handle: H,
+    words: &[Text],
+    plan: &Plan,
+    start: S,
+) -> ExitCode {
+    let Ok((store, thread)) = far_store(rt.alloc(), handle) else {
+        drop(start);
+        return say(&rt, 7, "there is no memory");
+    };
+    let Ok(keeping) = Builder::new().spawn(&handle, move || keep(rt, start, thread)) else {
+        drop(store);
+        return say(&rt, 7, "there is no memory for a thread");
+    };
+    let code = serve_plan(rt, handle, words, plan, store);
+    // the file is closed by then
+    keeping.join(&handle);
+    code
+}
+
+/// Runs the command `serve` with these words over the system's devices. `S` names what is supposed of the first contents of the file of
+/// SQLite, where the words name one.
+pub fn serve<S: Start + Send + 'static, H: Threads + Wait + Copy + Send + Sync + 'static>(
+    rt: HostRuntime,
+    handle: H,
+    words: &[Text],
+    start: S,
 ) -> ExitCode {
     let mut files = SystemFiles::new(rt);
     match read_plan(rt.alloc(), &mut files, words) {
         Ok(plan) => {
-            let code = serve_plan(rt, handle, words, &plan, store);
+            let code = if plan.db.is_some() {
+                serve_in_file(rt, handle, words, &plan, start)
+            } else {
+                drop(start);
+                serve_in_memory(rt, handle, words, &plan)
+            };
             drop(plan);
             code
         }
         Err(why) => {
-            drop(store);
+            drop(start);
             tell_refused(&rt, words, &files, why)
         }
-    }
-}
-
-/// Runs the command `serve` with these words over the system's devices and a store in memory. A place for the rows is refused.
-pub fn serve<H: Threads + Wait + Copy + Send + Sync>(
-    rt: HostRuntime,
-    handle: H,
-    words: &[Text],
-) -> ExitCode {
-    match new_store(rt) {
-        Ok(store) => serve_over(rt, handle, words, store),
-        Err(_) => say(&rt, 7, "there is no memory"),
     }
 }

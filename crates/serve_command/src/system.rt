@@ -1,13 +1,13 @@
 //! The system's devices.
-use crate::stores::ProgramStore;
+use crate::paths::HubRoutes;
 use hub_edge::clock::SystemClock;
 use hub_edge::files::SystemFiles;
 use hub_edge::listener::SocketListener;
 use hub_edge::output::Output;
 use hub_edge::programs::Programs;
 use hub_edge::random::SystemRandom;
-use hub_edge::routes::KeptRoutes;
 use hub_serving::world::ServeWorld;
+use hub_store::command::ProgramStore;
 use std::marker::PhantomData;
 use std::sync::Wait;
 use std::thread::Threads;
@@ -25,7 +25,7 @@ impl<K: ProgramStore + Send, H: Threads + Wait + Copy + Send + Sync> ServeWorld
 
     type Starts = Programs<H>;
 
-    type Paths = KeptRoutes<H>;
+    type Paths = HubRoutes<H>;
 
     type Time = SystemClock;
 

@@ -1,6 +1,5 @@
 //! What is said on standard error: where the hub listens, and why it didn't serve what it was asked for. It changes no status, and where it
 //! can't be said nothing is.
-use crate::stores::ProgramStore;
 use crate::system::ServeSystem;
 use hub_edge::files::SystemFiles;
 use hub_edge::listener::SocketListener;
@@ -9,6 +8,7 @@ use hub_main::cause::Cause;
 use hub_serving::end::NotServed;
 use hub_serving::plan::Plan;
 use hub_serving::world::ServeOutside;
+use hub_store::command::ProgramStore;
 use std::alloc::AllocError;
 use std::io::ErrorKind;
 use std::process::ExitCode;
@@ -16,13 +16,16 @@ use std::sync::Wait;
 use std::thread::Threads;
 
 /// Says why a command didn't do its work, if it didn't, and what the devices add.
-fn say_why(rt: &HostRuntime, why: Result<Option<String>, AllocError>, more: &str) {
-    match why {
-        Ok(Some(why)) => {
-            let _ = eprintln!(rt; "hub: {why}{more}");
+fn say_why(rt: &HostRuntime, why: Result<Option<String>, AllocError>, more: Option<&'static str>) {
+    match (why, more) {
+        (Ok(Some(why)), Some(more)) => {
+            let _ = eprintln!(rt; "hub: {why}: {more}");
         }
-        Ok(None) => {}
-        Err(_) => {
+        (Ok(Some(why)), None) => {
+            let _ = eprintln!(rt; "hub: {why}");
+        }
+        (Ok(None), _) => {}
+        (Err(_), _) => {
             let _ = eprintln!(rt; "hub: there is no memory");
         }
     }
@@ -31,10 +34,21 @@ fn say_why(rt: &HostRuntime, why: Result<Option<String>, AllocError>, more: &str
 /// Why the file of configuration wasn't read.
 fn file_cause(files: &SystemFiles) -> &'static str {
     match files.cause() {
-        Some(ErrorKind::NotFound) => ": there is no such file",
-        Some(ErrorKind::PermissionDenied) => ": it may not be read",
-        Some(ErrorKind::InvalidInput) => ": it is no regular file",
-        _ => ": reading it failed",
+        Some(ErrorKind::NotFound) => "there is no such file",
+        Some(ErrorKind::PermissionDenied) => "it may not be read",
+        Some(ErrorKind::InvalidInput) => "it is no regular file",
+        _ => "reading it failed",
+    }
+}
+
+/// Why the store's file wasn't taken.
+fn store_cause<K: ProgramStore>(store: &Option<K>) -> Option<&'static str> {
+    match store {
+        Some(store) => match store.refusal() {
+            Some(refusal) => Some(refusal.text()),
+            None => None,
+        },
+        None => None,
     }
 }
 
@@ -43,14 +57,11 @@ fn device_cause<K: ProgramStore>(
     cause: &Cause,
     files: &SystemFiles,
     store: &Option<K>,
-) -> &'static str {
+) -> Option<&'static str> {
     match cause {
-        Cause::NoFile => file_cause(files),
-        Cause::NoStore => match store {
-            Some(store) => store.refusal(),
-            None => "",
-        },
-        _ => "",
+        Cause::NoFile => Some(file_cause(files)),
+        Cause::NoStore => store_cause(store),
+        _ => None,
     }
 }
 
@@ -65,7 +76,7 @@ pub(crate) fn tell_served<K: ProgramStore + Send, H: Threads + Wait + Copy + Sen
     };
     let more = match end {
         Err(NotServed::Because(cause)) => device_cause(cause, &outside.files, &outside.store),
-        _ => "",
+        _ => None,
     };
     say_why(
         rt,
@@ -83,8 +94,8 @@ pub(crate) fn tell_refused(
 ) -> ExitCode {
     let status = why.status();
     let more = match &why {
-        NotServed::Because(Cause::NoFile) => file_cause(files),
-        _ => "",
+        NotServed::Because(Cause::NoFile) => Some(file_cause(files)),
+        _ => None,
     };
     let end = Err(why);
     say_why(
