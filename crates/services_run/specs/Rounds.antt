@@ -1,0 +1,90 @@
+-- Rounds as lists of visits.
+use Rattle.std.specs.Prelude.{◌≡◌, ℕ, ◌+◌, List, [], ◌∷◌, ◌++◌, length, Option, Some, None, slice_get, slice_set}
+use Rattle.hub_devices.specs.Calls.{Grows}
+use Rattle.services_run.specs.Calls.{RunCall, PathCall}
+use Rattle.services_run.specs.declared.place.State.{State}
+use Rattle.services_run.specs.declared.place.State.TheVariants.{Down, Up, Loose, GivenUp}
+use Rattle.services_run.specs.declared.place.Outcome.{Outcome}
+use Rattle.services_run.specs.declared.place.Outcome.TheVariants.{Quiet, Started, Lost, Failing}
+use Rattle.services_run.specs.declared.place.Place.{Place}
+use Rattle.services_run.specs.declared.place.Turn.{Turn}
+use Rattle.services_run.specs.declared.place.Tended.{Tended}
+use Rattle.services_run.specs.Rules.{Answers, Rule, turn_of, runs_of, paths_of}
+
+-- all services, the last number, what was counted, and the calls
+pub record World : Type 0 where
+  pub places : List Place
+  pub last : ℕ
+  pub tally : Tended
+  pub runs : List RunCall
+  pub paths : List PathCall
+
+-- a visit to the service at a place, by a rule, with the answers of the devices
+pub record Move : Type 0 where
+  pub at : ℕ
+  pub rule : Rule
+  pub answers : Answers
+
+abbrev pub put_turn : Place → Turn → Place
+put_turn p t = record { managed = p.managed; path = p.path; state = t.state; tries = t.tries }
+
+abbrev pub counted : Tended → Outcome → Tended
+counted n Quiet = n
+counted n Started = record { started = n.started + 1; lost = n.lost; failed = n.failed }
+counted n Lost = record { started = n.started; lost = n.lost + 1; failed = n.failed }
+counted n Failing = record { started = n.started; lost = n.lost; failed = n.failed + 1 }
+
+abbrev pub move_by : World → ℕ → Place → Turn → List RunCall → List PathCall → World
+move_by w at p t runs paths = record {
+  places = slice_set w.places at (put_turn p t);
+  last = t.last;
+  tally = counted w.tally t.outcome;
+  runs = w.runs ++ runs;
+  paths = w.paths ++ paths;
+}
+
+abbrev pub move_at : World → Move → Option Place → World
+move_at w m None = w
+move_at w m (Some p) =
+    move_by w m.at p (turn_of m.rule m.answers w.last p) (runs_of m.rule m.answers w.last p) (paths_of m.rule m.answers w.last p)
+
+abbrev pub move : World → Move → World
+move w m = move_at w m (slice_get w.places m.at)
+
+abbrev pub run : World → List Move → World
+run w [] = w
+run w (m ∷ ms) = run (move w m) ms
+
+-- the visits of a round, from a place on
+abbrev pub moves_from : ℕ → Rule → List Answers → List Move
+moves_from at rule [] = []
+moves_from at rule (a ∷ more) = record { at = at; rule = rule; answers = a } ∷ moves_from (at + 1) rule more
+
+abbrev pub nothing_counted : Tended
+nothing_counted = record { started = 0; lost = 0; failed = 0 }
+
+abbrev pub fresh : List Place → ℕ → World
+fresh places last = record { places = places; last = last; tally = nothing_counted; runs = []; paths = [] }
+
+-- the first n services were visited by a rule, each with some answers
+pub record Rounded (rule : Rule) (old : List Place) (last : ℕ) (r : Option (List RunCall)) (q : Option (List PathCall)) (n : ℕ)
+    (new : List Place) (last' : ℕ) (tally : Tended) (r' : Option (List RunCall)) (q' : Option (List PathCall)) : Type 0 where
+  pub answers : List Answers
+  pub each : length answers ≡ n
+  pub runs : List RunCall
+  pub paths : List PathCall
+  pub is : run (fresh old last) (moves_from 0 rule answers)
+      ≡ record { places = new; last = last'; tally = tally; runs = runs; paths = paths }
+  pub told_runs : Grows r runs r'
+  pub told_paths : Grows q paths q'
+
+-- how many are Loose
+abbrev pub loose_of : State → ℕ
+loose_of Down = 0
+loose_of (Up g) = 0
+loose_of (Loose g) = 1
+loose_of GivenUp = 0
+
+abbrev pub loose_count : List Place → ℕ
+loose_count [] = 0
+loose_count (p ∷ ps) = loose_of p.state + loose_count ps
