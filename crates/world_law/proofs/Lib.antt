@@ -1,0 +1,9 @@
+pub mod Rows
+pub mod Facts
+pub mod Tables
+pub mod Changes
+pub mod Came
+pub mod Views
+pub mod World
+pub mod TieLemmas
+pub mod SyncLemmas
