@@ -3,6 +3,7 @@ ghost use Rattle.std.specs.Prelude.{◌≡◌, ◌≢◌, ◌≤◌, ◌++◌, �
 ghost use Rattle.carries.specs.Carries.{CarryOn, CarryEnds, going};
 
 use crate::carried::{Carried, one_of};
+use crate::carrier::Carrier;
 use crate::upgraded::carry_upgrade;
 use http_wire::buffer::WireBuffer;
 use http_wire::error::SessionFault;
@@ -78,8 +79,7 @@ pub fn carry_head<R: Threads, I: Source + Send, O: Shuts, U: Tunnelled<Writes: S
 }
 
 /// The same as `carry_one`, with a buffer that is handed in and holds nothing.
-fn carry_kept<R: Threads, L: Lookup, I: Source + Send, O: Shuts, U: Tunnelled<Writes: Send>>(
-    rt: &R,
+fn carry_kept<L: Lookup, I: Source, O: Shuts, U: Carrier<I, O>>(
     alloc: Global,
     routes: &mut L,
     now: Moment,
@@ -129,8 +129,7 @@ fn carry_kept<R: Threads, L: Lookup, I: Source + Send, O: Shuts, U: Tunnelled<Wr
         Ok(choice) => choice,
         Err(refusal) => return one_of(refuse(output, refusal)),
     };
-    carry_head(
-        rt,
+    up.carry(
         alloc,
         &head,
         choice.framing,
@@ -138,14 +137,12 @@ fn carry_kept<R: Threads, L: Lookup, I: Source + Send, O: Shuts, U: Tunnelled<Wr
         input,
         kept,
         output,
-        up,
     )
 }
 
 /// Reads one request and carries it to the target of its path's route: as a tunnel, where it is an upgrade and the upstream's reply
 /// switches over, and else as `forward_one` does. A tunnel ends when both directions have.
-pub fn carry_one<R: Threads, L: Lookup, I: Source + Send, O: Shuts, U: Tunnelled<Writes: Send>>(
-    rt: &R,
+pub fn carry_one<L: Lookup, I: Source, O: Shuts, U: Carrier<I, O>>(
     alloc: Global,
     routes: &mut L,
     now: Moment,
@@ -186,5 +183,5 @@ pub fn carry_one<R: Threads, L: Lookup, I: Source + Send, O: Shuts, U: Tunnelled
     ensures writes { O.faults output.old ≤ O.faults output.new }
 {
     let mut kept = WireBuffer::new(alloc);
-    carry_kept(rt, alloc, routes, now, input, &mut kept, output, up)
+    carry_kept(alloc, routes, now, input, &mut kept, output, up)
 }

@@ -47,7 +47,7 @@ returns-in-Err-choose-clause-ends g c =
 pub returns-clause-ends : goal.returns-clause-ends
 returns-clause-ends g c =
     let read = c.in-Ok.ensures.ok in
-    let carried = c.carry_head.ensures.ends in
+    let carried = c.carry.ensures.ends in
     let chosen = c.in-Ok-choose.ensures.ok in
     let sides : g.row.U-Reads.Denot → g.row.U-Writes.Denot → Sides = λ reads writes. record {
       left = g.U.Reads.Source.left reads;
@@ -55,9 +55,9 @@ returns-clause-ends g c =
       reads = g.U.Reads.Source.faults reads;
       writes = g.U.Writes.Sink.faults writes;
       upper_shut = g.U.Writes.Sink.closed writes;
-      lower_shut = g.O.Sink.closed c.carry_head.new.output;
+      lower_shut = g.O.Sink.closed c.carry.new.output;
     } in (
-      carried.0 ++ c.carry_head.new.kept,
+      carried.0 ++ c.carry.new.kept,
       inr (record {
         head = read.0;
         is = read.1;
