@@ -1,1 +1,2 @@
 pub mod GuardLemmas
+pub mod CarryingLemmas

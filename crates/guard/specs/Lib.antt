@@ -1,3 +1,4 @@
 pub mod Access
 pub mod Denials
 pub mod Guards
+pub mod Carrying

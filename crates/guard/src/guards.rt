@@ -49,14 +49,33 @@ fn verdict_of(answer: Result<Access, LinkError>) -> Verdict
     }
 }
 
+/// Asks the hub about a token.
+pub fn judge_token<H: HubLink>(
+    alloc: Global,
+    key: &ServerKey,
+    token: &[u8],
+    link: &mut H,
+) -> Verdict
+    ensures judges { (asks : List Exchange) × Asks H.asked H.does link.old asks link.new
+        × Judges key.now (prelude.Some token.now) asks (H.faults link.old) (H.faults link.new) result }
+    ensures counted { H.faults link.old ≤ H.faults link.new }
+{
+    verdict_of(ask_access(alloc, key, token, link))
+}
+
 /// Asks the hub about a request's token, if it has one.
-fn judge<H: HubLink>(alloc: Global, key: &ServerKey, head: &Head, link: &mut H) -> Verdict
+pub(crate) fn judge<H: HubLink>(
+    alloc: Global,
+    key: &ServerKey,
+    head: &Head,
+    link: &mut H,
+) -> Verdict
     ensures judges { (asks : List Exchange) × Asks H.asked H.does link.old asks link.new
         × Judges key.now (tokens.token_of head.now.headers) asks (H.faults link.old) (H.faults link.new) result }
     ensures counted { H.faults link.old ≤ H.faults link.new }
 {
     match token_of(head) {
-        Some(token) => verdict_of(ask_access(alloc, key, token, link)),
+        Some(token) => judge_token(alloc, key, token, link),
         None => Verdict::Deny(Denial::NoToken),
     }
 }

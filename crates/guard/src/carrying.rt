@@ -1,0 +1,185 @@
+//! One request at a guard that may become a tunnel.
+ghost use Rattle.std.specs.Prelude.{◌≡◌, ◌≢◌, ◌≤◌, ◌++◌, ℕ, List, []};
+ghost use Rattle.hub_link.specs.Links.{Exchange, Asks};
+ghost use Rattle.carries.specs.Carries.{going};
+ghost use Rattle.guard.specs.Carrying.{CarryFollows, GuardCarries};
+
+use crate::denials::deny;
+use crate::guards::{Verdict, judge};
+use carries::{Carried, Carrier, one_of};
+use http_wire::buffer::WireBuffer;
+use http_wire::error::SessionFault;
+use http_wire::head::Head;
+use http_wire::heads::read_head;
+use hub_devices::source::Source;
+use hub_kit::names::ServerKey;
+use hub_kit::target::Target;
+use hub_link::link::HubLink;
+use proxy_core::forward::stopped;
+use proxy_core::refusals::{Refusal, refuse, wire_refusal};
+use proxy_wire::framing::{Framing, request_framing};
+use std::alloc::Global;
+use tunnel::shuts::Shuts;
+
+/// Carries a request, or refuses it with nothing sent. Of what was read, `rest` and then what `kept` has is behind the request.
+pub fn carry_follow<I: Source, O: Shuts, U: Carrier<I, O>>(
+    alloc: Global,
+    verdict: Verdict,
+    head: &Head,
+    framing: Framing,
+    target: &Target,
+    input: &mut I,
+    kept: &mut WireBuffer,
+    output: &mut O,
+    up: &mut U,
+) -> Result<Carried<U::Reads, U::Writes>, SessionFault>
+    requires minor { head.now.minor ≤ 1 }
+    requires sized { framing ≢ Framing.ToEnd }
+    ensures ends { (rest : List ℕ)
+        × CarryFollows verdict
+        (λ reads writes. record {
+          left = U.Reads.left reads;
+          held = U.Writes.held writes;
+          reads = U.Reads.faults reads;
+          writes = U.Writes.faults writes;
+          upper_shut = U.Writes.closed writes;
+          lower_shut = O.closed output.new;
+        })
+        (going head.now framing) target.now
+        (record {
+          left = I.left input.old;
+          kept = kept.old;
+          held = O.held output.old;
+          told = U.told up.old;
+          reads = I.faults input.old;
+          links = U.faults up.old;
+          writes = O.faults output.old;
+        })
+        (record {
+          left = I.left input.new;
+          kept = rest ++ kept.new;
+          held = O.held output.new;
+          told = U.told up.new;
+          reads = I.faults input.new;
+          links = U.faults up.new;
+          writes = O.faults output.new;
+        }) result }
+    ensures reads { I.faults input.old ≤ I.faults input.new }
+    ensures links { U.faults up.old ≤ U.faults up.new }
+    ensures writes { O.faults output.old ≤ O.faults output.new }
+{
+    match verdict {
+        Verdict::Pass => up.carry(alloc, head, framing, target, input, kept, output),
+        Verdict::Deny(denial) => one_of(deny(output, denial)),
+        Verdict::Memory => one_of(refuse(output, Refusal::Memory)),
+    }
+}
+
+/// The same as `guard_carry_one`, with a buffer that is handed in and holds nothing.
+fn guard_carry_kept<H: HubLink, I: Source, O: Shuts, U: Carrier<I, O>>(
+    alloc: Global,
+    key: &ServerKey,
+    target: &Target,
+    link: &mut H,
+    input: &mut I,
+    kept: &mut WireBuffer,
+    output: &mut O,
+    up: &mut U,
+) -> Result<Carried<U::Reads, U::Writes>, SessionFault>
+    requires { kept.old ≡ [] }
+    ensures ends { (asks : List Exchange) × (kept : List ℕ) × Asks H.asked H.does link.old asks link.new
+        × GuardCarries key.now target.now
+        (λ reads writes. record {
+          left = U.Reads.left reads;
+          held = U.Writes.held writes;
+          reads = U.Reads.faults reads;
+          writes = U.Writes.faults writes;
+          upper_shut = U.Writes.closed writes;
+          lower_shut = O.closed output.new;
+        })
+        asks (H.faults link.old) (H.faults link.new)
+        (record {
+          left = I.left input.old;
+          kept = [];
+          held = O.held output.old;
+          told = U.told up.old;
+          reads = I.faults input.old;
+          links = U.faults up.old;
+          writes = O.faults output.old;
+        })
+        (record {
+          left = I.left input.new;
+          kept = kept;
+          held = O.held output.new;
+          told = U.told up.new;
+          reads = I.faults input.new;
+          links = U.faults up.new;
+          writes = O.faults output.new;
+        }) result }
+    ensures asks { H.faults link.old ≤ H.faults link.new }
+    ensures reads { I.faults input.old ≤ I.faults input.new }
+    ensures links { U.faults up.old ≤ U.faults up.new }
+    ensures writes { O.faults output.old ≤ O.faults output.new }
+{
+    let head = match read_head(alloc, input, kept) {
+        Ok(head) => head,
+        Err(e) => return one_of(stopped(output, e)),
+    };
+    let framing = match request_framing(&head) {
+        Ok(framing) => framing,
+        Err(e) => return one_of(refuse(output, wire_refusal(e))),
+    };
+    let verdict = judge(alloc, key, &head, link);
+    carry_follow(
+        alloc, verdict, &head, framing, target, input, kept, output, up,
+    )
+}
+
+/// The same as `guard_one`, and a tunnel where the request is an upgrade that the hub admits and the upstream's reply switches over. A
+/// token that is taken away doesn't cut a tunnel that is open.
+pub fn guard_carry_one<H: HubLink, I: Source, O: Shuts, U: Carrier<I, O>>(
+    alloc: Global,
+    key: &ServerKey,
+    target: &Target,
+    link: &mut H,
+    input: &mut I,
+    output: &mut O,
+    up: &mut U,
+) -> Result<Carried<U::Reads, U::Writes>, SessionFault>
+    ensures ends { (asks : List Exchange) × (kept : List ℕ) × Asks H.asked H.does link.old asks link.new
+        × GuardCarries key.now target.now
+        (λ reads writes. record {
+          left = U.Reads.left reads;
+          held = U.Writes.held writes;
+          reads = U.Reads.faults reads;
+          writes = U.Writes.faults writes;
+          upper_shut = U.Writes.closed writes;
+          lower_shut = O.closed output.new;
+        })
+        asks (H.faults link.old) (H.faults link.new)
+        (record {
+          left = I.left input.old;
+          kept = [];
+          held = O.held output.old;
+          told = U.told up.old;
+          reads = I.faults input.old;
+          links = U.faults up.old;
+          writes = O.faults output.old;
+        })
+        (record {
+          left = I.left input.new;
+          kept = kept;
+          held = O.held output.new;
+          told = U.told up.new;
+          reads = I.faults input.new;
+          links = U.faults up.new;
+          writes = O.faults output.new;
+        }) result }
+    ensures asks { H.faults link.old ≤ H.faults link.new }
+    ensures reads { I.faults input.old ≤ I.faults input.new }
+    ensures links { U.faults up.old ≤ U.faults up.new }
+    ensures writes { O.faults output.old ≤ O.faults output.new }
+{
+    let mut kept = WireBuffer::new(alloc);
+    guard_carry_kept(alloc, key, target, link, input, &mut kept, output, up)
+}
