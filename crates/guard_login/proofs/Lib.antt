@@ -1,3 +1,4 @@
 pub mod CookieLemmas
 pub mod LawLemmas
 pub mod LoginLemmas
+pub mod EntryLemmas

@@ -2,6 +2,7 @@ pub mod Answers
 pub mod Cookies
 pub mod Laws
 pub mod Logins
+pub mod Entries
 pub mod Nexts
 pub mod Queries
 pub mod Signed

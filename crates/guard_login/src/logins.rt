@@ -2,7 +2,7 @@
 ghost use Rattle.std.specs.Prelude.{◌≡◌, ◌≢◌, ◌≤◌, ◌++◌, ℕ, List, Option, [], true};
 ghost use Rattle.hub_link.specs.Links.{Exchange, Asks};
 ghost use Rattle.guard_login.specs.Answers.{Answers, Drew};
-ghost use Rattle.guard_login.specs.Logins.{Finishes, LoginEnds};
+ghost use Rattle.guard_login.specs.Logins.{Finishes, Follows, LoginEnds};
 ghost use Rattle.guard_login.specs.Signed.{started};
 
 use crate::answers::{Signed, carrying, deny, give, signing, start_text, want, write};
@@ -103,6 +103,57 @@ fn finish<R: Random, I: Source, O: Sink, U: Upstream>(
     }
 }
 
+/// Asks about a request whose head was read, and answers it or passes it on. Of what was read, `rest` and then what `kept` has is behind
+/// the request.
+pub(crate) fn sign_in<H: HubLink, R: Random, I: Source, O: Sink, U: Upstream>(
+    alloc: Global,
+    door: &Door,
+    head: &Head,
+    framing: Framing,
+    link: &mut H,
+    random: &mut R,
+    input: &mut I,
+    kept: &mut WireBuffer,
+    output: &mut O,
+    up: &mut U,
+) -> Result<Signed, SessionFault>
+    requires minor { head.now.minor ≤ 1 }
+    requires sized { framing ≢ Framing.ToEnd }
+    ensures ends { (asks : List Exchange) × (rest : List ℕ) × Asks H.asked H.does link.old asks link.new
+        × Follows R.left R.faults random.old random.new door.now head.now framing asks (H.faults link.old) (H.faults link.new)
+        (record {
+          left = I.left input.old;
+          kept = kept.old;
+          held = O.held output.old;
+          told = U.told up.old;
+          reads = I.faults input.old;
+          links = U.faults up.old;
+          writes = O.faults output.old;
+        })
+        (record {
+          left = I.left input.new;
+          kept = rest ++ kept.new;
+          held = O.held output.new;
+          told = U.told up.new;
+          reads = I.faults input.new;
+          links = U.faults up.new;
+          writes = O.faults output.new;
+        }) result }
+    ensures asks { H.faults link.old ≤ H.faults link.new }
+    ensures draws { R.faults random.old ≤ R.faults random.new }
+    ensures reads { I.faults input.old ≤ I.faults input.new }
+    ensures links { U.faults up.old ≤ U.faults up.new }
+    ensures writes { O.faults output.old ≤ O.faults output.new }
+{
+    let step = match next_step(alloc, door, head, link) {
+        Ok(step) => step,
+        Err(_) => return want(output),
+    };
+    finish(
+        alloc, door, head, framing, &step, random, input, kept, output, up,
+    )
+}
+
 /// The same as `login_one`, with a buffer that is handed in and holds nothing.
 fn login_kept<H: HubLink, R: Random, I: Source, O: Sink, U: Upstream>(
     alloc: Global,
@@ -149,12 +200,8 @@ fn login_kept<H: HubLink, R: Random, I: Source, O: Sink, U: Upstream>(
         Ok(framing) => framing,
         Err(e) => return signing(refuse(output, wire_refusal(e))),
     };
-    let step = match next_step(alloc, door, &head, link) {
-        Ok(step) => step,
-        Err(_) => return want(output),
-    };
-    finish(
-        alloc, door, &head, framing, &step, random, input, kept, output, up,
+    sign_in(
+        alloc, door, &head, framing, link, random, input, kept, output, up,
     )
 }
 

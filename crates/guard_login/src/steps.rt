@@ -54,7 +54,7 @@ fn is_get(head: &Head) -> bool
 }
 
 /// The token of the header, else of the cookie.
-fn token_given(head: &Head) -> Option<&[u8]>
+pub(crate) fn token_given(head: &Head) -> Option<&[u8]>
     ensures { option_copied result ≡ spec.token_given head.now }
 {
     match token_of(head) {

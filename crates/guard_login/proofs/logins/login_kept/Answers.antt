@@ -3,8 +3,7 @@ use Rattle.http_wire.specs.declared.head.Head.{Head}
 use Rattle.hub_link.proofs.AskLemmas.{no_ask}
 use Rattle.proxy_wire.specs.Framing.{request_framing}
 use Rattle.proxy_core.proofs.ForwardLemmas.{took_from}
-use Rattle.guard_login.specs.Signed.{stepped}
-use Rattle.guard_login.proofs.LoginLemmas.{follows_of, finishes_by}
+use Rattle.guard_login.proofs.LoginLemmas.{follows_of}
 use Rattle.guard_login.proofs.logins.login_kept.Goals as goal
 
 pub returns-in-Err-clause-ends : goal.returns-in-Err-clause-ends
@@ -52,37 +51,13 @@ returns-in-Err-request_framing-clause-ends g c =
       ),
     )
 
-pub returns-in-Err-next_step-clause-ends : goal.returns-in-Err-next_step-clause-ends
-returns-in-Err-next_step-clause-ends g c =
-    let read = c.in-Ok.ensures.ok in
-    let steps = c.in-Err-next_step.ensures.steps in (
-      steps.0,
-      c.read_head.new.kept,
-      steps.1,
-      inr (record {
-        head = read.0;
-        is = read.1;
-        left = g.I.Source.left c.read_head.new.input;
-        kept = c.read_head.new.kept;
-        reads = g.I.Source.faults c.read_head.new.input;
-        framing = c.in-Ok-request_framing.framing;
-        took = took_from _ _ c.args.kept.now _ c.requires read.3;
-        counted = c.read_head.ensures.counted;
-        framed = sym (c.in-Ok-request_framing.ensures.framing ∙ ap (λ (h : Head). request_framing h.headers) read.2);
-        follows = follows_of g.R.Random.left g.R.Random.faults c.args.random.now c.args.random.now c.args.door.now c.in-Ok.head read.0
-            c.in-Ok-request_framing.framing steps.0 (g.H.HubLink.faults c.args.link.now) (g.H.HubLink.faults c.next_step.new.link) _ _ _ read.2
-            (inr (steps.2, refl, record { left = refl; kept = refl; told = refl }, c.want.ensures.written));
-      }),
-    )
-
 pub returns-clause-ends : goal.returns-clause-ends
 returns-clause-ends g c =
     let read = c.in-Ok.ensures.ok in
-    let steps = c.in-Ok-next_step.ensures.steps in
-    let finished = c.finish.ensures.ends in (
-      steps.0,
-      finished.0 ++ c.finish.new.kept,
-      steps.1,
+    let signed = c.sign_in.ensures.ends in (
+      signed.0,
+      signed.1 ++ c.sign_in.new.kept,
+      signed.2,
       inr (record {
         head = read.0;
         is = read.1;
@@ -93,13 +68,8 @@ returns-clause-ends g c =
         took = took_from _ _ c.args.kept.now _ c.requires read.3;
         counted = c.read_head.ensures.counted;
         framed = sym (c.in-Ok-request_framing.ensures.framing ∙ ap (λ (h : Head). request_framing h.headers) read.2);
-        follows = follows_of g.R.Random.left g.R.Random.faults c.args.random.now c.finish.new.random c.args.door.now c.in-Ok.head read.0
-            c.in-Ok-request_framing.framing steps.0 (g.H.HubLink.faults c.args.link.now) (g.H.HubLink.faults c.next_step.new.link) _ _ _ read.2
-            (inl (
-              steps.2.0,
-              steps.2.1,
-              finishes_by g.R.Random.left g.R.Random.faults c.args.random.now c.finish.new.random c.args.door.now c.in-Ok.head
-                  c.in-Ok-request_framing.framing (stepped c.args.door.now c.in-Ok.head steps.2.0) c.in-Ok-next_step.step _ _ _ (sym steps.2.2) finished.1,
-            ));
+        follows = follows_of g.R.Random.left g.R.Random.faults c.args.random.now c.sign_in.new.random c.args.door.now c.in-Ok.head read.0
+            c.in-Ok-request_framing.framing signed.0 (g.H.HubLink.faults c.args.link.now) (g.H.HubLink.faults c.sign_in.new.link) _ _ _ read.2
+            signed.3;
       }),
     )
