@@ -5,6 +5,8 @@
 #[cfg(test)]
 mod check;
 #[cfg(test)]
+mod mem_carrier;
+#[cfg(test)]
 mod of_api;
 #[cfg(test)]
 mod of_carry;

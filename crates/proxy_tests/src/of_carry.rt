@@ -2,8 +2,11 @@
 ghost use Rattle.std.specs.Prelude.{◌<◌, ◌≤◌, None, false, ℕ, length};
 
 use crate::check::check;
-use carries::{Carried, carry_one};
+use crate::mem_carrier::MemCarrier;
+use carries::{Carried, Carrier, carry_head, carry_one};
+use http_wire::buffer::WireBuffer;
 use http_wire::error::SessionFault;
+use http_wire::head::Head;
 use hub_devices::mem_bytes::{MemSink, MemSource};
 use hub_devices::sink::Sink;
 use hub_devices::source::{Failed, Source};
@@ -13,6 +16,7 @@ use hub_kit::target::Target;
 use hub_kit::targets::read_target;
 use hub_kit::text::Text;
 use proxy_core::refusals::Forwarded;
+use proxy_wire::framing::Framing;
 use route_table::route::RouteEntry;
 use route_table::routes::Routes;
 use std::alloc::Global;
@@ -22,6 +26,7 @@ use std::thread;
 use std::thread::Threads;
 use tunnel::ends::{Pump, PumpEnd};
 use tunnel::gate::Gate;
+use tunnel::shuts::Shuts;
 use upstreams::mem_upstream::MemUpstream;
 use upstreams::tunnelled::Tunnelled;
 use upstreams::upstream::Upstream;
@@ -175,9 +180,11 @@ fn ends_so<R: Threads + Abort>(rt: &R, alloc: Global, cut: usize, row: &Carriage
     let failing = Vec::from_slice(alloc, &[row.failing]).expect(rt, "there is memory");
     let mut source = MemSource::new(input, cut, Vec::new(alloc));
     let mut sink = Gate::new(MemSink::new(alloc, Vec::new(alloc)));
-    let mut up = MemUpstream::new(alloc, given, cut, failing);
+    let mut up = MemCarrier {
+        threads: rt,
+        up: MemUpstream::new(alloc, given, cut, failing),
+    };
     let ended = carry_one(
-        rt,
         alloc,
         &mut routes,
         Moment::zero(),
@@ -185,7 +192,7 @@ fn ends_so<R: Threads + Abort>(rt: &R, alloc: Global, cut: usize, row: &Carriage
         &mut sink,
         &mut up,
     );
-    ended_so(ended, row.end) & (up.sent() == row.sent) & (sink.inner().as_slice() == row.output)
+    ended_so(ended, row.end) & (up.up.sent() == row.sent) & (sink.inner().as_slice() == row.output)
 }
 
 #[test]
@@ -278,12 +285,13 @@ impl Sink for Telling<'_> {
 
 /// An upstream that switches over, whose end of the tunnel waits.
 #[derive(Drop)]
-struct WaitingUp<'a> {
+struct WaitingUp<'a, T: Threads> {
+    threads: &'a T,
     head: &'static [u8],
     came: &'a AtomicU64,
 }
 
-impl Upstream for WaitingUp<'_> {
+impl<'a, T: Threads> Upstream for WaitingUp<'a, T> {
     ghost told = { λ u. None };
 
     ghost faults = { λ u. 0 };
@@ -306,7 +314,7 @@ impl Upstream for WaitingUp<'_> {
     fn finish(&mut self) {}
 }
 
-impl<'a> Tunnelled for WaitingUp<'a> {
+impl<'a, T: Threads> Tunnelled for WaitingUp<'a, T> {
     type Reads = Waiting<'a>;
 
     type Writes = Gate<Telling<'a>>;
@@ -323,12 +331,30 @@ impl<'a> Tunnelled for WaitingUp<'a> {
     }
 }
 
+impl<'a, T: Threads, O: Shuts> Carrier<Waiting<'a>, O> for WaitingUp<'a, T> {
+    fn carry(
+        &mut self,
+        alloc: Global,
+        head: &Head,
+        framing: Framing,
+        target: &Target,
+        input: &mut Waiting<'a>,
+        kept: &mut WireBuffer,
+        output: &mut O,
+    ) -> Result<Carried<Waiting<'a>, Gate<Telling<'a>>>, SessionFault> {
+        let threads = self.threads;
+        carry_head(
+            threads, alloc, head, framing, target, input, kept, output, self,
+        )
+    }
+}
+
 /// Whether one byte went each way, though either end gives nothing more until its own has come to the other one.
-fn one_byte_each<R: Threads + Abort>(
-    rt: &R,
+fn one_byte_each<'a, R: Threads + Abort>(
+    rt: &'a R,
     alloc: Global,
-    client: &AtomicU64,
-    upstream: &AtomicU64,
+    client: &'a AtomicU64,
+    upstream: &'a AtomicU64,
 ) -> bool {
     let mut routes = table(rt, alloc);
     let mut input = Waiting {
@@ -339,11 +365,11 @@ fn one_byte_each<R: Threads + Abort>(
     };
     let mut output = Gate::new(Telling { came: client });
     let mut up = WaitingUp {
+        threads: rt,
         head: b"HTTP/1.1 101 Switching Protocols\r\nUpgrade: a\r\n\r\n",
         came: upstream,
     };
     let ended = carry_one(
-        rt,
         alloc,
         &mut routes,
         Moment::zero(),
