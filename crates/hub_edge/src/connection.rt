@@ -75,6 +75,10 @@ impl SocketSource {
     fn awaits_bytes(&mut self) -> io::Result<bool>
         ensures { self.new.faults ≡ self.old.faults }
     {
+        if self.line.is_tunnel() {
+            self.line.awaits_tunnel()?;
+            return Ok(true);
+        }
         // a target has the time that one read may take
         let Some(door) = self.line.door() else {
             return Ok(true);
@@ -150,6 +154,11 @@ pub struct SocketSink {
 }
 
 impl SocketSink {
+    /// From now on both sides of its connection are a tunnel's.
+    pub fn begin_tunnel(&self) {
+        self.line.begin_tunnel();
+    }
+
     /// Tells the peer that no more bytes come.
     pub fn shut(&mut self) {
         self.line.shut();

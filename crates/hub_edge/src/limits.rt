@@ -21,6 +21,15 @@ pub const LINGER_MILLIS: u64 = 2000;
 /// How many bytes of such a request are still read.
 pub const LINGER_BYTES: usize = 1048576;
 
+/// How many seconds a side of a tunnel may be silent.
+pub const TUNNEL_SILENT_SECONDS: u64 = 86400;
+
+/// How many seconds it may still be silent once it was told that no more bytes come.
+pub const TUNNEL_END_SECONDS: u64 = 60;
+
+/// How many seconds pass until a tunnel's wait looks whether it was told so.
+pub const TUNNEL_LOOK_SECONDS: u64 = 10;
+
 /// How many connections may wait for a worker. The system refuses more, or lets them try again.
 pub const WAITING_CALLERS: i32 = 1024;
 

@@ -1,10 +1,13 @@
 //! What the two sides of a connection share: its socket, what was last written, and who waits at the listener.
-use crate::limits::{CROWDED_MILLIS, LINGER_BYTES, LINGER_MILLIS, SILENT_SECONDS};
+use crate::limits::{
+    CROWDED_MILLIS, LINGER_BYTES, LINGER_MILLIS, SILENT_SECONDS, TUNNEL_END_SECONDS,
+    TUNNEL_LOOK_SECONDS, TUNNEL_SILENT_SECONDS,
+};
 use crate::listener::Door;
-use crate::waiting::{awaited, comes_within, millis_of, time_left};
+use crate::waiting::{awaited, comes_within, is_there, millis_of, time_left};
 use libc::net::poll;
 use std::alloc::Global;
-use std::io::{self, Read};
+use std::io::{self, ErrorKind, Read};
 use std::net::{Shutdown, TcpStream};
 use std::sync::Arc;
 use std::sync::atomic::{AtomicBool, Ordering};
@@ -19,6 +22,10 @@ pub(crate) struct Line {
     replied: AtomicBool,
     /// Whether that reply was a refusal.
     refused: AtomicBool,
+    /// Whether it is a side of a tunnel.
+    is_tunnel: AtomicBool,
+    /// Whether the peer was told that no more bytes come.
+    is_shut: AtomicBool,
 }
 
 impl Line {
@@ -29,6 +36,8 @@ impl Line {
             door,
             replied: AtomicBool::new(false),
             refused: AtomicBool::new(false),
+            is_tunnel: AtomicBool::new(false),
+            is_shut: AtomicBool::new(false),
         }
     }
 
@@ -40,8 +49,20 @@ impl Line {
         self.door.as_ref()
     }
 
+    pub(crate) fn is_tunnel(&self) -> bool {
+        self.is_tunnel.load(Ordering::SeqCst)
+    }
+
+    /// From now on it is a side of a tunnel, which may be silent for long.
+    pub(crate) fn begin_tunnel(&self) {
+        self.is_tunnel.store(true, Ordering::SeqCst);
+    }
+
     /// Notes bytes that are written. A reply begins with the line of its status.
     pub(crate) fn note_reply(&self, bytes: &[u8]) {
+        if self.is_tunnel() {
+            return;
+        }
         self.replied.store(true, Ordering::SeqCst);
         if let [
             b'H',
@@ -90,6 +111,25 @@ impl Line {
         Ok(false)
     }
 
+    /// Waits for the next bytes of a tunnel, or its end, a bounded number of rounds.
+    pub(crate) fn awaits_tunnel(&self) -> io::Result<()> {
+        let round = Duration::from_secs(TUNNEL_LOOK_SECONDS);
+        let mut left = TUNNEL_END_SECONDS / TUNNEL_LOOK_SECONDS;
+        for _ in 0..TUNNEL_SILENT_SECONDS / TUNNEL_LOOK_SECONDS {
+            // a signal ends a wait too
+            if comes_within(&self.stream, round) && is_there(&self.stream) {
+                return Ok(());
+            }
+            if self.is_shut.load(Ordering::SeqCst) {
+                left = left.saturating_sub(1);
+            }
+            if left == 0 {
+                break;
+            }
+        }
+        Err(io::Error::from(ErrorKind::TimedOut))
+    }
+
     /// Whether the peer sends something, or leaves, within this time and before a caller comes.
     fn speaks_first(&self, door: &Door, limit: Duration) -> bool {
         let mut asked = [awaited(&self.stream), awaited(door.listener())];
@@ -99,6 +139,7 @@ impl Line {
 
     /// Tells the peer that no more bytes come.
     pub(crate) fn shut(&self) {
+        self.is_shut.store(true, Ordering::SeqCst);
         let _ = self.stream.shutdown(Shutdown::Write);
     }
 }
@@ -117,6 +158,8 @@ impl Drop for Line {
             door: _,
             replied: _,
             refused: _,
+            is_tunnel: _,
+            is_shut: _,
         } = self;
     }
 }
