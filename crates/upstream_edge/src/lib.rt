@@ -1,8 +1,12 @@
-//! The targets of a proxy's routes over the system's sockets.
+//! The targets of a proxy's routes over the system's sockets, and a listener whose connections may become tunnels.
 //! `SocketUpstream` is an `Upstream`: no clause can say what its peers give or take, so it counts its faults and tells no bytes. A head
 //! that is sent goes out with the bytes behind it, in one write. A proxy's program makes one for each worker.
 #![tactic(auto)]
 
+mod sides;
 mod socket_upstream;
+mod tunnel_listener;
 
+pub use sides::{TunnelSink, TunnelSource};
 pub use socket_upstream::SocketUpstream;
+pub use tunnel_listener::TunnelListener;

@@ -2,12 +2,22 @@
 ghost use Rattle.std.specs.Prelude.{◌≡◌, ◌≤◌, ℕ, None, length, IfOk};
 ghost use Rattle.hub_devices.specs.FailingCalls.{one_more};
 
+use crate::sides::{TunnelSink, TunnelSource};
+use carries::{Carried, Carrier, carry_head};
+use http_wire::buffer::WireBuffer;
+use http_wire::error::SessionFault;
+use http_wire::head::Head;
 use http_wire::writes::write_all;
 use hub_devices::sink::Sink;
 use hub_devices::source::{Failed, Source};
 use hub_edge::connection::{SocketSink, SocketSource};
 use hub_edge::targets::connect;
 use hub_kit::target::Target;
+use proxy_wire::framing::Framing;
+use std::alloc::Global;
+use std::thread::Threads;
+use tunnel::shuts::Shuts;
+use upstreams::tunnelled::Tunnelled;
 use upstreams::upstream::Upstream;
 
 /// How many bytes wait for those behind them.
@@ -23,8 +33,10 @@ struct Sides {
 /// One connection after the other. What is sent first waits until more is sent or something is to be received, so that a head and the
 /// first bytes of its body go out in one write.
 #[derive(Drop)]
-pub struct SocketUpstream {
+pub struct SocketUpstream<'a, T: Threads> {
     rt: HostRuntime,
+    /// What the other direction of a tunnel runs on.
+    threads: &'a T,
     sides: Option<Sides>,
     waiting: Vec<u8>,
     /// Whether nothing was sent yet.
@@ -32,12 +44,13 @@ pub struct SocketUpstream {
     faults: u64,
 }
 
-impl SocketUpstream {
-    pub fn new(rt: HostRuntime) -> SocketUpstream
-        ensures { ⟦<SocketUpstream as Upstream>⟧.faults result ≡ 0 }
+impl<'a, T: Threads> SocketUpstream<'a, T> {
+    pub fn new(rt: HostRuntime, threads: &'a T) -> SocketUpstream<'a, T>
+        ensures { ⟦<SocketUpstream<'a, T> as Upstream>⟧.faults result ≡ 0 }
     {
         SocketUpstream {
             rt,
+            threads,
             sides: None,
             waiting: Vec::new(rt.alloc()),
             is_fresh: true,
@@ -97,7 +110,7 @@ impl SocketUpstream {
     }
 }
 
-impl Upstream for SocketUpstream {
+impl<'a, T: Threads> Upstream for SocketUpstream<'a, T> {
     ghost told = { λ _. None };
 
     ghost faults = { λ u. u.faults };
@@ -136,5 +149,39 @@ impl Upstream for SocketUpstream {
 
     fn finish(&mut self) {
         self.sides = None;
+    }
+}
+
+impl<'a, T: Threads> Tunnelled for SocketUpstream<'a, T> {
+    type Reads = TunnelSource;
+
+    type Writes = TunnelSink;
+
+    fn halves(&mut self) -> Result<(TunnelSource, TunnelSink), Failed> {
+        match self.sides.take() {
+            Some(Sides { input, output }) => {
+                Ok((TunnelSource::new(input), TunnelSink::of_target(output)))
+            }
+            None => Err(self.fail()),
+        }
+    }
+}
+
+/// The connections of one kind of source alone: a method of any kind can't hand its source on to a thread.
+impl<'a, T: Threads, O: Shuts> Carrier<SocketSource, O> for SocketUpstream<'a, T> {
+    fn carry(
+        &mut self,
+        alloc: Global,
+        head: &Head,
+        framing: Framing,
+        target: &Target,
+        input: &mut SocketSource,
+        kept: &mut WireBuffer,
+        output: &mut O,
+    ) -> Result<Carried<TunnelSource, TunnelSink>, SessionFault> {
+        let threads = self.threads;
+        carry_head(
+            threads, alloc, head, framing, target, input, kept, output, self,
+        )
     }
 }
