@@ -19,7 +19,7 @@ use std::alloc::AllocError;
 use std::process::ExitCode;
 use std::sync::Wait;
 use std::thread::Threads;
-use upstream_edge::SocketUpstream;
+use upstream_edge::{SocketUpstream, TunnelListener};
 
 /// How many connections are forwarded at once.
 const WORKERS: usize = 1024;
@@ -27,24 +27,24 @@ const WORKERS: usize = 1024;
 const USAGE: &str =
     "these are not the words of the command: hub proxy --listen A --api A --secret-file F";
 
-type Kit = ProxyKit<SocketUpstream, SystemClock>;
+type Kit<'a, W> = ProxyKit<SocketUpstream<'a, W>, SystemClock>;
 
-fn new_kit(rt: HostRuntime) -> Kit {
+fn new_kit<W: Threads>(rt: HostRuntime, threads: &W) -> Kit<'_, W> {
     ProxyKit {
-        upstream: SocketUpstream::new(rt),
+        upstream: SocketUpstream::new(rt, threads),
         clock: SystemClock::new(rt),
     }
 }
 
 /// The devices of each worker.
-fn new_kits(rt: HostRuntime) -> Result<Vec<Kit>, AllocError>
+fn new_kits<W: Threads>(rt: HostRuntime, threads: &W) -> Result<Vec<Kit<'_, W>>, AllocError>
     ensures { IfOk result (λ kits. 0 < length kits.items) }
 {
     let mut kits = Vec::new(rt.alloc());
     for _ in 1..WORKERS {
-        kits.push(new_kit(rt))?;
+        kits.push(new_kit(rt, threads))?;
     }
-    kits.push(new_kit(rt))?;
+    kits.push(new_kit(rt, threads))?;
     Ok(kits)
 }
 
@@ -55,13 +55,15 @@ fn serve_at<W: Threads + Wait + Sync>(
     words: &ProxyWords,
     secret: Text,
 ) -> ExitCode {
-    let Ok(mut browsers) = SocketListener::bind(rt, words.listen.as_str()) else {
+    let Ok(browsers) = SocketListener::bind(rt, words.listen.as_str()) else {
         return say(&rt, 8, "the address of --listen can't be had");
     };
-    let Ok(mut api) = SocketListener::bind(rt, words.api.as_str()) else {
+    let mut browsers = TunnelListener::new(browsers);
+    let Ok(api) = SocketListener::bind(rt, words.api.as_str()) else {
         return say(&rt, 8, "the address of --api can't be had");
     };
-    let Ok(kits) = new_kits(rt) else {
+    let mut api = TunnelListener::new(api);
+    let Ok(kits) = new_kits(rt, wait) else {
         return say(&rt, 7, "there is no memory");
     };
     let time = SystemClock::new(rt);

@@ -1,7 +1,7 @@
 -- What a worker asks the routes by may go to another thread.
 use denote.RattleType.{RattleType}
 use denote.Ref.{NamedLft}
-use denote.Param.Send.{IsSend, IsSync, struct_send, struct_sync, sendable}
+use denote.Param.Send.{IsSend, IsSync, struct_sync, sendable}
 use denote.Struct.Declared.{shape}
 use Rattle.atomic_table.proofs.shared.Seat.TheSendSync.{the_send as seat_send}
 use Rattle.atomic_table.proofs.shared.Shared.TheSendSync.{the_send as table_send, the_sync as table_sync}

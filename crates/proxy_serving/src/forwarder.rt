@@ -2,13 +2,13 @@
 ghost use Rattle.std.specs.Prelude.{[]};
 ghost use Rattle.proxy_serving.specs.Served.{IsForwarded};
 
+use carries::{Carrier, carry_one};
 use hub_devices::clock::Clock;
-use hub_devices::sink::Sink;
 use hub_devices::source::Source;
-use proxy_core::forward::forward_one;
 use route_table::lookup::Lookup;
 use std::alloc::Global;
 use std::sync::Wait;
+use tunnel::shuts::Shuts;
 use upstreams::upstream::Upstream;
 use worker_hall::Serves;
 
@@ -19,15 +19,25 @@ pub struct ProxyKit<U: Upstream, C: Clock> {
     pub clock: C,
 }
 
-/// Forwards one request of each connection by the routes of the moment.
+/// Carries one request of each connection by the routes of the moment.
 #[derive(Drop)]
 pub struct Forwarder<R: Lookup, U: Upstream, C: Clock> {
     pub routes: R,
     pub kit: ProxyKit<U, C>,
 }
 
-impl<R: Lookup, U: Upstream, C: Clock, I: Source, O: Sink> Serves<I, O> for Forwarder<R, U, C> {
-    ghost served = { λ f i o f' i' o'. IsForwarded R.found (C.to_come f.kit.clock) (C.to_come f'.kit.clock)
+impl<R: Lookup, U: Carrier<I, O>, C: Clock, I: Source, O: Shuts> Serves<I, O>
+    for Forwarder<R, U, C> {
+    ghost served = { λ f i o f' i' o'. IsForwarded R.found
+        (λ reads writes. record {
+          left = U.Reads.left reads;
+          held = U.Writes.held writes;
+          reads = U.Reads.faults reads;
+          writes = U.Writes.faults writes;
+          upper_shut = U.Writes.closed writes;
+          lower_shut = O.closed o';
+        })
+        (C.to_come f.kit.clock) (C.to_come f'.kit.clock)
         (record {
           left = I.left i;
           kept = [];
@@ -51,7 +61,7 @@ impl<R: Lookup, U: Upstream, C: Clock, I: Source, O: Sink> Serves<I, O> for Forw
     fn serve<W: Wait>(&mut self, _rt: &W, alloc: Global, input: &mut I, output: &mut O) {
         let now = self.kit.clock.now();
         // a fault ends this connection alone
-        let _ = forward_one(
+        let _ = carry_one(
             alloc,
             &mut self.routes,
             now,

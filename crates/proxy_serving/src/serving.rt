@@ -8,6 +8,7 @@ use crate::api_server::ApiServer;
 use crate::ends::{ProxyEnd, ProxyFault};
 use crate::forwarder::{Forwarder, ProxyKit};
 use crate::hiring::hire;
+use carries::Carrier;
 use desk::{Desk, Pass};
 use http_wire::writes::write_all;
 use hub_devices::clock::Clock;
@@ -21,7 +22,7 @@ use route_table::routes::Routes;
 use std::alloc::Global;
 use std::sync::Wait;
 use std::thread::{Threads, join_mut};
-use upstreams::upstream::Upstream;
+use tunnel::shuts::Shuts;
 use worker_hall::{HallFault, Serves, serve};
 
 /// How many paths a table of routes has at most.
@@ -31,11 +32,9 @@ const READY: &[u8] = b"ready\n";
 
 /// Serves both listeners, that of the browsers and that of the interface for routes, each until it fails.
 pub fn serve_proxy<
-    L: Listener<In: Send, Out: Send> + Send,
-    A: Listener<In: Send, Out: Send> + Send,
-    U: Upstream + Send + Drop,
+    L: Listener<In: Send, Out: Shuts + Send> + Send,
+    U: Carrier<L::In, L::Out, Reads: Send, Writes: Send> + Send + Drop,
     C: Clock + Send + Drop,
-    D: Clock + Send + Drop,
     O: Sink,
     W: Threads + Wait + Sync,
 >(
@@ -43,16 +42,16 @@ pub fn serve_proxy<
     alloc: Global,
     secret: Text,
     browsers: &mut L,
-    api: &mut A,
+    api: &mut L,
     kits: Vec<ProxyKit<U, C>>,
-    time: D,
+    time: C,
     output: &mut O,
 ) -> ProxyEnd
     requires kits { 0 < length kits.items }
     ensures said { IsSaid (O.held output.old) (O.held output.new) result.fault }
     ensures forwarded { Gave (L.given browsers.old) result.forwarded (L.given browsers.new) }
-    ensures answered { Gave (A.given api.old) result.answered (A.given api.new) }
-    ensures fault { IsFault (L.faults browsers.old) (L.faults browsers.new) (A.faults api.old) (A.faults api.new)
+    ensures answered { Gave (L.given api.old) result.answered (L.given api.new) }
+    ensures fault { IsFault (L.faults browsers.old) (L.faults browsers.new) (L.faults api.old) (L.faults api.new)
         (O.faults output.old) (O.faults output.new) result.forwarded result.answered result.fault }
     ensures writes { O.faults output.old ≤ O.faults output.new }
 {
@@ -82,11 +81,9 @@ fn ended(forwarded: u64, answered: u64, fault: ProxyFault) -> ProxyEnd
 /// The same over an open desk, once `ready` was written.
 fn serve_over<
     'a,
-    L: Listener<In: Send, Out: Send> + Send,
-    A: Listener<In: Send, Out: Send> + Send,
-    U: Upstream + Send + Drop,
+    L: Listener<In: Send, Out: Shuts + Send> + Send,
+    U: Carrier<L::In, L::Out, Reads: Send, Writes: Send> + Send + Drop,
     C: Clock + Send + Drop,
-    D: Clock + Send + Drop,
     W: Threads + Wait + Sync,
 >(
     rt: &'a W,
@@ -95,15 +92,15 @@ fn serve_over<
     pass: Pass<RouteBook>,
     secret: Text,
     browsers: &mut L,
-    api: &mut A,
+    api: &mut L,
     kits: Vec<ProxyKit<U, C>>,
-    time: D,
+    time: C,
 ) -> ProxyEnd
     requires of { pass.of ≡ desk.now }
     requires kits { 0 < length kits.items }
     ensures forwarded { Gave (L.given browsers.old) result.forwarded (L.given browsers.new) }
-    ensures answered { Gave (A.given api.old) result.answered (A.given api.new) }
-    ensures over { IsOver (L.faults browsers.old) (L.faults browsers.new) (A.faults api.old) (A.faults api.new)
+    ensures answered { Gave (L.given api.old) result.answered (L.given api.new) }
+    ensures over { IsOver (L.faults browsers.old) (L.faults browsers.new) (L.faults api.old) (L.faults api.new)
         result.forwarded result.answered result.fault }
 {
     let mut pass = pass;
@@ -128,25 +125,23 @@ fn serve_over<
 
 /// The same with what serves the connections.
 fn serve_routes<
-    L: Listener<In: Send, Out: Send> + Send,
-    A: Listener<In: Send, Out: Send> + Send,
+    L: Listener<In: Send, Out: Shuts + Send> + Send,
     R: Lookup + RouteService + Send + Drop,
-    U: Upstream + Send + Drop,
+    U: Carrier<L::In, L::Out, Reads: Send, Writes: Send> + Send + Drop,
     C: Clock + Send + Drop,
-    D: Clock + Send + Drop,
     W: Threads + Wait + Sync,
 >(
     rt: &W,
     alloc: Global,
     browsers: &mut L,
     forwarders: Vec<Forwarder<R, U, C>>,
-    api: &mut A,
-    server: ApiServer<R, D>,
+    api: &mut L,
+    server: ApiServer<R, C>,
 ) -> ProxyEnd
     requires forwarders { 0 < length forwarders.items }
     ensures forwarded { Gave (L.given browsers.old) result.forwarded (L.given browsers.new) }
-    ensures answered { Gave (A.given api.old) result.answered (A.given api.new) }
-    ensures over { IsOver (L.faults browsers.old) (L.faults browsers.new) (A.faults api.old) (A.faults api.new)
+    ensures answered { Gave (L.given api.old) result.answered (L.given api.new) }
+    ensures over { IsOver (L.faults browsers.old) (L.faults browsers.new) (L.faults api.old) (L.faults api.new)
         result.forwarded result.answered result.fault }
 {
     let mut forwarders = forwarders;
@@ -168,23 +163,22 @@ fn serve_routes<
 /// Serves each listener by its servers, both at once.
 fn serve_both<
     L: Listener<In: Send, Out: Send> + Send,
-    A: Listener<In: Send, Out: Send> + Send,
     F: Serves<L::In, L::Out> + Send,
-    S: Serves<A::In, A::Out> + Send,
+    S: Serves<L::In, L::Out> + Send,
     W: Threads + Wait + Sync,
 >(
     rt: &W,
     alloc: Global,
     browsers: &mut L,
     forwarders: &mut [F],
-    api: &mut A,
+    api: &mut L,
     servers: &mut [S],
 ) -> ProxyEnd
     requires forwarders { 0 < length forwarders.old }
     requires servers { 0 < length servers.old }
     ensures forwarded { Gave (L.given browsers.old) result.forwarded (L.given browsers.new) }
-    ensures answered { Gave (A.given api.old) result.answered (A.given api.new) }
-    ensures over { IsOver (L.faults browsers.old) (L.faults browsers.new) (A.faults api.old) (A.faults api.new)
+    ensures answered { Gave (L.given api.old) result.answered (L.given api.new) }
+    ensures over { IsOver (L.faults browsers.old) (L.faults browsers.new) (L.faults api.old) (L.faults api.new)
         result.forwarded result.answered result.fault }
 {
     let (forwarded, answered) = join_mut(
