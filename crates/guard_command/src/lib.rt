@@ -23,7 +23,7 @@ use std::alloc::AllocError;
 use std::process::ExitCode;
 use std::sync::Wait;
 use std::thread::Threads;
-use upstream_edge::SocketUpstream;
+use upstream_edge::{SocketUpstream, TunnelListener};
 
 /// How many connections are served at once: those of one user's server.
 const WORKERS: usize = 64;
@@ -31,26 +31,34 @@ const WORKERS: usize = 64;
 const USAGE: &str =
     "these are not the words of the command: hub guard --listen A --for U/S --hub T --target T [--secret-file F]";
 
-type Kit = GuardKit<SocketHub, SystemRandom<HostRuntime>, SocketUpstream>;
+type Kit<'a, W> = GuardKit<SocketHub, SystemRandom<HostRuntime>, SocketUpstream<'a, W>>;
 
-fn new_kit(rt: HostRuntime, hub: &Target) -> Result<Kit, AllocError> {
+fn new_kit<'a, W: Threads>(
+    rt: HostRuntime,
+    threads: &'a W,
+    hub: &Target,
+) -> Result<Kit<'a, W>, AllocError> {
     let hub = hub.copy(rt.alloc())?;
     Ok(GuardKit {
         link: SocketHub::new(rt, hub),
         random: SystemRandom::new(rt),
-        upstream: SocketUpstream::new(rt),
+        upstream: SocketUpstream::new(rt, threads),
     })
 }
 
 /// The devices of each worker.
-fn new_kits(rt: HostRuntime, hub: &Target) -> Result<Vec<Kit>, AllocError>
+fn new_kits<'a, W: Threads>(
+    rt: HostRuntime,
+    threads: &'a W,
+    hub: &Target,
+) -> Result<Vec<Kit<'a, W>>, AllocError>
     ensures { IfOk result (λ kits. 0 < length kits.items) }
 {
     let mut kits = Vec::new(rt.alloc());
     for _ in 1..WORKERS {
-        kits.push(new_kit(rt, hub)?)?;
+        kits.push(new_kit(rt, threads, hub)?)?;
     }
-    kits.push(new_kit(rt, hub)?)?;
+    kits.push(new_kit(rt, threads, hub)?)?;
     Ok(kits)
 }
 
@@ -61,10 +69,11 @@ fn guard_told<W: Threads + Wait + Sync>(
     words: &[Text],
     told: &GuardWords,
 ) -> ExitCode {
-    let Ok(mut doors) = SocketListener::bind(rt, told.listen.as_str()) else {
+    let Ok(doors) = SocketListener::bind(rt, told.listen.as_str()) else {
         return say(&rt, 8, "the address of --listen can't be had");
     };
-    let Ok(kits) = new_kits(rt, &told.hub) else {
+    let mut doors = TunnelListener::new(doors);
+    let Ok(kits) = new_kits(rt, wait, &told.hub) else {
         return say(&rt, 7, "there is no memory");
     };
     let mut files = SystemFiles::new(rt);

@@ -9,6 +9,7 @@ use crate::ends::{GuardEnd, GuardFault, unserved};
 use crate::kit::GuardKit;
 use crate::secret::secret_of;
 use crate::serving::{serve_at_door, serve_by_token};
+use carries::Carrier;
 use guard_login::door::Door;
 use hub_devices::files::Files;
 use hub_devices::listener::Listener;
@@ -21,7 +22,7 @@ use hub_words::word_error::WordError;
 use std::alloc::Global;
 use std::sync::Wait;
 use std::thread::Threads;
-use upstreams::upstream::Upstream;
+use tunnel::shuts::Shuts;
 
 /// The door of these words, with this secret.
 fn door_of(words: GuardWords, secret: Text) -> Door
@@ -37,10 +38,10 @@ fn door_of(words: GuardWords, secret: Text) -> Door
 
 /// Serves by these words, with this secret where browsers sign in.
 fn serve_words<
-    L: Listener<In: Send, Out: Send> + Send,
+    L: Listener<In: Send, Out: Shuts + Send> + Send,
     H: HubLink + Send + Drop,
     R: Random + Send + Drop,
-    U: Upstream + Send + Drop,
+    U: Carrier<L::In, L::Out, Reads: Send, Writes: Send> + Send + Drop,
     O: Sink,
     W: Threads + Wait + Sync,
 >(
@@ -74,10 +75,10 @@ fn serve_words<
 
 /// The command of these words.
 fn run_words<
-    L: Listener<In: Send, Out: Send> + Send,
+    L: Listener<In: Send, Out: Shuts + Send> + Send,
     H: HubLink + Send + Drop,
     R: Random + Send + Drop,
-    U: Upstream + Send + Drop,
+    U: Carrier<L::In, L::Out, Reads: Send, Writes: Send> + Send + Drop,
     F: Files,
     O: Sink,
     W: Threads + Wait + Sync,
@@ -109,14 +110,14 @@ fn run_words<
 
 /// Runs the command `guard` that the words say: reads the secret in the file that they name, if they do, writes `ready` and a line end, and
 /// takes the listener's connections until it fails. Each is served by a worker with one of the kits: one request by
-/// `guard::guards::guard_one`, and by `guard_login::logins::login_one` where there is a secret.
+/// `guard::carrying::guard_carry_one`, and by `guard_login::entries::enter_one` where there is a secret.
 ///
 /// Refused words, and a file that can't be read or has no secret, do nothing, and so does want of memory before `ready`.
 pub fn run<
-    L: Listener<In: Send, Out: Send> + Send,
+    L: Listener<In: Send, Out: Shuts + Send> + Send,
     H: HubLink + Send + Drop,
     R: Random + Send + Drop,
-    U: Upstream + Send + Drop,
+    U: Carrier<L::In, L::Out, Reads: Send, Writes: Send> + Send + Drop,
     F: Files,
     O: Sink,
     W: Threads + Wait + Sync,

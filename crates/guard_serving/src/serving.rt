@@ -6,6 +6,7 @@ ghost use Rattle.guard_serving.specs.Hall.{hall};
 use crate::ends::{GuardEnd, GuardFault, unserved};
 use crate::hiring::{hire_at_door, hire_by_token};
 use crate::kit::GuardKit;
+use carries::Carrier;
 use guard_login::door::Door;
 use http_wire::writes::write_all;
 use hub_devices::listener::Listener;
@@ -17,7 +18,7 @@ use hub_link::link::HubLink;
 use std::alloc::Global;
 use std::sync::Wait;
 use std::thread::Threads;
-use upstreams::upstream::Upstream;
+use tunnel::shuts::Shuts;
 use worker_hall::{Serves, serve};
 
 const READY: &[u8] = b"ready\n";
@@ -46,10 +47,10 @@ fn serve_all<
 
 /// Serves by the tokens of requests alone.
 pub(crate) fn serve_by_token<
-    L: Listener<In: Send, Out: Send> + Send,
+    L: Listener<In: Send, Out: Shuts + Send> + Send,
     H: HubLink + Send + Drop,
     R: Random + Send + Drop,
-    U: Upstream + Send + Drop,
+    U: Carrier<L::In, L::Out, Reads: Send, Writes: Send> + Send + Drop,
     O: Sink,
     W: Threads + Wait + Sync,
 >(
@@ -76,10 +77,10 @@ pub(crate) fn serve_by_token<
 
 /// Serves, and lets browsers sign in.
 pub(crate) fn serve_at_door<
-    L: Listener<In: Send, Out: Send> + Send,
+    L: Listener<In: Send, Out: Shuts + Send> + Send,
     H: HubLink + Send + Drop,
     R: Random + Send + Drop,
-    U: Upstream + Send + Drop,
+    U: Carrier<L::In, L::Out, Reads: Send, Writes: Send> + Send + Drop,
     O: Sink,
     W: Threads + Wait + Sync,
 >(

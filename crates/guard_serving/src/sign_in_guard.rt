@@ -3,27 +3,37 @@ ghost use Rattle.std.specs.Prelude.{[]};
 ghost use Rattle.guard_serving.specs.Served.{IsSignedIn};
 
 use crate::kit::GuardKit;
+use carries::Carrier;
 use guard_login::door::Door;
-use guard_login::logins::login_one;
+use guard_login::entries::enter_one;
 use hub_devices::random::Random;
-use hub_devices::sink::Sink;
 use hub_devices::source::Source;
 use hub_link::link::HubLink;
 use std::alloc::Global;
 use std::sync::Wait;
+use tunnel::shuts::Shuts;
 use upstreams::upstream::Upstream;
 use worker_hall::Serves;
 
-/// Passes one request of each connection on through a door, where the hub admits its token or the cookie that it got at its sign-in here.
+/// Carries one request of each connection through a door, where the hub admits its token or the cookie that it got at its sign-in here.
 #[derive(Drop)]
 pub struct SignInGuard<'a, H: HubLink, R: Random, U: Upstream> {
     pub door: &'a Door,
     pub kit: GuardKit<H, R, U>,
 }
 
-impl<'a, H: HubLink, R: Random, U: Upstream, I: Source, O: Sink> Serves<I, O>
+impl<'a, H: HubLink, R: Random, U: Carrier<I, O>, I: Source, O: Shuts> Serves<I, O>
     for SignInGuard<'a, H, R, U> {
-    ghost served = { λ g i o g' i' o'. IsSignedIn H.asked H.does H.faults R.left R.faults g.door.now g.kit.link g'.kit.link g.kit.random g'.kit.random
+    ghost served = { λ g i o g' i' o'. IsSignedIn H.asked H.does H.faults R.left R.faults g.door.now
+        (λ reads writes. record {
+          left = U.Reads.left reads;
+          held = U.Writes.held writes;
+          reads = U.Reads.faults reads;
+          writes = U.Writes.faults writes;
+          upper_shut = U.Writes.closed writes;
+          lower_shut = O.closed o';
+        })
+        g.kit.link g'.kit.link g.kit.random g'.kit.random
         (record {
           left = I.left i;
           kept = [];
@@ -45,7 +55,7 @@ impl<'a, H: HubLink, R: Random, U: Upstream, I: Source, O: Sink> Serves<I, O>
 
     fn serve<W: Wait>(&mut self, _rt: &W, alloc: Global, input: &mut I, output: &mut O) {
         // a fault ends this connection alone
-        let _ = login_one(
+        let _ = enter_one(
             alloc,
             self.door,
             &mut self.kit.link,

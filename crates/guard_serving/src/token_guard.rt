@@ -3,19 +3,20 @@ ghost use Rattle.std.specs.Prelude.{[]};
 ghost use Rattle.guard_serving.specs.Served.{IsGuarded};
 
 use crate::kit::GuardKit;
-use guard::guards::guard_one;
+use carries::Carrier;
+use guard::carrying::guard_carry_one;
 use hub_devices::random::Random;
-use hub_devices::sink::Sink;
 use hub_devices::source::Source;
 use hub_kit::names::ServerKey;
 use hub_kit::target::Target;
 use hub_link::link::HubLink;
 use std::alloc::Global;
 use std::sync::Wait;
+use tunnel::shuts::Shuts;
 use upstreams::upstream::Upstream;
 use worker_hall::Serves;
 
-/// Passes one request of each connection on to the target, where the hub admits its token to the server of this key.
+/// Carries one request of each connection to the target, where the hub admits its token to the server of this key.
 #[derive(Drop)]
 pub struct TokenGuard<'a, H: HubLink, R: Random, U: Upstream> {
     pub key: &'a ServerKey,
@@ -23,9 +24,18 @@ pub struct TokenGuard<'a, H: HubLink, R: Random, U: Upstream> {
     pub kit: GuardKit<H, R, U>,
 }
 
-impl<'a, H: HubLink, R: Random, U: Upstream, I: Source, O: Sink> Serves<I, O>
+impl<'a, H: HubLink, R: Random, U: Carrier<I, O>, I: Source, O: Shuts> Serves<I, O>
     for TokenGuard<'a, H, R, U> {
-    ghost served = { λ g i o g' i' o'. IsGuarded H.asked H.does H.faults g.key.now g.target.now g.kit.link g'.kit.link
+    ghost served = { λ g i o g' i' o'. IsGuarded H.asked H.does H.faults g.key.now g.target.now
+        (λ reads writes. record {
+          left = U.Reads.left reads;
+          held = U.Writes.held writes;
+          reads = U.Reads.faults reads;
+          writes = U.Writes.faults writes;
+          upper_shut = U.Writes.closed writes;
+          lower_shut = O.closed o';
+        })
+        g.kit.link g'.kit.link
         (record {
           left = I.left i;
           kept = [];
@@ -47,7 +57,7 @@ impl<'a, H: HubLink, R: Random, U: Upstream, I: Source, O: Sink> Serves<I, O>
 
     fn serve<W: Wait>(&mut self, _rt: &W, alloc: Global, input: &mut I, output: &mut O) {
         // a fault ends this connection alone
-        let _ = guard_one(
+        let _ = guard_carry_one(
             alloc,
             self.key,
             self.target,
