@@ -3,6 +3,8 @@
 #![tactic(auto)]
 
 #[cfg(test)]
+mod caller;
+#[cfg(test)]
 mod check;
 #[cfg(test)]
 mod mem_carrier;
@@ -18,6 +20,8 @@ mod of_guard;
 mod of_guard_command;
 #[cfg(test)]
 mod of_login;
+#[cfg(test)]
+mod of_proxy_command;
 #[cfg(test)]
 mod of_routes;
 #[cfg(test)]

@@ -1,14 +1,14 @@
 //! The command `guard` over devices in memory: what its callers are answered, its status, and what stands on its output.
 ghost use Rattle.std.specs.Prelude.{◌<◌, length};
 
+use crate::caller::Caller;
 use crate::check::check;
+use crate::mem_carrier::MemCarrier;
 use guard_serving::{GuardKit, run};
 use hub_devices::mem_bytes::{MemSink, MemSource};
 use hub_devices::mem_files::MemFiles;
 use hub_devices::mem_listener::MemListener;
 use hub_devices::mem_random::ListRandom;
-use hub_devices::sink::Sink;
-use hub_devices::source::Failed;
 use hub_kit::bytes::Bytes;
 use hub_kit::text::Text;
 use hub_link::mem_link::MemHubLink;
@@ -18,36 +18,11 @@ use std::sync::{Mutex, Wait};
 use std::thread::Threads;
 use upstreams::mem_upstream::MemUpstream;
 
-/// What the caller of a connection takes: it goes behind what was written on the connections before.
-#[derive(Drop)]
-struct Caller<'a, W: Wait> {
-    rt: &'a W,
-    all: &'a Mutex<Bytes>,
-    faults: u64,
-}
-
-impl<'a, W: Wait> Sink for Caller<'a, W> {
-    ghost use Rattle.std.specs.Prelude.{None, false};
-
-    ghost held = { λ _. None };
-
-    ghost faults = { λ s. s.faults };
-
-    ghost closed = { λ _. false };
-
-    fn write(&mut self, from: &[u8]) -> Result<usize, Failed> {
-        let written = self.all.lock(self.rt).push_all(from).is_ok();
-        if written {
-            return Ok(from.len());
-        }
-        self.faults = self.faults.saturating_add(1);
-        Err(Failed)
-    }
-}
-
-/// What is called, and how it ends. Four callers come; the hub admits the first, denies the second, and can't be asked by the third.
+/// What is called, and how it ends. Five callers come; the hub admits the first two, denies the third, and can't be asked by the fourth.
 struct Command {
     words: &'static str,
+    /// What the second caller asks, to talk by another protocol.
+    upgrade: &'static [u8],
     status: u8,
     served: u64,
     output: &'static [u8],
@@ -60,16 +35,27 @@ const WITH_TOKEN: &[u8] =
 
 const WITHOUT: &[u8] = b"GET /user/ann/lab HTTP/1.1\r\nHost: h\r\n\r\n";
 
-const CALLERS: [&[u8]; 4] = [WITH_TOKEN, WITH_TOKEN, WITH_TOKEN, WITHOUT];
+const BY_HEADER: &[u8] =
+    b"GET /user/ann/ws HTTP/1.1\r\nHost: h\r\nAuthorization: token secret-of-ann\r\n\
+    Connection: Upgrade\r\nUpgrade: websocket\r\n\r\nabc";
+
+const BY_COOKIE: &[u8] =
+    b"GET /user/ann/ws HTTP/1.1\r\nHost: h\r\nCookie: hub-guard=secret-of-ann\r\n\
+    Connection: Upgrade\r\nUpgrade: websocket\r\n\r\nabc";
 
 const ADMITTED: &[u8] = b"HTTP/1.1 200 OK\r\nContent-Length: 15\r\n\r\n{\"access\":true}";
 
 const DENIED: &[u8] = b"HTTP/1.1 200 OK\r\nContent-Length: 16\r\n\r\n{\"access\":false}";
 
 /// What the server behind the guard replies.
-const GIVEN: &[u8] = b"HTTP/1.1 200 OK\r\nContent-Length: 5\r\n\r\nhello";
+const GIVEN: &[u8] = b"HTTP/1.1 200 OK\r\nContent-Length: 5\r\n\r\nhello\
+    HTTP/1.1 101 Switching Protocols\r\nUpgrade: websocket\r\n\r\nxy";
+
+/// How many of these bytes the first caller gets.
+const FIRST: usize = 43;
 
 const BY_TOKEN: &[u8] = b"HTTP/1.1 200 OK\r\nContent-Length: 5\r\nConnection: close\r\n\r\nhello\
+    HTTP/1.1 101 Switching Protocols\r\nUpgrade: websocket\r\nConnection: Upgrade\r\n\r\nxy\
     HTTP/1.1 403 Forbidden\r\nContent-Type: application/json\r\nContent-Length: 36\r\nConnection: close\r\n\r\n\
     {\"message\":\"no access\",\"status\":403}\
     HTTP/1.1 503 Service Unavailable\r\nContent-Type: application/json\r\nContent-Length: 30\r\nConnection: close\r\n\r\n\
@@ -78,6 +64,7 @@ const BY_TOKEN: &[u8] = b"HTTP/1.1 200 OK\r\nContent-Length: 5\r\nConnection: cl
     {\"message\":\"no valid token\",\"status\":403}";
 
 const AT_DOOR: &[u8] = b"HTTP/1.1 200 OK\r\nContent-Length: 5\r\nConnection: close\r\n\r\nhello\
+    HTTP/1.1 101 Switching Protocols\r\nUpgrade: websocket\r\nConnection: Upgrade\r\n\r\nxy\
     HTTP/1.1 403 Forbidden\r\nContent-Type: application/json\r\nContent-Length: 36\r\nConnection: close\r\n\r\n\
     {\"message\":\"no access\",\"status\":403}\
     HTTP/1.1 503 Service Unavailable\r\nContent-Type: application/json\r\nContent-Length: 30\r\nConnection: close\r\n\r\n\
@@ -92,20 +79,23 @@ const AT_DOOR: &[u8] = b"HTTP/1.1 200 OK\r\nContent-Length: 5\r\nConnection: clo
 const COMMANDS: [Command; 5] = [
     Command {
         words: "guard --listen a:1 --for ann/ --hub http://127.0.0.1:8081 --target http://lab:8888",
+        upgrade: BY_HEADER,
         status: 8,
-        served: 4,
+        served: 5,
         output: b"ready\n",
         answers: BY_TOKEN,
     },
     Command {
         words: "guard --listen a:1 --for ann/ --hub http://127.0.0.1:8081 --target http://lab:8888 --secret-file secret",
+        upgrade: BY_COOKIE,
         status: 8,
-        served: 4,
+        served: 5,
         output: b"ready\n",
         answers: AT_DOOR,
     },
     Command {
         words: "guard --listen a:1 --for ann/ --hub http://127.0.0.1:8081",
+        upgrade: BY_HEADER,
         status: 2,
         served: 0,
         output: b"",
@@ -113,6 +103,7 @@ const COMMANDS: [Command; 5] = [
     },
     Command {
         words: "guard --listen a:1 --for ann/ --hub http://127.0.0.1:8081 --target http://lab:8888 --secret-file gone",
+        upgrade: BY_HEADER,
         status: 3,
         served: 0,
         output: b"",
@@ -120,6 +111,7 @@ const COMMANDS: [Command; 5] = [
     },
     Command {
         words: "guard --listen a:1 --for ann/ --hub http://127.0.0.1:8081 --target http://lab:8888 --secret-file short",
+        upgrade: BY_HEADER,
         status: 3,
         served: 0,
         output: b"",
@@ -162,38 +154,50 @@ fn files(rt: &impl Abort, alloc: Global) -> MemFiles {
 
 type Doors<'a, W> = MemListener<MemSource, Caller<'a, W>>;
 
-fn doors<'a, W: Wait + Abort>(rt: &'a W, alloc: Global, all: &'a Mutex<Bytes>) -> Doors<'a, W> {
+fn doors<'a, W: Wait + Abort>(
+    rt: &'a W,
+    alloc: Global,
+    all: &'a Mutex<Bytes>,
+    upgrade: &'static [u8],
+) -> Doors<'a, W> {
     let mut doors = Vec::new(alloc);
-    for caller in &CALLERS {
+    for caller in &[WITH_TOKEN, upgrade, WITH_TOKEN, WITH_TOKEN, WITHOUT] {
         let source = MemSource::new(bytes(rt, alloc, *caller), 1000, Vec::new(alloc));
-        let sink = Caller { rt, all, faults: 0 };
+        let sink = Caller {
+            rt,
+            all,
+            is_shut: false,
+            faults: 0,
+        };
         doors.push((source, sink)).expect(rt, "there is memory");
     }
     MemListener::new(doors, Vec::new(alloc))
 }
 
-type MemKit = GuardKit<MemHubLink, ListRandom, MemUpstream>;
+type MemKit<'a, W> = GuardKit<MemHubLink, ListRandom, MemCarrier<'a, W>>;
 
-/// The kit of one worker, whose link fails at its third call, and which has one draw, 1.
-fn kit(rt: &impl Abort, alloc: Global) -> MemKit {
+/// The kit of one worker, whose link fails at its fourth call, and which has one draw, 1.
+fn kit<W: Threads + Abort>(rt: &W, alloc: Global) -> MemKit<'_, W> {
     let mut replies = Vec::new(alloc);
-    replies
-        .push(bytes(rt, alloc, ADMITTED))
-        .expect(rt, "there is memory");
-    replies
-        .push(bytes(rt, alloc, DENIED))
-        .expect(rt, "there is memory");
+    for reply in &[ADMITTED, ADMITTED, DENIED] {
+        replies
+            .push(bytes(rt, alloc, *reply))
+            .expect(rt, "there is memory");
+    }
     let one: [u8; 16] = [0, 0, 0, 0, 0, 0, 0, 0, 0, 0, 0, 0, 0, 0, 0, 1];
     let mut draws = Vec::new(alloc);
     draws.push(one).expect(rt, "there is memory");
     GuardKit {
         link: MemHubLink::new(alloc, replies, Vec::new(alloc)),
         random: ListRandom::new(draws, Vec::new(alloc)),
-        upstream: MemUpstream::new(alloc, bytes(rt, alloc, GIVEN), 1000, Vec::new(alloc)),
+        upstream: MemCarrier {
+            threads: rt,
+            up: MemUpstream::new(alloc, bytes(rt, alloc, GIVEN), FIRST, Vec::new(alloc)),
+        },
     }
 }
 
-fn kits(rt: &impl Abort, alloc: Global) -> Vec<MemKit>
+fn kits<W: Threads + Abort>(rt: &W, alloc: Global) -> Vec<MemKit<'_, W>>
     ensures { 0 < length result.items }
 {
     let kits = vec![in alloc; kit(rt, alloc)];
@@ -205,7 +209,7 @@ fn ends_so<W: Threads + Wait + Abort + Sync>(rt: &W, alloc: Global, command: &Co
     let words = words_of(rt, alloc, command.words);
     let all = Mutex::new(Bytes::new(alloc));
     let mut files = files(rt, alloc);
-    let mut doors = doors(rt, alloc, &all);
+    let mut doors = doors(rt, alloc, &all, command.upgrade);
     let mut output = MemSink::new(alloc, Vec::new(alloc));
     let end = run(
         rt,
