@@ -1,5 +1,5 @@
 -- One ask by a connection.
-use Rattle.std.proofs.Common.{◌≡◌, ◌⊎◌, inl, inr, ℕ, List, [], Option, Some, Result, Ok, Err, IfErr, subst}
+use Rattle.std.proofs.Common.{◌≡◌, inr, ℕ, List, [], Option, Some, Result, Ok, Err, IfErr, subst}
 use Rattle.http_wire.specs.declared.error.SessionFault.{SessionFault}
 use Rattle.hub_core.specs.declared.start.Start.{Start}
 use Rattle.hub_devices.specs.declared.link_error.LinkError.{LinkError}
@@ -7,7 +7,7 @@ use Rattle.hub_devices.specs.declared.link_error.LinkError.TheVariants.{Failed, 
 use Rattle.hub_run.specs.Connections.{ConnectionEnds}
 use Rattle.hub_run.specs.Turns.{View}
 use Rattle.hub_run.specs.declared.served.Served.{Served}
-use Rattle.direct_link.specs.Direct.{Replies, IsSame, Connects, Gives, Direct}
+use Rattle.direct_link.specs.Direct.{Replies, IsSame, Gives, Direct}
 
 given_by : (start : Start) (x y : View) (request : List ℕ) (given : Result (List ℕ) LinkError) (left : Option (List ℕ)) (said : List ℕ) (ended : Result Served SessionFault)
     → ConnectionEnds start x (Some request) (Some []) y left (Some said) ended → Replies given ended said → Gives start x request given y

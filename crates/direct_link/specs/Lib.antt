@@ -1,1 +1,4 @@
 pub mod Direct
+pub mod Answered
+pub mod Verdicts
+pub mod Decided

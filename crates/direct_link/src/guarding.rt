@@ -1,8 +1,14 @@
 //! A guard that asks directly.
-ghost use Rattle.std.specs.Prelude.{◌≡◌, ◌≤◌, ℕ, List, []};
+ghost use Rattle.std.specs.Prelude.{◌≡◌, ◌≤◌, ◌++◌, ℕ, List, [], Some};
+ghost use Rattle.httparse.specs.Grammar.{RequestHead, print_request};
+ghost use Rattle.http_wire.specs.Head.{head_of};
+ghost use Rattle.http_wire.specs.Token.{token_of};
+ghost use Rattle.http_wire.specs.Wire.{IsServedHead};
+ghost use Rattle.hub_core.specs.declared.start.Start.{Start};
 ghost use Rattle.hub_link.specs.Links.{Exchange, Chain};
 ghost use Rattle.hub_run.specs.Turns.{view_of};
 ghost use Rattle.guard.specs.Guards.{GuardEnds};
+ghost use Rattle.direct_link.specs.Decided.{Decided};
 ghost use Rattle.direct_link.specs.Direct.{Direct};
 
 use crate::direct::DirectLink;
@@ -24,7 +30,9 @@ use std::alloc::Global;
 use std::sync::Wait;
 use upstreams::upstream::Upstream;
 
-/// Guards one request as `guard_one` does, with a link that makes at most one connection to the hub, by its own pass and devices.
+/// Guards one request as `guard_one` does, with a link that makes at most one connection to the hub, by its own pass and devices. It is
+/// passed on, and anything goes to the server, only where its token may enter the server at a place of the history at or past all that the
+/// pass had seen, and at the moment of its clock; it is answered 403 only without a token, or where at such a place it may not.
 pub fn guard_direct<
     'a,
     K: Keeper,
@@ -70,9 +78,17 @@ pub fn guard_direct<
           links = U.faults up.new;
           writes = O.faults output.new;
         }) result }
+    ensures decided { (start : Start) (head : RequestHead) (more : List ℕ) → link.old.pass.now.base ≡ Some start → IsServedHead head
+        → I.left input.old ≡ Some (print_request head ++ more)
+        → Decided start (view_of C.to_come R.left S.calls P.calls R.faults S.faults P.faults link.old.pass.now link.old.kit.now)
+        (view_of C.to_come R.left S.calls P.calls R.faults S.faults P.faults link.new.pass.now link.new.kit.now)
+        key.now (token_of (head_of head).headers) (U.told up.old) (U.told up.new) result }
     ensures reads { I.faults input.old ≤ I.faults input.new }
     ensures links { U.faults up.old ≤ U.faults up.new }
     ensures writes { O.faults output.old ≤ O.faults output.new }
 {
+    // they are names
+    let _user = key.user.as_str();
+    let _server = key.server.as_str();
     guard_one(alloc, key, target, link, input, output, up)
 }

@@ -1,0 +1,299 @@
+-- Whom a guard lets in that asks directly.
+use Rattle.std.proofs.Common.{◌≡◌, ◌⊎◌, inl, inr, ◌<◌, arith, ℕ, true, false, codes, List, [], ◌∷◌, ◌++◌, Option, Some, None, Result, Ok, Err, append_assoc, refl, sym, ap, ◌∙◌, subst}
+use Rattle.httparse.specs.Grammar.{RequestHead, print_request, ResponseHead, print_response, print_blank, print_version, print_reason, print_end, print_section}
+use Rattle.httparse.proofs.GrammarLemmas.{request_unique}
+use Rattle.access_laws.specs.Asks.{OnlyReads, get_of, access_target, AccessIsAsked}
+use Rattle.access_laws.specs.Bodies.{UsersBodySays, ServicesBodySays, NothingSays}
+use Rattle.guard.specs.Access.{access_request, access_by, IsAccessOf, IsAnswered}
+use Rattle.guard.specs.Denials.{IsDenied, denial_status}
+use Rattle.guard.specs.Guards.{GuardEnds, Answers, Follows, verdict_of}
+use Rattle.guard.specs.Guards as guards
+use Rattle.guard.specs.declared.access.Access.{Access}
+use Rattle.guard.specs.declared.access.Access.TheVariants.{Yes, No, NoToken, BadReply}
+use Rattle.guard.specs.declared.denials.Denial.{Denial}
+use Rattle.guard.specs.declared.denials.Denial.TheVariants as denial
+use Rattle.guard.specs.declared.guards.Verdict.{Verdict}
+use Rattle.guard.specs.declared.guards.Verdict.TheVariants as verdict
+use Rattle.http_wire.specs.Head.{head_of}
+use Rattle.http_wire.specs.Token.{token_of}
+use Rattle.http_wire.specs.Took.{Took}
+use Rattle.http_wire.specs.Wire.{IsServedHead}
+use Rattle.http_wire.specs.declared.error.SessionFault.{SessionFault}
+use Rattle.http_wire.specs.declared.error.SessionFault.TheVariants.{ReadFault}
+use Rattle.http_wire.specs.declared.error.WireError.{WireError}
+use Rattle.http_wire.specs.declared.error.WireError.TheVariants as wire
+use Rattle.hub_api.specs.Refusals.{wire_refusal}
+use Rattle.hub_core.specs.declared.start.Start.{Start}
+use Rattle.hub_devices.specs.declared.link_error.LinkError.{LinkError}
+use Rattle.hub_devices.specs.declared.link_error.LinkError.TheVariants.{Failed, Memory}
+use Rattle.hub_kit.specs.Names.{IsName, IsServerName}
+use Rattle.hub_kit.specs.declared.names.ServerKey.{ServerKey}
+use Rattle.hub_link.specs.Links.{Exchange, Chain}
+use Rattle.hub_link.specs.Replies.{IsReply}
+use Rattle.hub_machine.specs.Replies.{Reply}
+use Rattle.hub_run.specs.Turns.{View}
+use Rattle.hub_view.specs.Json.{message_body}
+use Rattle.proxy_core.specs.Forward.{IsStopped}
+use Rattle.proxy_core.specs.Passes.{Place, Going, PassOn, PassEnds}
+use Rattle.proxy_core.specs.Refusals.{IsWritten, status_of}
+use Rattle.proxy_core.specs.Refusals as refusals
+use Rattle.proxy_wire.specs.Heads.{request_passed}
+use Rattle.proxy_core.specs.declared.refusals.Forwarded.{Forwarded}
+use Rattle.proxy_core.specs.declared.refusals.Forwarded.TheVariants.{Passed, Refused, Ended, Cut}
+use Rattle.proxy_core.specs.declared.refusals.Refusal.{Refusal}
+use Rattle.proxy_core.specs.declared.refusals.Refusal.TheVariants as refusal
+use Rattle.reply_texts.specs.ReplyText.{reply_text, refused}
+use Rattle.direct_link.specs.Answered.{IsTurnOf, IsUnread}
+use Rattle.direct_link.specs.Decided.{Decided, IsLetIn, IsKeptOut}
+use Rattle.direct_link.specs.Direct.{Direct}
+use Rattle.direct_link.specs.Verdicts.{Judges}
+use Rattle.direct_link.proofs.Calls.{call_is}
+use Rattle.direct_link.proofs.Judging.{ask, asks_nothing, visit_of, judged}
+use Rattle.direct_link.proofs.Replied.{read_as, is_400, is_413, is_501}
+use Rattle.direct_link.proofs.Turned.{its_turn}
+
+abbrev Outcome : Type 0
+Outcome = Result Forwarded SessionFault
+
+-- ---- bytes that were refused unread say nothing of access
+
+empty_front : (a b : List ℕ) → a ++ b ≡ [] → a ≡ []
+empty_front [] b is = refl
+empty_front (x ∷ a) b is = cc is
+
+empty_back : (a b : List ℕ) → a ++ b ≡ [] → b ≡ []
+empty_back [] b is = is
+empty_back (x ∷ a) b is = absurd (cc is)
+
+version_there : (minor : ℕ) → print_version minor ≡ [] → ⊥
+version_there minor is = cc is
+
+no_reply : (bytes : List ℕ) (status : ℕ) (body : List ℕ) → bytes ≡ [] → IsReply bytes status body → ⊥
+unfolding print_response
+no_reply bytes status body none reply =
+    let h : ResponseHead = reply.head in
+    let one : List ℕ = print_blank h.blank ++ print_version h.minor in
+    let two : List ℕ = one ++ 32 ∷ h.digits in
+    let three : List ℕ = two ++ print_reason h.reason in
+    let four : List ℕ = three ++ print_end h.line_end in
+    let five : List ℕ = four ++ print_section h.fields h.last in
+    version_there h.minor (empty_back (print_blank h.blank) (print_version h.minor)
+    (empty_front one (32 ∷ h.digits) (empty_front two (print_reason h.reason) (empty_front three (print_end h.line_end)
+    (empty_front four (print_section h.fields h.last) (empty_front five body (sym reply.whole ∙ none)))))))
+
+of_some : (a b : Reply) → Some a ≡ Some b → b ≡ a
+of_some a b e = cc
+
+unsaid_by : (e : WireError) (r : Reply) (bytes : List ℕ) (status : ℕ) (body : List ℕ) → wire_refusal e ≡ Some r → bytes ≡ reply_text r true
+    → IsReply bytes status body → access_by status body ≡ BadReply
+unsaid_by wire.BadHead r bytes status body is same reply =
+    ap (λ (s : ℕ). access_by s body)
+    (read_as 400 (message_body 400 (codes "bad head")) None bytes status body refl is_400 (same ∙ ap (λ (o : Reply). reply_text o true) (of_some (refused 400 (codes "bad head")) r is)) reply).0
+unsaid_by (wire.TooLarge n) r bytes status body is same reply =
+    ap (λ (s : ℕ). access_by s body)
+    (read_as 413 (message_body 413 (codes "too large")) None bytes status body refl is_413 (same ∙ ap (λ (o : Reply). reply_text o true) (of_some (refused 413 (codes "too large")) r is)) reply).0
+unsaid_by wire.Coding r bytes status body is same reply =
+    ap (λ (s : ℕ). access_by s body)
+    (read_as 501 (message_body 501 (codes "coding not supported")) None bytes status body refl is_501 (same ∙ ap (λ (o : Reply). reply_text o true) (of_some (refused 501 (codes "coding not supported")) r is)) reply).0
+unsaid_by wire.Ended r bytes status body is same reply = absurd (cc is)
+unsaid_by wire.Cut r bytes status body is same reply = absurd (cc is)
+unsaid_by wire.ReadFault r bytes status body is same reply = absurd (cc is)
+unsaid_by wire.Memory r bytes status body is same reply = absurd (cc is)
+
+unread_says : (bytes : List ℕ) (access : Access) → IsUnread bytes → IsAccessOf bytes access → access ≡ BadReply
+unread_says bytes access unread (None, says, is) = is
+unread_says bytes access (inl none) (Some (status, body), says, is) = absurd (no_reply bytes status body none says)
+unread_says bytes access (inr (e, r, refused, same)) (Some (status, body), says, is) = is ∙ unsaid_by e r bytes status body refused same says
+
+-- ---- what the hub's answer tells
+
+nothing_told : (start : Start) (x y : View) (token : List ℕ) (server : ServerKey) (access : Access) → access ≡ BadReply → Judges start x y token server access
+nothing_told start x y token server Yes is = absurd (cc is)
+nothing_told start x y token server No is = absurd (cc is)
+nothing_told start x y token server NoToken is = absurd (cc is)
+nothing_told start x y token server BadReply is = tt
+
+one_direct : (x y : View) (request : List ℕ) (given : Result (List ℕ) LinkError) → Chain Direct x ((request, given) ∷ []) y → Direct x request given y
+one_direct x y request given (z, direct, same) = subst (λ (v : View). Direct x request given v) (sym same) direct
+
+-- ---- ends that aren't
+
+deny_not_pass : verdict.Deny denial.NoToken ≡ verdict.Pass → ⊥
+deny_not_pass is = cc is
+
+deny_as : (a d : Denial) → verdict.Deny a ≡ verdict.Deny d → a ≡ d
+deny_as a d is = cc
+
+apart : (m n : ℕ) → m < n → m ≡ n → ⊥
+apart m n less is = omega (arith, less, is)
+
+bad_hub : (d : Denial) → verdict.Deny denial.BadHub ≡ verdict.Deny d → 403 ≡ denial_status d → ⊥
+bad_hub d is status = apart 403 502 (omega arith) (status ∙ ap denial_status (sym (deny_as denial.BadHub d is)))
+
+no_hub : (d : Denial) → verdict.Deny denial.Hub ≡ verdict.Deny d → 403 ≡ denial_status d → ⊥
+no_hub d is status = apart 403 503 (omega arith) (status ∙ ap denial_status (sym (deny_as denial.Hub d is)))
+
+not_403 : (r : Refusal) → 403 ≡ status_of r → ⊥
+not_403 refusal.BadHead e = apart 400 403 (omega arith) (sym e)
+not_403 refusal.BadChunk e = apart 400 403 (omega arith) (sym e)
+not_403 refusal.BadPath e = apart 400 403 (omega arith) (sym e)
+not_403 refusal.NotFound e = apart 403 404 (omega arith) e
+not_403 refusal.TooLarge e = apart 403 413 (omega arith) e
+not_403 refusal.Coding e = apart 403 501 (omega arith) e
+not_403 refusal.BadUpstream e = apart 403 502 (omega arith) e
+not_403 refusal.Link e = apart 403 503 (omega arith) e
+not_403 refusal.Memory e = apart 403 507 (omega arith) e
+
+written_not : (r : Refusal) (held held' : Option (List ℕ)) (writes writes' : ℕ) (result : Outcome) → IsWritten r held held' writes writes' result → result ≡ Ok Passed → ⊥
+written_not r held held' writes writes' result done is = subst (λ (o : Outcome). IsWritten r held held' writes writes' o) is done
+
+written_403 : (r : Refusal) (held held' : Option (List ℕ)) (writes writes' : ℕ) (result : Outcome) → IsWritten r held held' writes writes' result → result ≡ Ok (Refused 403) → ⊥
+written_403 r held held' writes writes' result done is = not_403 r (subst (λ (o : Outcome). IsWritten r held held' writes writes' o) is done).0
+
+denied_not : (d : Denial) (held held' : Option (List ℕ)) (writes writes' : ℕ) (result : Outcome) → IsDenied d held held' writes writes' result → result ≡ Ok Passed → ⊥
+denied_not d held held' writes writes' result done is = subst (λ (o : Outcome). IsDenied d held held' writes writes' o) is done
+
+denied_403 : (d : Denial) (held held' : Option (List ℕ)) (writes writes' : ℕ) (result : Outcome) → IsDenied d held held' writes writes' result → result ≡ Ok (Refused 403)
+    → 403 ≡ denial_status d
+denied_403 d held held' writes writes' result done is = (subst (λ (o : Outcome). IsDenied d held held' writes writes' o) is done).0
+
+ended_not : (result : Outcome) → result ≡ Ok Ended → result ≡ Ok Passed → ⊥
+ended_not result one two = cc
+
+cut_not : (result : Outcome) → result ≡ Ok Cut → result ≡ Ok Passed → ⊥
+cut_not result one two = cc
+
+fault_not : (result : Outcome) (n : ℕ) → result ≡ Err (ReadFault n) → result ≡ Ok Passed → ⊥
+fault_not result n one two = cc
+
+ended_403 : (result : Outcome) → result ≡ Ok Ended → result ≡ Ok (Refused 403) → ⊥
+ended_403 result one two = cc
+
+cut_403 : (result : Outcome) → result ≡ Ok Cut → result ≡ Ok (Refused 403) → ⊥
+cut_403 result one two = cc
+
+fault_403 : (result : Outcome) (n : ℕ) → result ≡ Err (ReadFault n) → result ≡ Ok (Refused 403) → ⊥
+fault_403 result n one two = cc
+
+stopped_not : (e : WireError) (held held' : Option (List ℕ)) (writes writes' : ℕ) (result : Outcome) → IsStopped e held held' writes writes' result → result ≡ Ok Passed → ⊥
+stopped_not wire.BadHead held held' writes writes' result done is = written_not refusal.BadHead held held' writes writes' result done is
+stopped_not (wire.TooLarge n) held held' writes writes' result done is = written_not refusal.TooLarge held held' writes writes' result done is
+stopped_not wire.Coding held held' writes writes' result done is = written_not refusal.Coding held held' writes writes' result done is
+stopped_not wire.Memory held held' writes writes' result done is = written_not refusal.Memory held held' writes writes' result done is
+stopped_not wire.Ended held held' writes writes' result done is = ended_not result done.0 is
+stopped_not wire.Cut held held' writes writes' result done is = cut_not result done.0 is
+stopped_not wire.ReadFault held held' writes writes' result done is = fault_not result 0 done.0 is
+
+stopped_403 : (e : WireError) (held held' : Option (List ℕ)) (writes writes' : ℕ) (result : Outcome) → IsStopped e held held' writes writes' result → result ≡ Ok (Refused 403) → ⊥
+stopped_403 wire.BadHead held held' writes writes' result done is = written_403 refusal.BadHead held held' writes writes' result done is
+stopped_403 (wire.TooLarge n) held held' writes writes' result done is = written_403 refusal.TooLarge held held' writes writes' result done is
+stopped_403 wire.Coding held held' writes writes' result done is = written_403 refusal.Coding held held' writes writes' result done is
+stopped_403 wire.Memory held held' writes writes' result done is = written_403 refusal.Memory held held' writes writes' result done is
+stopped_403 wire.Ended held held' writes writes' result done is = ended_403 result done.0 is
+stopped_403 wire.Cut held held' writes writes' result done is = cut_403 result done.0 is
+stopped_403 wire.ReadFault held held' writes writes' result done is = fault_403 result 0 done.0 is
+
+-- what is passed on gets no 403 of ours
+passes_403 : (q : Going) (target : List ℕ) (old new : Place) (result : Outcome) → PassOn q target old new result → result ≡ Ok (Refused 403) → ⊥
+passes_403 q target old new result (inl linked) is =
+    let ends = subst (λ (o : Outcome). PassEnds q (record old { told = linked.linked; links = linked.links }) (record new { told = linked.moved }) o) is linked.ends in
+    not_403 ends.0 ends.5
+passes_403 q target old new result (inr unlinked) is = written_403 unlinked.cause old.held new.held old.writes new.writes result unlinked.written is
+
+-- one head stands in front
+same_head : (head other : RequestHead) (more kept : List ℕ) (after before : Option (List ℕ)) → before ≡ Some (print_request head ++ more) → IsServedHead head → IsServedHead other
+    → Took before [] after (print_request other ++ kept) → other ≡ head
+same_head head other more kept after before left served served' took =
+    let (rest, is, gone) = took.takes.leaves (print_request head ++ more) left in
+    let there : print_request head ++ more ≡ print_request other ++ (kept ++ rest) =
+    is ∙ (ap (λ (b : List ℕ). b ++ rest) took.whole ∙ append_assoc (print_request other) kept rest) in
+    (request_unique (print_request head ++ more) other head (kept ++ rest) more (served'.valid, there) (served.valid, refl)).0
+
+module _ (users : UsersBodySays) (services : ServicesBodySays) (nothings : NothingSays) (asks_so : AccessIsAsked) where
+  told : (start : Start) (x y : View) (server : ServerKey) (head : RequestHead) (token : List ℕ) (access : Access) (asks : List Exchange)
+      → x.pass.base ≡ Some start → IsName server.user → IsServerName server.server → IsServedHead head → token_of (head_of head).headers ≡ Some token
+      → Chain Direct x asks y → IsAnswered (access_request server token) asks access → Judges start x y token server access
+  told start x y server head token access asks base user name served has chain (bytes, are, says) =
+      let only : OnlyReads (access_request server token) (get_of (access_target server) token) = asks_so server head token user name served.valid has in
+      let direct : Direct x (access_request server token) (Ok bytes) y =
+      one_direct x y (access_request server token) (Ok bytes) (subst (λ (es : List Exchange). Chain Direct x es y) are chain) in
+      by (its_turn start x y (access_request server token) bytes (get_of (access_target server) token) base only refl direct)
+    where
+      by : IsTurnOf start x (get_of (access_target server) token) bytes y ⊎ IsUnread bytes → Judges start x y token server access
+      by (inl turned) =
+          judged users services nothings start x y token server bytes access
+          (visit_of start x y (get_of (access_target server) token) bytes (ask token server) (call_is server token user name) refl (asks_nothing token server) turned) says
+      by (inr unread) = nothing_told start x y token server access (unread_says bytes access unread says)
+
+  -- ---- the end of a request
+
+  -- a token was let in
+  let_in : (start : Start) (x y : View) (server : ServerKey) (head : RequestHead) (token : Option (List ℕ)) (asks : List Exchange) (v : Verdict)
+      → x.pass.base ≡ Some start → IsName server.user → IsServerName server.server → IsServedHead head → token_of (head_of head).headers ≡ token
+      → Chain Direct x asks y → guards.Judges server token asks 0 0 v → v ≡ verdict.Pass → IsLetIn start x y server token
+  let_in start x y server head None asks v base user name served has chain judged is = absurd (deny_not_pass (sym judged.1 ∙ is))
+  let_in start x y server head (Some token) asks v base user name served has chain (answer, answers, same) is = by answer answers (sym same ∙ is)
+    where
+      by : (answer : Result Access LinkError) → Answers (access_request server token) asks 0 0 answer → verdict_of answer ≡ verdict.Pass
+          → IsLetIn start x y server (Some token)
+      by (Ok Yes) answers is = told start x y server head token Yes asks base user name served has chain answers
+      by (Ok No) answers is = absurd (cc is)
+      by (Ok NoToken) answers is = absurd (cc is)
+      by (Ok BadReply) answers is = absurd (cc is)
+      by (Err Failed) answers is = absurd (cc is)
+      by (Err Memory) answers is = absurd (cc is)
+
+  -- a 403 of the guard's own
+  kept_out : (start : Start) (x y : View) (server : ServerKey) (head : RequestHead) (token : Option (List ℕ)) (asks : List Exchange) (v : Verdict) (d : Denial)
+      → x.pass.base ≡ Some start → IsName server.user → IsServerName server.server → IsServedHead head → token_of (head_of head).headers ≡ token
+      → Chain Direct x asks y → guards.Judges server token asks 0 0 v → v ≡ verdict.Deny d → 403 ≡ denial_status d → IsKeptOut start x y server token
+  kept_out start x y server head None asks v d base user name served has chain judged is status = tt
+  kept_out start x y server head (Some token) asks v d base user name served has chain (answer, answers, same) is status = by answer answers (sym same ∙ is)
+    where
+      by : (answer : Result Access LinkError) → Answers (access_request server token) asks 0 0 answer → verdict_of answer ≡ verdict.Deny d
+          → IsKeptOut start x y server (Some token)
+      by (Ok Yes) answers is = absurd (cc is)
+      by (Ok No) answers is = told start x y server head token No asks base user name served has chain answers
+      by (Ok NoToken) answers is = told start x y server head token NoToken asks base user name served has chain answers
+      by (Ok BadReply) answers is = absurd (bad_hub d is status)
+      by (Err Failed) answers is = absurd (no_hub d is status)
+      by (Err Memory) answers is = absurd (cc is)
+
+  module _ (start : Start) (x y : View) (server : ServerKey) (target : List ℕ) (asks : List Exchange) (old new : Place) (result : Outcome)
+      (base : x.pass.base ≡ Some start) (user : IsName server.user) (name : IsServerName server.server) (chain : Chain Direct x asks y) where
+    follows : (head : RequestHead) (v : Verdict) (q : Going) (between : Place) → IsServedHead head → between.told ≡ old.told
+        → guards.Judges server (token_of (head_of head).headers) asks 0 0 v → Follows v q target between new result
+        → Decided start x y server (token_of (head_of head).headers) old.told new.told result
+    follows head verdict.Pass q between served same found done =
+        let here = let_in start x y server head (token_of (head_of head).headers) asks verdict.Pass base user name served refl chain found refl in
+        record { passed = λ is. here; unsent = inr here; refused = λ is. absurd (passes_403 q target between new result done is) }
+    follows head (verdict.Deny d) q between served same found done = record {
+      passed = λ is. absurd (denied_not d between.held new.held between.writes new.writes result (done.1) is);
+      unsent = inl ((done.0).told ∙ same);
+      refused = λ is.
+          kept_out start x y server head (token_of (head_of head).headers) asks (verdict.Deny d) d base user name served refl chain found refl
+          (denied_403 d between.held new.held between.writes new.writes result (done.1) is);
+    }
+    follows head verdict.Memory q between served same found done = record {
+      passed = λ is. absurd (written_not refusal.Memory between.held new.held between.writes new.writes result (done.1) is);
+      unsent = inl ((done.0).told ∙ same);
+      refused = λ is. absurd (written_403 refusal.Memory between.held new.held between.writes new.writes result (done.1) is);
+    }
+
+    pub decided : (head : RequestHead) (more : List ℕ) → old.left ≡ Some (print_request head ++ more) → IsServedHead head
+        → GuardEnds server target asks 0 0 old new result → Decided start x y server (token_of (head_of head).headers) old.told new.told result
+    decided head more left served (inl unread) = record {
+      passed = λ is. absurd (stopped_not unread.error old.held new.held old.writes new.writes result unread.stopped is);
+      unsent = inl unread.told;
+      refused = λ is. absurd (stopped_403 unread.error old.held new.held old.writes new.writes result unread.stopped is);
+    }
+    decided head more left served (inr (inl unframed)) = record {
+      passed = λ is. absurd (written_not (refusals.wire_refusal unframed.error) old.held new.held old.writes new.writes result unframed.written is);
+      unsent = inl unframed.told;
+      refused = λ is. absurd (written_403 (refusals.wire_refusal unframed.error) old.held new.held old.writes new.writes result unframed.written is);
+    }
+    decided head more left served (inr (inr done)) =
+        let same : done.head ≡ head = same_head head done.head more done.kept done.left old.left left served done.is done.took in
+        follows head done.verdict (record { upgrade = false; method = (done.head).method; text = request_passed false done.head; framing = done.framing })
+        (record old { left = done.left; kept = done.kept; reads = done.reads }) served refl
+        (subst (λ (h : RequestHead). guards.Judges server (token_of (head_of h).headers) asks 0 0 done.verdict) same done.judged) done.follows
