@@ -24,15 +24,27 @@ fn shell(alloc: Global, script: &str) -> Result<Vec<Text>, AllocError> {
     Ok(words)
 }
 
-/// Whether a start, a question, a stop and another question succeed, and what the questions tell.
+/// Programs of these words, none of which was started by them yet.
+fn programs_of<H: Threads + Wait + Copy>(
+    rt: HostRuntime,
+    handle: H,
+    script: &str,
+) -> Result<Programs<H>, AllocError> {
+    let started = Arc::new(rt.alloc(), Mutex::new(Vec::new(rt.alloc())))?;
+    let words = Arc::new(rt.alloc(), List::from_vec(shell(rt.alloc(), script)?))?;
+    Ok(Programs::new(rt, handle, started, words))
+}
+
+/// Whether a start, a question, a stop and another question succeed, and what the questions tell. The stop may be one of a hub that was
+/// started later.
 fn life<H: Threads + Wait + Copy>(
     rt: HostRuntime,
     handle: H,
     script: &str,
+    is_of_next: bool,
 ) -> Result<[Option<bool>; 4], AllocError> {
-    let started = Arc::new(rt.alloc(), Mutex::new(Vec::new(rt.alloc())))?;
-    let words = Arc::new(rt.alloc(), List::from_vec(shell(rt.alloc(), script)?))?;
-    let mut programs = Programs::new(rt, handle, started, words);
+    let mut programs = programs_of(rt, handle, script)?;
+    let mut next = programs_of(rt, handle, script)?;
     let secret = Text::from_str(rt.alloc(), "secret-word")?;
     // nobody listens there
     let (Ok(key), Ok(target)) = (
@@ -43,26 +55,26 @@ fn life<H: Threads + Wait + Copy>(
     };
     let begins = programs.start(7, &key, &target, &secret).is_ok();
     let runs = programs.poll(7, &target).ok();
-    let ends = programs.stop(7, &target).is_ok();
+    let stopper = if is_of_next { &mut next } else { &mut programs };
+    let ends = stopper.stop(7, &target).is_ok();
     let after = programs.poll(7, &target).ok();
     Ok([Some(begins), runs, Some(ends), after])
 }
 
 #[test]
 fn a_program_starts_and_ends(rt: HostRuntime) -> Result<(), AllocError> {
-    let told = life(
-        rt,
-        rt,
-        "read s; test \"$s\" = secret-word && echo ready; sleep 100",
-    )?;
-    assert_eq!(rt; told, [Some(true), Some(true), Some(true), Some(false)]);
+    for is_of_next in [false, true] {
+        let script = "read s; test \"$s\" = secret-word && echo ready; sleep 100";
+        let told = life(rt, rt, script, is_of_next)?;
+        assert_eq!(rt; told, [Some(true), Some(true), Some(true), Some(false)]);
+    }
     Ok(())
 }
 
 #[test]
 fn a_program_is_never_ready(rt: HostRuntime) -> Result<(), AllocError> {
     for script in ["echo steady; sleep 100", "exit 3", "read s"] {
-        let told = life(rt, rt, script)?;
+        let told = life(rt, rt, script, false)?;
         assert_eq!(rt;
             told,
             [Some(false), Some(false), Some(true), Some(false)],

@@ -7,7 +7,7 @@ use std::time::{Duration, Instant};
 use std::{fs, thread};
 
 /// Sends a signal to each process of the group with this number.
-fn signal(rt: &HostRuntime, name: &str, group: u32) -> io::Result<()> {
+pub(crate) fn signal(rt: &HostRuntime, name: &str, group: u32) -> io::Result<()> {
     let alloc = rt.alloc();
     let text = format!(in alloc; "-{group}")?;
     let mut command = Command::new(alloc, "/bin/sh")?;

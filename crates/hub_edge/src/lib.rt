@@ -4,6 +4,7 @@
 //! The program stands above it.
 #![tactic(auto)]
 
+mod adopted;
 pub mod clock;
 pub mod connection;
 pub mod ending;

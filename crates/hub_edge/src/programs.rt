@@ -1,6 +1,7 @@
 //! The programs of single-user servers.
 ghost use Rattle.std.specs.Prelude.{None};
 
+use crate::adopted::end_found;
 use crate::groups::{end, has_ended};
 use crate::starting::{StartFault, await_ready, drain, start_program, tell_secret};
 use crate::targets::is_served;
@@ -95,7 +96,13 @@ impl<H: Threads + Wait + Copy> Programs<H> {
         target: &Target,
         secret: &Text,
     ) -> Result<(), StartFault> {
-        let (mut child, output) = start_program(&self.rt, self.command.as_slice(), key, target)?;
+        let (mut child, output) = start_program(
+            &self.rt,
+            self.command.as_slice(),
+            generation,
+            key,
+            target,
+        )?;
         if let Err(fault) = self.greet(&mut child, output, secret) {
             end(&self.rt, &mut child)?;
             return Err(fault);
@@ -138,11 +145,13 @@ impl<H: Threads + Wait + Copy> Programs<H> {
         None
     }
 
-    /// Ends the program of a generation. One that another run of the hub started is none of this process: it has to be over.
+    /// Ends the program of a generation. One that another run of the hub started is no child of this process, and found by its mark; where
+    /// it isn't found, nobody may listen at the target.
     fn quit(&self, generation: u64, target: &Target) -> io::Result<()> {
         if let Some(mut started) = self.take(generation) {
             return end(&self.rt, &mut started.child);
         }
+        end_found(&self.rt, generation, target)?;
         if is_served(&self.rt, target)? {
             return Err(io::Error::from(ErrorKind::ResourceBusy));
         }

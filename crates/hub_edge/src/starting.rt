@@ -1,4 +1,5 @@
 //! How a program of a server is started.
+use crate::adopted::{MARK, mark_of};
 use crate::limits::READY_SECONDS;
 use crate::targets::address_of;
 use crate::waiting::time_left;
@@ -71,6 +72,7 @@ fn word_for(alloc: Global, word: &str, key: &ServerKey, port: &str) -> Result<St
 fn command_for(
     rt: &HostRuntime,
     words: &[Text],
+    generation: u64,
     key: &ServerKey,
     target: &Target,
 ) -> Result<Command, StartFault> {
@@ -86,6 +88,7 @@ fn command_for(
         command.arg(word_for(rt.alloc(), word.as_str(), key, port)?.as_str())?;
     }
     hide_secrets(rt, &mut command)?;
+    command.env(MARK, mark_of(rt.alloc(), generation, target)?.as_str())?;
     Ok(command)
 }
 
@@ -117,10 +120,11 @@ fn is_secret(name: &str) -> bool {
 pub(crate) fn start_program(
     rt: &HostRuntime,
     words: &[Text],
+    generation: u64,
     key: &ServerKey,
     target: &Target,
 ) -> Result<(Child, UnixStream), StartFault> {
-    let mut command = command_for(rt, words, key, target)?;
+    let mut command = command_for(rt, words, generation, key, target)?;
     let (near, far) = UnixStream::pair(rt)?;
     command.stdin(Stdio::piped()).stdout(OwnedFd::from(far));
     Ok((command.spawn(rt)?, near))
