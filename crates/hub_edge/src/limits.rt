@@ -45,6 +45,9 @@ pub const ACCEPT_TRIES: u32 = 1200;
 /// How many seconds a connection to a target may take to be made.
 pub const CONNECT_SECONDS: u64 = 10;
 
+/// How many seconds a target may take until its next bytes come. A hub that starts a server replies once its program is ready.
+pub const TARGET_READ_SECONDS: u64 = 300;
+
 /// How many seconds a program may take to say that it is ready.
 pub const READY_SECONDS: u64 = 60;
 

@@ -1,6 +1,6 @@
 //! Connections to targets.
 use crate::connection::{SocketSink, SocketSource, sides};
-use crate::limits::CONNECT_SECONDS;
+use crate::limits::{CONNECT_SECONDS, TARGET_READ_SECONDS};
 use crate::listener::set_options;
 use hub_kit::target::Target;
 use std::io::{self, ErrorKind};
@@ -38,5 +38,6 @@ pub(crate) fn is_served(rt: &HostRuntime, target: &Target) -> io::Result<bool> {
 pub fn connect(rt: HostRuntime, target: &Target) -> io::Result<(SocketSource, SocketSink)> {
     let stream = stream_to(&rt, target)?;
     set_options(&stream)?;
+    stream.set_read_timeout(Some(Duration::from_secs(TARGET_READ_SECONDS)))?;
     Ok(sides(rt, stream, None)?)
 }
