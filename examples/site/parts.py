@@ -1,0 +1,135 @@
+"""What the scripts of this folder share: where a site's files and ports are, its secrets, its programs, and how its hub is asked.
+A site is one folder (SITE, ~/gorewhahu-site where that isn't set) and one row of ports from SITE_PORT on (8000). All of it is at 127.0.0.1.
+Each program of a site has the variable GOREWHAHU_SITE, which names the folder: by it they are found, and ended."""
+import json, os, secrets, signal, socket, sys, time, urllib.error, urllib.request
+
+HERE = os.path.dirname(os.path.realpath(__file__))
+SITE = os.path.realpath(os.environ.get("SITE") or os.path.expanduser("~/gorewhahu-site"))
+PROGRAM = os.path.realpath(os.environ.get("HUB") or f"{HERE}/../../crates/hub/out/hub")
+ADDRESS, MARK = "127.0.0.1", "GOREWHAHU_SITE"
+SEATS = 36
+PROXY = int(os.environ.get("SITE_PORT") or 8000)
+API, HOME, HUB, SERVERS, ROLL, FIRST = (PROXY + more for more in (1, 80, 81, 90, 95, 1001))
+# a server's guard listens at its target's port, and the notebook behind it so much higher
+BEHIND = 100
+
+
+def url(port, path=""):
+    return f"http://{ADDRESS}:{port}{path}"
+
+
+def stop_here(why):
+    sys.exit(f"{os.path.basename(sys.argv[0])}: {why}")
+
+
+def read(name):
+    with open(f"{SITE}/{name}") as file:
+        return file.read()
+
+
+def write(name, text):
+    """A file that nobody else may read, put in place as a whole."""
+    with open(f"{SITE}/{name}.new", "w", opener=lambda path, flags: os.open(path, flags, 0o600)) as file:
+        file.write(text)
+    os.replace(f"{SITE}/{name}.new", f"{SITE}/{name}")
+
+
+def drawn(name, make):
+    """What the file of this name has, drawn the first time."""
+    if not os.path.exists(f"{SITE}/{name}"):
+        write(name, json.dumps(make(), indent=1) + "\n")
+    return json.loads(read(name))
+
+
+def token():
+    return secrets.token_hex(16)
+
+
+def parent_of(number):
+    try:
+        with open(f"/proc/{number}/stat") as file:
+            return int(file.read().rsplit(")", 1)[1].split()[1])
+    except OSError:
+        return 0
+
+
+def words_of(number):
+    """The words of a program of this site. nginx writes its name over its variables, and its words over its name."""
+    try:
+        with open(f"/proc/{number}/environ", "rb") as file:
+            ours = f"{MARK}={SITE}".encode() in file.read().split(b"\0")
+        with open(f"/proc/{number}/cmdline", "rb") as file:
+            words = file.read().decode(errors="replace").rstrip("\0").split("\0")
+    except OSError:
+        return None
+    return words if words != [""] and (ours or words[0].endswith(f" -c {SITE}/nginx.conf")) else None
+
+
+def processes():
+    """The programs of this site, but the caller and those above it, by their number and words."""
+    above = [os.getpid()]
+    while above[-1] > 1:
+        above.append(parent_of(above[-1]))
+    numbers = [int(it) for it in os.listdir("/proc") if it.isdigit() and int(it) not in above]
+    found = {number: words for number in numbers if (words := words_of(number))}
+    return {**found, **{number: ["a child"] for number in numbers if number not in found and parent_of(number) in found}}
+
+
+def running(name):
+    """The number of the part of this name, if it runs."""
+    try:
+        number = int(read(f"{name}.pid"))
+    except (OSError, ValueError):
+        return None
+    return number if number in processes() else None
+
+
+def comes(holds, most):
+    """Whether something comes true in so many seconds."""
+    end = time.monotonic() + most
+    while True:
+        if holds():
+            return True
+        if time.monotonic() > end:
+            return False
+        time.sleep(0.1)
+
+
+def is_open(port):
+    try:
+        socket.create_connection((ADDRESS, port), 2).close()
+        return True
+    except OSError:
+        return False
+
+
+def end(numbers, most=12):
+    """Ends these programs: they are asked, and after so many seconds killed."""
+    for how in (signal.SIGTERM, signal.SIGKILL):
+        for number in numbers:
+            try:
+                os.kill(number, how)
+            except OSError:
+                pass
+        if comes(lambda: not set(numbers) & set(processes()), most):
+            return True
+    return False
+
+
+def ask(method, path, with_token=None, body=None, port=None, most=90):
+    """The status of a call on the hub, and what its body says. No status where the hub can't be asked."""
+    request = urllib.request.Request(url(port or HUB, f"/hub/api{path}"), method=method)
+    if with_token:
+        request.add_header("Authorization", f"token {with_token}")
+    data = None if body is None else json.dumps(body).encode()
+    try:
+        with urllib.request.build_opener(urllib.request.ProxyHandler({})).open(request, data, most) as reply:
+            status, text = reply.status, reply.read()
+    except urllib.error.HTTPError as refused:
+        status, text = refused.code, refused.read()
+    except OSError:
+        return None, None
+    try:
+        return status, json.loads(text) if text else None
+    except ValueError:
+        return status, None
