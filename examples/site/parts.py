@@ -116,9 +116,9 @@ def end(numbers, most=12):
     return False
 
 
-def ask(method, path, with_token=None, body=None, port=None, most=90):
+def ask(method, path, with_token=None, body=None, at=url(HUB, "/hub/api"), most=90):
     """The status of a call on the hub, and what its body says. No status where the hub can't be asked."""
-    request = urllib.request.Request(url(port or HUB, f"/hub/api{path}"), method=method)
+    request = urllib.request.Request(at + path, method=method)
     if with_token:
         request.add_header("Authorization", f"token {with_token}")
     data = None if body is None else json.dumps(body).encode()
