@@ -13,7 +13,7 @@ http {
   map $http_authorization $realm { default "The class"; "~*^(token|bearer) " off; }
   map $remote_user $users_token { default ""; include @SITE@/tokens.map; }
   map $http_authorization $to_hub { default "token $users_token"; "~*^(token|bearer) " $http_authorization; }
-  # an upgraded connection of a browser has the guard's cookie and no header: the guard wants the header there
+  # an upgraded connection of a browser has the guard's cookie and no header: its token stands in the header too, for guards that look there
   map $http_cookie $guards_token { default ""; "~(^|;) *hub-guard=(?<held>[^;, ]+)" "token $held"; }
   map $http_upgrade $upgrades_token { default $guards_token; "" ""; }
   map $http_authorization $to_server { default $upgrades_token; "~*^(token|bearer) " $http_authorization; }
