@@ -7,7 +7,7 @@ from parts import HOME, HUB, PROXY, SERVERS, SITE, drawn, read, token, write
 CONFIGURATION = r"""@USER@worker_processes 1; daemon off; pid @SITE@/nginx.pid; error_log @SITE@/log/nginx;
 events { worker_connections 2048; }
 http {
-  access_log off; default_type text/html; client_max_body_size 100m; server_tokens off;
+  access_log off; log_not_found off; default_type text/html; client_max_body_size 100m; server_tokens off;
   client_body_temp_path @SITE@/tmp; proxy_temp_path @SITE@/tmp;
   fastcgi_temp_path @SITE@/tmp; uwsgi_temp_path @SITE@/tmp; scgi_temp_path @SITE@/tmp;
   map $http_authorization $realm { default "The class"; "~*^(token|bearer) " off; }
