@@ -135,7 +135,7 @@ fn tunnels<W: Threads + Wait + Abort + Sync>(rt: &W, alloc: Global) -> bool {
     (end.forwarded == 1)
         & (end.answered == 1)
         & (end.fault == ProxyFault::Listener)
-        & (output.as_slice() == b"ready\n")
+        & (output.as_slice() == b"ready\n".as_slice())
         & (added.into_inner().as_slice() == ADDED)
         & (asked.into_inner().as_slice() == TUNNELLED)
 }
