@@ -1,2 +1,5 @@
+pub mod Apart
+pub mod Attended
 pub mod Ready
 pub mod Planned
+pub mod Lawful

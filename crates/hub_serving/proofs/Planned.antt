@@ -1,8 +1,10 @@
 -- What is true of each plan, and what follows the words.
-use Rattle.std.proofs.Common.{◌≡◌, ◌≤◌, ◌^◌, inl, inr, ℕ, IsTrue, not, List, Option, Some, None, is_some, Result, Ok, Err, refl, sym, ap, subst}
+use Rattle.std.proofs.Common.{◌≡◌, ◌≤◌, ◌^◌, inl, inr, ℕ, Bool, true, false, ◌&&◌, IsTrue, not, List, Option, Some, None, is_some, Result, Ok, Err, refl, sym, ap, subst}
 use Rattle.keeper.specs.Rows.{Rows}
 use Rattle.hub_core.specs.Visits.{Standing}
 use Rattle.hub_machine.specs.declared.change.Change.{Change}
+use Rattle.hub_config.specs.Managed.{are_distinct}
+use Rattle.hub_config.specs.declared.config.ConfigManaged.{ConfigManaged}
 use Rattle.hub_opening.specs.Kept.{MakeTable}
 use Rattle.hub_opening.specs.declared.config.HubConfig.{HubConfig}
 use Rattle.hub_words.specs.declared.serve.ServeWords.{ServeWords}
@@ -19,6 +21,10 @@ use Rattle.hub_serving.specs.Commands.{CommandEnds, EndsChosen, RunEnds}
 use Rattle.hub_serving.specs.declared.plan.Plan.{Plan}
 use Rattle.hub_serving.specs.declared.end.NotServed.TheVariants.{Because}
 
+both_true : (a b : Bool) → (a && b) ≡ true → a ≡ true
+both_true true b h = refl
+both_true false b h = cc
+
 pub plan_fits : (found : Option ServeWords) (files : FilesTold) (plan : Plan) → IsPlanOf found files plan → plan.hub.limits.trail_bytes ≤ 2 ^ 62
 plan_fits None files plan is = absurd is
 plan_fits (Some words) files plan is =
@@ -28,6 +34,11 @@ pub plan_scopes : (found : Option ServeWords) (files : FilesTold) (plan : Plan) 
 plan_scopes None files plan is = absurd is
 plan_scopes (Some words) files plan is =
     subst (λ (c : HubConfig). MakeTable c.custom_scopes) (sym is.says.hub) (file_scopes files words.config is.file is.found)
+
+pub plan_apart : (found : Option ServeWords) (files : FilesTold) (plan : Plan) → IsPlanOf found files plan → are_distinct plan.managed ≡ true
+plan_apart None files plan is = absurd is
+plan_apart (Some words) files plan is =
+    subst (λ (ms : List ConfigManaged). are_distinct ms ≡ true) (sym is.says.managed) (both_true _ _ is.found.said.sound.apart)
 
 -- memory was wanting to read the words
 pub wanting_plan : (found : Option ServeWords) (files : FilesTold) → HasNoPlan found files files (Because Memory)

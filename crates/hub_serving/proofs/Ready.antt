@@ -28,16 +28,20 @@ use Rattle.hub_main.specs.Served.{HasKept, kit_in}
 use Rattle.hub_main.specs.Told.{KitTold}
 use Rattle.hub_main.specs.declared.cause.Cause.TheVariants.{Memory}
 use Rattle.hub_main.proofs.Passes.{last_state}
-use Rattle.hub_serving.specs.Hall.{DoorsTold, Hall, IsQuiet, at_view, view_in}
+use Rattle.hub_serving.specs.Hall.{DoorsTold, Hall, IsQuiet, IsUnserved, at_view, view_in}
+use Rattle.service_doors.specs.Tending.{ServicesTold}
 use Rattle.hub_serving.specs.Ends.{End, IsWritten, served_line, stream_told}
-use Rattle.hub_serving.specs.Served.{EndsBy, EndsDesk, EndsOver, EndsReady, EndsSynced, HasServed, IsUntouched, Serves, Syncs}
+use Rattle.hub_serving.specs.Served.{Attends, EndsBy, EndsDesk, EndsOver, EndsReady, EndsSynced, HasServed, IsUntouched, Serves, Syncs}
 use Rattle.hub_serving.specs.declared.end.Ended.{Ended}
 use Rattle.hub_serving.specs.declared.end.NotServed.{NotServed}
 use Rattle.hub_serving.specs.declared.end.NotServed.TheVariants.{Because}
 use Rattle.hub_serving.specs.declared.plan.Plan.{Plan}
 
 pub still : (h : Hall) → IsQuiet h h
-still h = record { output = refl; doors = refl; clock = refl; kit = refl }
+still h = record { output = refl; doors = refl; clock = refl; kit = refl; services = refl }
+
+pub calm : (h : Hall) → IsUnserved h h
+calm h = record { output = refl; doors = refl; clock = refl; kit = refl }
 
 -- ---- how the serving ended
 
@@ -58,18 +62,22 @@ fault_of (Err fault.Memory) count before after faults begun failed = absurd (beg
 abbrev doors_told : {D : Type 0} → (D → Option ℕ) → (D → ℕ) → D → DoorsTold
 doors_told given faults doors = record { given = given doors; faults = faults doors }
 
+abbrev told_doors : Option ℕ → ℕ → DoorsTold
+told_doors given faults = record { given = given; faults = faults }
+
 -- a hub that served, and one that found no memory
 module _ {O D : Type 0} (held : O → Option (List ℕ)) (write_faults : O → ℕ) (given : D → Option ℕ) (door_faults : D → ℕ) (o o' : O) (d d' : D)
-    (clock : Option (ℕ → ℕ)) (kit : KitTold) where
+    (clock : Option (ℕ → ℕ)) (kit : KitTold) (s s' : ServicesTold) where
   abbrev before : Hall
-  before = record { output = stream_told held write_faults o; doors = doors_told given door_faults d; clock = clock; kit = kit }
+  before = record { output = stream_told held write_faults o; doors = doors_told given door_faults d; clock = clock; kit = kit; services = s }
 
   abbrev after : Hall
-  after = record { output = stream_told held write_faults o'; doors = doors_told given door_faults d'; clock = clock; kit = kit }
+  after = record { output = stream_told held write_faults o'; doors = doors_told given door_faults d'; clock = clock; kit = kit; services = s' }
 
   pub serves : (connections tally count : ℕ) (served : Result Unit ServeFault) (end : End) → count ≡ tally
       → Gave (given d) tally (given d') → tally ≤ connections → is_ok served ≡ (tally == connections)
-      → IfErr served (IsFault tally (door_faults d) (door_faults d')) → (served ≡ Err fault.Memory → d' ≡ d)
+      → IfErr served (IsFault tally (door_faults d) (door_faults d'))
+      → (served ≡ Err fault.Memory → (given d' ≡ given d) × (door_faults d' ≡ door_faults d))
       → IfOk end (λ e. (e.count ≡ count) × (e.failed ≡ not (is_ok served))
       × IsWritten (served_line count) (stream_told held write_faults o) (stream_told held write_faults o') e.line)
       → IfErr end (λ why. (why ≡ Because Memory) × (served ≡ Err fault.Memory) × (o' ≡ o))
@@ -88,7 +96,8 @@ module _ {O D : Type 0} (held : O → Option (List ℕ)) (write_faults : O → �
     untold.0,
     record {
       output = ap (λ (x : O). stream_told held write_faults x) untold.2;
-      doors = ap (λ (x : D). doors_told given door_faults x) (quiet untold.1);
+      doors = ap (λ (g : Option ℕ). told_doors g (door_faults d')) (quiet untold.1).0
+          ∙ ap (λ (n : ℕ). told_doors (given d) n) (quiet untold.1).1;
       clock = refl;
       kit = refl;
     },
@@ -143,21 +152,30 @@ module _ {K : Type 0} (Tells : K → Type 0) (rows : K → Rows) (faults : K →
   kept_at start base entries k' book found given seen reached kept =
       record { state = book.hub; reached = last_state start base entries book found given seen reached; kept = kept }
 
-  pub ready : (start : Start) (base : Option Start) (seen : List Entry) (connections : ℕ) (h h' : Hall) (k' : K) (end : End) (book : Standing)
-      → Serves connections h h' end → IsPrefix seen (entries_of book) → base ≡ Some book.start → base ≡ Some start
+  pub ready : (start : Start) (base : Option Start) (seen : List Entry) (plan : Plan) (h h' : Hall) (k' : K) (end : End) (book : Standing)
+      → Serves plan.connections h h' end → Attends plan.managed h h' end → IsPrefix seen (entries_of book) → base ≡ Some book.start → base ≡ Some start
       → Reached book.start (entries_of book) book.hub → (Tells k' → Keeps (rows k') book.hub.tables)
-      → EndsReady Tells rows faults start seen connections h h' k' end
-  ready start base seen connections h h' k' end book serves begins found given reached kept = record {
+      → EndsReady Tells rows faults start seen plan h h' k' end
+  ready start base seen plan h h' k' end book serves services begins found given reached kept = record {
     serves = serves;
+    services = services;
     entries = entries_of book;
     begins = begins;
     kept = kept_at start base (entries_of book) k' book found given refl reached kept;
   }
 
+  -- there was no memory for the services
+  pub unattended : (start : Start) (base : Option Start) (seen : List Entry) (plan : Plan) (h : Hall) (k' : K) (book : Standing)
+      → IsPrefix seen (entries_of book) → base ≡ Some book.start → base ≡ Some start
+      → Reached book.start (entries_of book) book.hub → (Tells k' → Keeps (rows k') book.hub.tables)
+      → EndsReady Tells rows faults start seen plan h h k' (Err (Because Memory))
+  unattended start base seen plan h k' book begins found given reached kept =
+      ready start base seen plan h h k' (Err (Because Memory)) book (refl, calm h) (inr (refl, refl)) begins found given reached kept
+
   -- the routes were brought into step, or their link failed, and then connections were served
   pub by_synced : (start : Start) (pass : PassState Entry Start) (synced : View) (answer : Result Synced SyncFault) (wanting : Bool) (plan : Plan) (h h' : Hall)
       (k' : K) (end : End) → Syncs start plan.hub.hub_url (view_in pass h) answer synced → IsTrue wanting ↔ (answer ≡ Err sync.Memory) → wanting ≡ false
-      → EndsReady Tells rows faults start synced.pass.seen plan.connections (at_view h synced) h' k' end
+      → EndsReady Tells rows faults start synced.pass.seen plan (at_view h synced) h' k' end
       → EndsSynced Tells rows faults start pass plan h h' k' end
   by_synced start pass synced answer wanting plan h h' k' end syncs tells some ends = record {
     answer = answer;
@@ -178,8 +196,8 @@ module _ {K : Type 0} (Tells : K → Type 0) (rows : K → Rows) (faults : K →
     synced = synced;
     syncs = syncs;
     wanting = λ is. refl;
-    ends = ready start base synced.pass.seen plan.connections (at_view h synced) (at_view h synced) k' (Err (Because Memory)) book
-        (refl, still (at_view h synced)) begins found given reached kept;
+    ends = ready start base synced.pass.seen plan (at_view h synced) (at_view h synced) k' (Err (Because Memory)) book
+        (refl, calm (at_view h synced)) (inr (refl, refl)) begins found given reached kept;
   }
 
   -- the running servers were taken back, and then the routes brought into step and connections served
@@ -191,16 +209,17 @@ module _ {K : Type 0} (Tells : K → Type 0) (rows : K → Rows) (faults : K →
   -- the pass looked, and memory was wanting
   pub looked : (start : Start) (base : Option Start) (pass : PassState Entry Start) (plan : Plan) (h h' : Hall) (x y : View) (k' : K) (book : Standing)
       → Looks x y → x.pass.alone ≡ true → x.pass.seen ≡ [] → kit_in x ≡ h.kit → kit_in y ≡ h'.kit → x.clock ≡ h.clock → y.clock ≡ h'.clock
-      → h'.output ≡ h.output → h'.doors ≡ h.doors → base ≡ Some book.start → base ≡ Some start → entries_of book ≡ y.pass.seen
+      → h'.output ≡ h.output → h'.doors ≡ h.doors → h'.services ≡ h.services → base ≡ Some book.start → base ≡ Some start → entries_of book ≡ y.pass.seen
       → Reached book.start (entries_of book) book.hub → (Tells k' → Keeps (rows k') book.hub.tables)
       → EndsDesk Tells rows faults start pass plan h h' k' (Err (Because Memory))
-  looked start base pass plan h h' x y k' book looks alone new before after early late output doors found given seen reached kept = inl (record {
+  looked start base pass plan h h' x y k' book looks alone new before after early late output doors services found given seen reached kept = inl (record {
     wanting = refl;
     quiet = record {
       output = output;
       doors = doors;
       clock = sym late ∙ looks.clock ∙ early;
       kit = sym after ∙ looked_kit x y looks ∙ before;
+      services = services;
     };
     kept = kept_at start base [] k' book found given (seen ∙ looked_seen x y looks alone ∙ new) reached kept;
   })

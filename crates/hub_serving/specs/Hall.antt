@@ -9,32 +9,45 @@ use Rattle.hub_core.specs.declared.start.Start.{Start}
 use Rattle.hub_run.specs.Turns.{View}
 use Rattle.hub_run.specs.declared.kit.HubKit.{HubKit}
 use Rattle.hub_main.specs.Told.{StreamTold, KitTold, kit_told}
+use Rattle.services_run.specs.Calls.{RunCall}
+use Rattle.service_doors.specs.Tending.{ServicesTold, services_told}
+use Rattle.service_doors.specs.declared.kit.ServiceKit.{ServiceKit}
 
 -- how many connections the listener has given, and its faults
 pub record DoorsTold : Type 0 where
   pub given : Option ℕ
   pub faults : ℕ
 
--- the output, the listener, and the devices by which the hub is opened and takes its servers back: the moments to come, and what the
--- others tell
+-- the output, the listener, the devices by which the hub is opened and takes its servers back (the moments to come, and what the others
+-- tell), and those of its services
 pub record Hall : Type 0 where
   pub output : StreamTold
   pub doors : DoorsTold
   pub clock : Option (ℕ → ℕ)
   pub kit : KitTold
+  pub services : ServicesTold
 
-abbrev pub hall : {O D S P C R : Type 0} → (O → Option (List ℕ)) → (O → ℕ) → (D → Option ℕ) → (D → ℕ) → (C → Option (ℕ → ℕ))
+abbrev pub hall : {O D S P C R V : Type 0} → (O → Option (List ℕ)) → (O → ℕ) → (D → Option ℕ) → (D → ℕ) → (C → Option (ℕ → ℕ))
     → (R → Option (List (List ℕ))) → (S → Option (List (Spawning × Told))) → (P → Option (List (Routing × Told)))
-    → (R → ℕ) → (S → ℕ) → (P → ℕ) → O → D → HubKit S P C R → Hall
-hall held write_faults given door_faults to_come left spawned routed draw_faults spawn_faults route_faults output doors kit = record {
+    → (R → ℕ) → (S → ℕ) → (P → ℕ) → (V → Option (List RunCall)) → (V → ℕ) → O → D → HubKit S P C R → ServiceKit V P C → Hall
+hall held write_faults given door_faults to_come left spawned routed draw_faults spawn_faults route_faults ran run_faults output doors kit services = record {
   output = record { bytes = held output; faults = write_faults output };
   doors = record { given = given doors; faults = door_faults doors };
   clock = to_come kit.clock;
   kit = kit_told left spawned routed draw_faults spawn_faults route_faults kit;
+  services = services_told ran routed to_come run_faults route_faults services;
 }
 
 -- nothing was written or accepted, no moment was asked, and no device was called
 pub record IsQuiet (h h' : Hall) : Type 0 where
+  pub output : h'.output ≡ h.output
+  pub doors : h'.doors ≡ h.doors
+  pub clock : h'.clock ≡ h.clock
+  pub kit : h'.kit ≡ h.kit
+  pub services : h'.services ≡ h.services
+
+-- the same of all but the services
+pub record IsUnserved (h h' : Hall) : Type 0 where
   pub output : h'.output ≡ h.output
   pub doors : h'.doors ≡ h.doors
   pub clock : h'.clock ≡ h.clock

@@ -1,5 +1,7 @@
 pub mod Hall
 pub mod Plans
+pub mod Services
 pub mod Ends
 pub mod Served
 pub mod Commands
+pub mod Law

@@ -14,6 +14,7 @@ pub record IsOf (file : FileConfig) (words : ServeWords) (plan : Plan) : Type 0 
   pub hub : plan.hub ≡ record file.hub { no_trail = words.no_trail }
   pub listen : file.listen ≡ Some plan.listen
   pub command : plan.command ≡ file.command
+  pub managed : plan.managed ≡ file.managed
   pub proxy : plan.proxy ≡ file.proxy
   pub db : plan.db ≡ words.db
   pub workers : plan.workers ≡ words.workers

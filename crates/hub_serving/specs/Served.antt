@@ -1,5 +1,5 @@
 -- What is done over an opened book: running servers are taken back, the routes are brought into step, and connections are served.
-use Rattle.std.specs.Prelude.{◌≡◌, ◌==◌, ◌⊎◌, ℕ, ◌≤◌, true, not, List, [], Option, Result, Ok, Err}
+use Rattle.std.specs.Prelude.{◌≡◌, ◌==◌, ◌⊎◌, ℕ, ◌≤◌, ◌<◌, ◌^◌, true, not, List, [], map, length, Option, Result, Ok, Err}
 use mathlib.Core.List.{IsPrefix}
 use Rattle.atomic_table.specs.Seated.{TableId}
 use Rattle.desk.specs.Passes.{PassState, IsSamePass, opening}
@@ -22,7 +22,10 @@ use Rattle.hub_sync.specs.declared.calls.SyncFault.TheVariants as sync
 use Rattle.hub_serve.specs.Given.{Gave}
 use Rattle.hub_main.specs.Served.{HasKept}
 use Rattle.hub_main.specs.declared.cause.Cause.TheVariants.{Memory}
-use Rattle.hub_serving.specs.Hall.{Hall, IsQuiet, at_view, view_in}
+use Rattle.hub_serving.specs.Hall.{Hall, IsQuiet, IsUnserved, at_view, view_in}
+use Rattle.hub_config.specs.declared.config.ConfigManaged.{ConfigManaged}
+use Rattle.service_doors.specs.Tending.{Attended}
+use Rattle.hub_serving.specs.Services.{service_of}
 use Rattle.hub_serving.specs.Ends.{End, IsWritten, served_line}
 use Rattle.hub_serving.specs.declared.end.Ended.{Ended}
 use Rattle.hub_serving.specs.declared.end.NotServed.TheVariants.{Because}
@@ -42,7 +45,7 @@ pub record HasServed (connections : ℕ) (h h' : Hall) (end : Ended) : Type 0 wh
 -- or memory was wanting before the first connection
 abbrev pub Serves : ℕ → Hall → Hall → End → Type 0
 Serves connections h h' (Ok end) = HasServed connections h h' end
-Serves connections h h' (Err why) = (why ≡ Because Memory) × IsQuiet h h'
+Serves connections h h' (Err why) = (why ≡ Because Memory) × IsUnserved h h'
 
 -- The calls on the route link were those that bring its routes into step with the servers of the state which the pass then saw, and with the
 -- hub's own target, up to one that failed. The pass made no entry, and no other device was asked
@@ -62,11 +65,19 @@ pub record Syncs (start : Start) (hub : Option (List ℕ)) (x : View) (answer : 
   pub random : y.faults.random ≡ x.faults.random
   pub spawns : y.faults.spawner ≡ x.faults.spawner
 
+-- The services of the configuration, fewer than 2^32, were tended in rounds, one before the first connection and one after each, and stopped
+-- at the end; or there was no memory for them
+abbrev pub Attends : List ConfigManaged → Hall → Hall → End → Type 0
+Attends managed h h' end =
+    ((length managed < 2 ^ 32) × ∥ Attended (map service_of managed) h.services h.doors.given h'.services h'.doors.given ∥₁)
+    ⊎ ((end ≡ Err (Because Memory)) × (h'.services ≡ h.services))
+
 module _ {K : Type 0} (Tells : K → Type 0) (rows : K → Rows) (faults : K → ℕ) where
-  -- connections were served by passes that had seen these entries, and the store has exactly the rows of the state that the last entries
-  -- left
-  pub record EndsReady (start : Start) (seen : List Entry) (connections : ℕ) (h h' : Hall) (k' : K) (end : End) : Type 0 where
-    pub serves : Serves connections h h' end
+  -- Connections were served by passes that had seen these entries, and the services tended; and the store has exactly the rows of the state
+  -- that the last entries left
+  pub record EndsReady (start : Start) (seen : List Entry) (plan : Plan) (h h' : Hall) (k' : K) (end : End) : Type 0 where
+    pub serves : Serves plan.connections h h' end
+    pub services : Attends plan.managed h h' end
     pub entries : List Entry
     pub begins : IsPrefix seen entries
     pub kept : HasKept Tells rows faults start entries k'
@@ -77,7 +88,7 @@ module _ {K : Type 0} (Tells : K → Type 0) (rows : K → Rows) (faults : K →
     pub synced : View
     pub syncs : Syncs start plan.hub.hub_url (view_in pass h) answer synced
     pub wanting : answer ≡ Err sync.Memory → end ≡ Err (Because Memory)
-    pub ends : EndsReady start synced.pass.seen plan.connections (at_view h synced) h' k' end
+    pub ends : EndsReady start synced.pass.seen plan (at_view h synced) h' k' end
 
   -- from the view x on the servers that were being adopted were taken back, and then the routes brought into step and connections served
   pub record EndsBy (start : Start) (x : View) (plan : Plan) (h h' : Hall) (k' : K) (end : End) : Type 0 where

@@ -5,7 +5,7 @@ ghost use Rattle.hub_serving.specs.Plans as spec;
 ghost use Rattle.hub_words.specs.Serve.{serve_read};
 
 use crate::end::NotServed;
-use hub_config::config::FileConfig;
+use hub_config::config::{ConfigManaged, FileConfig};
 use hub_devices::files::Files;
 use hub_kit::list::List;
 use hub_kit::target::Target;
@@ -24,6 +24,8 @@ pub struct Plan {
     pub hub: HubConfig,
     /// Where it listens, `HOST:PORT`.
     pub listen: Text,
+    /// The services whose programs the hub starts.
+    pub managed: List<ConfigManaged>,
     /// The words of the program that is started for a server. Without any, each start fails.
     pub command: List<Text>,
     /// The target of the proxy's interface, and its secret.
@@ -78,8 +80,6 @@ fn with_words(file: FileConfig, words: ServeWords) -> Result<Plan, NotServed>
         command,
         proxy,
     } = file;
-    // the services that have a program come with the proxy
-    drop(managed);
     let ServeWords {
         config,
         db,
@@ -93,6 +93,7 @@ fn with_words(file: FileConfig, words: ServeWords) -> Result<Plan, NotServed>
         Some(listen) => Ok(Plan {
             hub,
             listen,
+            managed,
             command,
             proxy,
             db,
@@ -102,6 +103,7 @@ fn with_words(file: FileConfig, words: ServeWords) -> Result<Plan, NotServed>
         None => {
             // in one call each, since they have many parts
             drop(hub);
+            drop(managed);
             drop(command);
             drop(proxy);
             drop(db);

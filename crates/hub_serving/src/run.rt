@@ -1,6 +1,7 @@
 //! The command `serve`, over the outside that the program makes.
-ghost use Rattle.std.specs.Prelude.{◌≡◌, ◌≤◌, ◌<◌, ◌^◌, not, Some, IsSome, is_some, length};
+ghost use Rattle.std.specs.Prelude.{◌≡◌, ◌≤◌, ◌<◌, ◌^◌, not, Some, IsSome, is_some, length, true};
 ghost use Rattle.hub_main.specs.Told.{files_told};
+ghost use Rattle.hub_config.specs.Managed.{are_distinct};
 ghost use Rattle.hub_opening.specs.Kept.{MakeTable};
 ghost use Rattle.hub_serving.specs.Commands as spec;
 ghost use Rattle.hub_serving.specs.Hall.{hall};
@@ -34,10 +35,11 @@ fn run_over<W: ServeWorld, T: Trail<Entry = Change> + Send, R: Threads + Wait + 
     requires told { is_some (T.told trail) ≡ not plan.now.hub.no_trail }
     requires limits { plan.now.hub.limits.trail_bytes ≤ 2 ^ 62 }
     requires scopes { MakeTable plan.now.hub.custom_scopes }
+    requires apart { are_distinct plan.now.managed ≡ true }
     requires kits { 0 < length outside.old.kits.items }
     ensures ends { spec.EndsChosen W.Store.Tells W.Store.rows W.Store.faults plan.now now
-        (hall W.Out.held W.Out.faults W.Doors.given W.Doors.faults W.Time.to_come W.Draws.left W.Starts.calls W.Paths.calls W.Draws.faults W.Starts.faults W.Paths.faults outside.old.output outside.old.doors outside.old.kit)
-        (hall W.Out.held W.Out.faults W.Doors.given W.Doors.faults W.Time.to_come W.Draws.left W.Starts.calls W.Paths.calls W.Draws.faults W.Starts.faults W.Paths.faults outside.new.output outside.new.doors outside.new.kit) store result.1 result.0 }
+        (hall W.Out.held W.Out.faults W.Doors.given W.Doors.faults W.Time.to_come W.Draws.left W.Starts.calls W.Paths.calls W.Draws.faults W.Starts.faults W.Paths.faults W.Runs.calls W.Runs.faults outside.old.output outside.old.doors outside.old.kit outside.old.services)
+        (hall W.Out.held W.Out.faults W.Doors.given W.Doors.faults W.Time.to_come W.Draws.left W.Starts.calls W.Paths.calls W.Draws.faults W.Starts.faults W.Paths.faults W.Runs.calls W.Runs.faults outside.new.output outside.new.doors outside.new.kit outside.new.services) store result.1 result.0 }
     ensures files { outside.new.files ≡ outside.old.files }
 {
     match open_book(alloc, store, trail, &plan.hub, now) {
@@ -57,10 +59,11 @@ fn run_at<W: ServeWorld, R: Threads + Wait + Sync>(
 ) -> (End, W::Store)
     requires limits { plan.now.hub.limits.trail_bytes ≤ 2 ^ 62 }
     requires scopes { MakeTable plan.now.hub.custom_scopes }
+    requires apart { are_distinct plan.now.managed ≡ true }
     requires kits { 0 < length outside.old.kits.items }
     ensures ends { spec.EndsChosen W.Store.Tells W.Store.rows W.Store.faults plan.now now
-        (hall W.Out.held W.Out.faults W.Doors.given W.Doors.faults W.Time.to_come W.Draws.left W.Starts.calls W.Paths.calls W.Draws.faults W.Starts.faults W.Paths.faults outside.old.output outside.old.doors outside.old.kit)
-        (hall W.Out.held W.Out.faults W.Doors.given W.Doors.faults W.Time.to_come W.Draws.left W.Starts.calls W.Paths.calls W.Draws.faults W.Starts.faults W.Paths.faults outside.new.output outside.new.doors outside.new.kit) store result.1 result.0 }
+        (hall W.Out.held W.Out.faults W.Doors.given W.Doors.faults W.Time.to_come W.Draws.left W.Starts.calls W.Paths.calls W.Draws.faults W.Starts.faults W.Paths.faults W.Runs.calls W.Runs.faults outside.old.output outside.old.doors outside.old.kit outside.old.services)
+        (hall W.Out.held W.Out.faults W.Doors.given W.Doors.faults W.Time.to_come W.Draws.left W.Starts.calls W.Paths.calls W.Draws.faults W.Starts.faults W.Paths.faults W.Runs.calls W.Runs.faults outside.new.output outside.new.doors outside.new.kit outside.new.services) store result.1 result.0 }
     ensures files { outside.new.files ≡ outside.old.files }
 {
     if plan.hub.no_trail {
@@ -80,10 +83,11 @@ fn run_planned<W: ServeWorld, R: Threads + Wait + Sync>(
 ) -> (End, W::Store)
     requires limits { plan.now.hub.limits.trail_bytes ≤ 2 ^ 62 }
     requires scopes { MakeTable plan.now.hub.custom_scopes }
+    requires apart { are_distinct plan.now.managed ≡ true }
     requires kits { 0 < length outside.old.kits.items }
     ensures ends { spec.EndsPlanned W.Store.Tells W.Store.rows W.Store.faults W.Store.Chooses plan.now
-        (hall W.Out.held W.Out.faults W.Doors.given W.Doors.faults W.Time.to_come W.Draws.left W.Starts.calls W.Paths.calls W.Draws.faults W.Starts.faults W.Paths.faults outside.old.output outside.old.doors outside.old.kit)
-        (hall W.Out.held W.Out.faults W.Doors.given W.Doors.faults W.Time.to_come W.Draws.left W.Starts.calls W.Paths.calls W.Draws.faults W.Starts.faults W.Paths.faults outside.new.output outside.new.doors outside.new.kit) store result.1 result.0 }
+        (hall W.Out.held W.Out.faults W.Doors.given W.Doors.faults W.Time.to_come W.Draws.left W.Starts.calls W.Paths.calls W.Draws.faults W.Starts.faults W.Paths.faults W.Runs.calls W.Runs.faults outside.old.output outside.old.doors outside.old.kit outside.old.services)
+        (hall W.Out.held W.Out.faults W.Doors.given W.Doors.faults W.Time.to_come W.Draws.left W.Starts.calls W.Paths.calls W.Draws.faults W.Starts.faults W.Paths.faults W.Runs.calls W.Runs.faults outside.new.output outside.new.doors outside.new.kit outside.new.services) store result.1 result.0 }
     ensures files { outside.new.files ≡ outside.old.files }
 {
     let mut store = store;
@@ -104,8 +108,8 @@ fn run_words<W: ServeWorld, R: Threads + Wait + Sync>(
 ) -> (End, W::Store)
     requires kits { 0 < length outside.old.kits.items }
     ensures ends { spec.CommandEnds W.Store.Tells W.Store.rows W.Store.faults W.Store.Chooses (serve_read words.now) (files_told W.Reads.files W.Reads.faults outside.old.files) (files_told W.Reads.files W.Reads.faults outside.new.files)
-        (hall W.Out.held W.Out.faults W.Doors.given W.Doors.faults W.Time.to_come W.Draws.left W.Starts.calls W.Paths.calls W.Draws.faults W.Starts.faults W.Paths.faults outside.old.output outside.old.doors outside.old.kit)
-        (hall W.Out.held W.Out.faults W.Doors.given W.Doors.faults W.Time.to_come W.Draws.left W.Starts.calls W.Paths.calls W.Draws.faults W.Starts.faults W.Paths.faults outside.new.output outside.new.doors outside.new.kit) store result.1 result.0 }
+        (hall W.Out.held W.Out.faults W.Doors.given W.Doors.faults W.Time.to_come W.Draws.left W.Starts.calls W.Paths.calls W.Draws.faults W.Starts.faults W.Paths.faults W.Runs.calls W.Runs.faults outside.old.output outside.old.doors outside.old.kit outside.old.services)
+        (hall W.Out.held W.Out.faults W.Doors.given W.Doors.faults W.Time.to_come W.Draws.left W.Starts.calls W.Paths.calls W.Draws.faults W.Starts.faults W.Paths.faults W.Runs.calls W.Runs.faults outside.new.output outside.new.doors outside.new.kit outside.new.services) store result.1 result.0 }
     ensures files { W.Reads.files outside.new.files ≡ W.Reads.files outside.old.files }
     ensures looked { W.Reads.faults outside.old.files ≤ W.Reads.faults outside.new.files }
 {
@@ -126,8 +130,9 @@ fn run_words<W: ServeWorld, R: Threads + Wait + Sync>(
 /// has a name in a list that is neither kept nor configured, where a running server has a target that the pool hasn't, or a table would
 /// pass its limit; 4 where the store doesn't take its place, fails at opening, or has a row that doesn't read; 7 where memory is wanting
 /// before the first connection. Nothing is accepted or written then. Otherwise running servers were taken back, the routes were brought into
-/// step unless their link failed, the line `served N` is written, and the rows are those of the last state of the history. The status is then 0 where as many connections were served as the
-/// words ask for, 8 where the listener failed before that, 6 where the output failed, and 7 where memory was wanting for the line.
+/// step unless their link failed, the services were tended and stopped, the line `served N` is written, and the rows are those of the last
+/// state of the history. The status is then 0 where as many connections were served as the words ask for, 8 where the listener failed before
+/// that, 6 where the output failed, and 7 where memory was wanting for the line.
 pub fn run<W: ServeWorld, R: Threads + Wait + Sync>(
     rt: &R,
     alloc: Global,
@@ -138,8 +143,8 @@ pub fn run<W: ServeWorld, R: Threads + Wait + Sync>(
     requires kits { 0 < length outside.old.kits.items }
     ensures store { IsSome outside.new.store }
     ensures ends { (k k' : W.Store) → outside.old.store ≡ Some k → outside.new.store ≡ Some k' → spec.RunEnds W.Store.Tells W.Store.rows W.Store.faults W.Store.Chooses (serve_read words.now) (files_told W.Reads.files W.Reads.faults outside.old.files) (files_told W.Reads.files W.Reads.faults outside.new.files)
-        (hall W.Out.held W.Out.faults W.Doors.given W.Doors.faults W.Time.to_come W.Draws.left W.Starts.calls W.Paths.calls W.Draws.faults W.Starts.faults W.Paths.faults outside.old.output outside.old.doors outside.old.kit)
-        (hall W.Out.held W.Out.faults W.Doors.given W.Doors.faults W.Time.to_come W.Draws.left W.Starts.calls W.Paths.calls W.Draws.faults W.Starts.faults W.Paths.faults outside.new.output outside.new.doors outside.new.kit) k k' result }
+        (hall W.Out.held W.Out.faults W.Doors.given W.Doors.faults W.Time.to_come W.Draws.left W.Starts.calls W.Paths.calls W.Draws.faults W.Starts.faults W.Paths.faults W.Runs.calls W.Runs.faults outside.old.output outside.old.doors outside.old.kit outside.old.services)
+        (hall W.Out.held W.Out.faults W.Doors.given W.Doors.faults W.Time.to_come W.Draws.left W.Starts.calls W.Paths.calls W.Draws.faults W.Starts.faults W.Paths.faults W.Runs.calls W.Runs.faults outside.new.output outside.new.doors outside.new.kit outside.new.services) k k' result }
     ensures files { W.Reads.files outside.new.files ≡ W.Reads.files outside.old.files }
     ensures looked { W.Reads.faults outside.old.files ≤ W.Reads.faults outside.new.files }
 {

@@ -9,6 +9,8 @@ use hub_devices::sink::Sink;
 use hub_devices::spawner::Spawner;
 use hub_run::HubKit;
 use keeper::keeper::Keeper;
+use service_doors::kit::ServiceKit;
+use services_run::running::Running;
 
 /// The types of the devices outside. What the workers use crosses threads.
 pub trait ServeWorld {
@@ -27,6 +29,8 @@ pub trait ServeWorld {
     type Doors: Listener<In: Send, Out: Send> + Send + Drop;
 
     type Reads: Files + Drop;
+
+    type Runs: Running + Send + Drop;
 }
 
 /// What the program hands to the command.
@@ -40,6 +44,8 @@ pub struct ServeOutside<W: ServeWorld> {
     /// The devices of the workers, of which there are as many.
     pub kits: Vec<HubKit<W::Starts, W::Paths, W::Time, W::Draws>>,
     pub doors: W::Doors,
+    /// The devices by which services are started, routed and stopped.
+    pub services: ServiceKit<W::Runs, W::Paths, W::Time>,
     pub files: W::Reads,
     /// How the command ended, for what is said to people. No contract speaks of it.
     pub end: Option<End>,
