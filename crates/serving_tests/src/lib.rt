@@ -16,6 +16,8 @@ mod of_routes;
 #[cfg(test)]
 mod of_serve;
 #[cfg(test)]
+mod of_services;
+#[cfg(test)]
 mod peers;
 #[cfg(test)]
 mod scene;

@@ -18,6 +18,8 @@ use hub_serving::run::run;
 use hub_serving::world::{ServeOutside, ServeWorld};
 use keeper::keeper::Keeper;
 use keeper::mem_keeper::MemKeeper;
+use service_doors::kit::ServiceKit;
+use services_run::mem_running::MemRunning;
 use std::alloc::Global;
 use std::marker::PhantomData;
 use std::process::Abort;
@@ -45,6 +47,8 @@ impl<K: Keeper + Send> ServeWorld for InMemory<K> {
     type Doors = MemListener<MemSource, MemSink>;
 
     type Reads = MemFiles;
+
+    type Runs = MemRunning;
 }
 
 /// What is called, what stands in the file `hub.toml`, and how it ends. Three callers come.
@@ -162,6 +166,18 @@ pub fn quiet_kit(alloc: Global) -> MemKit {
     }
 }
 
+/// By what services are tended, where polls tell this.
+pub fn service_kit(
+    alloc: Global,
+    polls: Vec<bool>,
+) -> ServiceKit<MemRunning, MemRouteLink, FixedClock> {
+    ServiceKit {
+        running: MemRunning::new(alloc, polls, Vec::new(alloc)),
+        paths: MemRouteLink::new(alloc, Vec::new(alloc)),
+        clock: FixedClock(Moment::zero()),
+    }
+}
+
 /// The kits of two workers.
 pub fn kits(rt: &impl Abort, alloc: Global) -> Vec<MemKit>
     ensures { 0 < length result.items }
@@ -185,6 +201,7 @@ fn outside(rt: &impl Abort, alloc: Global, command: &Command) -> ServeOutside<In
         kit: quiet_kit(alloc),
         kits: kits(rt, alloc),
         doors: doors(rt, alloc, command.failing_call),
+        services: service_kit(alloc, Vec::new(alloc)),
         files: files(rt, alloc, command.file),
         end: None,
     }

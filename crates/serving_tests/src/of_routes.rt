@@ -2,7 +2,9 @@
 ghost use Rattle.std.specs.Prelude.{◌<◌, IsSome, length};
 
 use crate::check::check;
-use crate::of_commands::{InMemory, NEVER, doors, files, kits, quiet_kit, store, words_of};
+use crate::of_commands::{
+    InMemory, NEVER, doors, files, kits, quiet_kit, service_kit, store, words_of,
+};
 use hub_devices::calls::{Routing, Told};
 use hub_devices::mem_bytes::MemSink;
 use hub_devices::mem_routes::MemRouteLink;
@@ -34,6 +36,7 @@ fn outside(rt: &impl Abort, alloc: Global, failing_call: u64) -> ServeOutside<In
         },
         kits: kits(rt, alloc),
         doors: doors(rt, alloc, NEVER),
+        services: service_kit(alloc, Vec::new(alloc)),
         files: files(rt, alloc, WITH_TARGET),
         end: None,
     }
