@@ -2,6 +2,7 @@
 ghost use Rattle.std.specs.Prelude.{◌<◌, length, IfOk};
 
 use crate::paths::HubRoutes;
+use crate::services::service_kit;
 use crate::system::ServeSystem;
 use crate::telling::{announce, tell_refused, tell_served};
 use hub_edge::clock::SystemClock;
@@ -115,12 +116,14 @@ fn outside<K: ProgramStore + Send, H: Threads + Wait + Copy + Send + Sync>(
     let shared = Shared::new(rt.alloc(), plan.command.as_slice())?;
     let kit = new_kit(rt, handle, plan, &shared)?;
     let kits = new_kits(rt, handle, plan, &shared)?;
+    let services = service_kit(rt, handle, plan, &shared.routes)?;
     Ok(ServeOutside {
         output: Output::new(rt),
         store: None,
         kit,
         kits,
         doors: listener,
+        services,
         files: SystemFiles::new(rt),
         end: None,
     })

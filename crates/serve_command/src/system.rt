@@ -8,6 +8,7 @@ use hub_edge::programs::Programs;
 use hub_edge::random::SystemRandom;
 use hub_serving::world::ServeWorld;
 use hub_store::command::ProgramStore;
+use service_edge::programs::ServicePrograms;
 use std::marker::PhantomData;
 use std::sync::Wait;
 use std::thread::Threads;
@@ -34,4 +35,6 @@ impl<K: ProgramStore + Send, H: Threads + Wait + Copy + Send + Sync> ServeWorld
     type Doors = SocketListener;
 
     type Reads = SystemFiles;
+
+    type Runs = ServicePrograms<H>;
 }
