@@ -1,5 +1,5 @@
 -- The services of a plan live by the law.
-use Rattle.std.proofs.Common.{◌≡◌, ◌<◌, ◌^◌, ◌⊎◌, inl, inr, ℕ, List, [], length, map, Option, Some, refl, sym, ◌∙◌, ap, subst, tt, arith}
+use Rattle.std.proofs.Common.{◌≡◌, ◌<◌, ◌^◌, ◌⊎◌, inl, inr, ℕ, List, [], length, map, Option, Some, refl, sym, ◌∙◌, ap, subst, arith}
 use Rattle.std.proofs.lemmas.List.{length-map}
 use Rattle.std.proofs.Math.Logic.{∥∥₁_map}
 use Rattle.services_run.specs.Calls.{PathCall, RunCall}
@@ -19,7 +19,7 @@ some_same x y e = cc
 
 -- nothing was called
 no_runs : (runs : List RunCall) → Some [] ≡ Some runs → RunsLawfully runs
-no_runs runs is = subst (λ (r : List RunCall). RunsLawfully r) (some_same [] runs is) (λ g h name a b. cc, (tt, tt))
+no_runs runs is = subst (λ (r : List RunCall). RunsLawfully r) (some_same [] runs is) (λ g h name a b. cc, tt, tt)
 
 no_routes : (ls : List Label) (paths : List PathCall) → Some [] ≡ Some paths → AllOwn ls paths
 no_routes ls paths is = subst (λ (q : List PathCall). AllOwn ls q) (some_same [] paths is) tt
