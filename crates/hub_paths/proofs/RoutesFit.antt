@@ -9,7 +9,7 @@ use Rattle.matchit.specs.declared.error.InsertError.{InsertError}
 use Rattle.matchit.proofs.OnLiterals.{matchit_on_literals}
 use Rattle.hub_paths.specs.Paths.{IsRouter, every_path, fits, path_of, segments, text_of}
 use Rattle.hub_paths.specs.declared.paths.Path.{Path}
-use Rattle.hub_paths.specs.declared.paths.Path.TheVariants.{Bare, Version, Info, Identity, Users, User, Activity, DefaultServer, NamedServer, Tokens, Token, Shared, GivenShares, DefaultShares, ServerShares, GivenCodes, DefaultCodes, ServerCodes, Groups, Group, Members, Services, Service, Roles, Role, Authorize, Trade}
+use Rattle.hub_paths.specs.declared.paths.Path.TheVariants.{Bare, Version, Info, Identity, Users, User, Activity, DefaultServer, NamedServer, Tokens, Token, Shared, GivenShares, DefaultShares, ServerShares, GivenCodes, DefaultCodes, ServerCodes, Groups, Group, Members, Services, Service, Roles, Role, Authorize, Trade, Proxy}
 use Rattle.hub_paths.proofs.Routes.{hub_routes}
 use Rattle.hub_paths.proofs.Walks.{Agrees, after, agrees-branch, agrees-end, agrees-more, agrees-none, agrees-param, agrees-prefix, at_slash, found, matches}
 use Rattle.hub_paths.proofs.Fits.{are_parts, fits-pattern, pattern_of}
@@ -81,8 +81,11 @@ from_roles = after (codes "roles") (collection [] Role Roles) ++ from_services
 abbrev of_grants : RowsOf (RouteOf Path)
 of_grants = after (codes "authorize") (leaf Authorize) ++ after (codes "token") (leaf Trade)
 
+abbrev from_proxy : RowsOf (RouteOf Path)
+from_proxy = after (codes "proxy") (leaf Proxy) ++ from_roles
+
 abbrev from_grants : RowsOf (RouteOf Path)
-from_grants = after (codes "oauth2/") of_grants ++ from_roles
+from_grants = after (codes "oauth2/") of_grants ++ from_proxy
 
 abbrev from_info : RowsOf (RouteOf Path)
 from_info = after (codes "info") (leaf Info) ++ from_grants
@@ -153,8 +156,11 @@ agrees-of_grants =
     agrees-branch (codes "authorize") (leaf Authorize) (after (codes "token") (leaf Trade)) (refl, refl, refl, refl) (agrees-end (route Authorize))
     (agrees-prefix (codes "token") (leaf Trade) refl (agrees-end (route Trade)))
 
+agrees-from_proxy : Agrees from_proxy
+agrees-from_proxy = agrees-branch (codes "proxy") (leaf Proxy) from_roles (refl, refl, refl, refl) (agrees-end (route Proxy)) agrees-from_roles
+
 agrees-from_grants : Agrees from_grants
-agrees-from_grants = agrees-branch (codes "oauth2/") of_grants from_roles (refl, refl, refl, refl) agrees-of_grants agrees-from_roles
+agrees-from_grants = agrees-branch (codes "oauth2/") of_grants from_proxy (refl, refl, refl, refl) agrees-of_grants agrees-from_proxy
 
 agrees-from_info : Agrees from_info
 agrees-from_info = agrees-branch (codes "info") (leaf Info) from_grants (refl, refl, refl, refl) (agrees-end (route Info)) agrees-from_grants
@@ -203,6 +209,7 @@ plain-parts Roles = refl
 plain-parts Role = refl
 plain-parts Authorize = refl
 plain-parts Trade = refl
+plain-parts Proxy = refl
 
 pattern-parts : (path : Path) → (route path).pattern ≡ pattern_of (segments (text_of path))
 unfolding matchit_on_literals
@@ -233,6 +240,7 @@ pattern-parts Roles = refl
 pattern-parts Role = refl
 pattern-parts Authorize = refl
 pattern-parts Trade = refl
+pattern-parts Proxy = refl
 
 matches-fits : (path : Path) (text : List ℕ) → matches (route path).pattern text ≡ fits (text_of path) text
 matches-fits path text = fits-pattern (text_of path) (route path).pattern (plain-parts path) (pattern-parts path) text

@@ -6,7 +6,7 @@ use Rattle.matchit.specs.Rows.{RowsOf}
 use Rattle.matchit.specs.Router.{RouteOf}
 use Rattle.matchit.specs.Seek.{first}
 use Rattle.hub_paths.specs.declared.paths.Path.{Path}
-use Rattle.hub_paths.specs.declared.paths.Path.TheVariants.{Bare, Version, Info, Identity, Users, User, Activity, DefaultServer, NamedServer, Tokens, Token, Shared, GivenShares, DefaultShares, ServerShares, GivenCodes, DefaultCodes, ServerCodes, Groups, Group, Members, Services, Service, Roles, Role, Authorize, Trade}
+use Rattle.hub_paths.specs.declared.paths.Path.TheVariants.{Bare, Version, Info, Identity, Users, User, Activity, DefaultServer, NamedServer, Tokens, Token, Shared, GivenShares, DefaultShares, ServerShares, GivenCodes, DefaultCodes, ServerCodes, Groups, Group, Members, Services, Service, Roles, Role, Authorize, Trade, Proxy}
 
 -- the text of each path; a name between braces stands for one segment of a byte or more
 abbrev pub text_of : Path → List ℕ
@@ -37,12 +37,13 @@ text_of Roles = codes "/hub/api/roles"
 text_of Role = codes "/hub/api/roles/{role}"
 text_of Authorize = codes "/hub/api/oauth2/authorize"
 text_of Trade = codes "/hub/api/oauth2/token"
+text_of Proxy = codes "/hub/api/proxy"
 
 -- the paths of the calls that are built. No text fits two of them, so their order says nothing
 unfoldable pub every_path : List Path
 every_path =
-    Members ∷ Group ∷ Groups ∷ Info ∷ Authorize ∷ Trade ∷ Role ∷ Roles ∷ Service ∷ Services ∷ ServerCodes ∷ DefaultCodes ∷ GivenCodes ∷ ServerShares ∷ DefaultShares ∷ GivenShares
-    ∷ Activity ∷ NamedServer ∷ DefaultServer ∷ Shared ∷ Token ∷ Tokens ∷ User ∷ Users ∷ Identity ∷ Version ∷ Bare ∷ []
+    Members ∷ Group ∷ Groups ∷ Info ∷ Authorize ∷ Trade ∷ Proxy ∷ Role ∷ Roles ∷ Service ∷ Services ∷ ServerCodes ∷ DefaultCodes ∷ GivenCodes ∷ ServerShares ∷ DefaultShares
+    ∷ GivenShares ∷ Activity ∷ NamedServer ∷ DefaultServer ∷ Shared ∷ Token ∷ Tokens ∷ User ∷ Users ∷ Identity ∷ Version ∷ Bare ∷ []
 
 -- what stands between the slashes of a text
 abbrev pub segments : List ℕ → List (List ℕ)

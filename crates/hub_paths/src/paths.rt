@@ -39,6 +39,7 @@ pub enum Path {
     Role,
     Authorize,
     Trade,
+    Proxy,
 }
 
 impl Path {
@@ -74,18 +75,20 @@ impl Path {
             Path::Role => "/hub/api/roles/{role}",
             Path::Authorize => "/hub/api/oauth2/authorize",
             Path::Trade => "/hub/api/oauth2/token",
+            Path::Proxy => "/hub/api/proxy",
         }
     }
 }
 
 /// All paths, in the order of a router's rows.
-static PATHS: [Path; 27] = [
+static PATHS: [Path; 28] = [
     Path::Members,
     Path::Group,
     Path::Groups,
     Path::Info,
     Path::Authorize,
     Path::Trade,
+    Path::Proxy,
     Path::Role,
     Path::Roles,
     Path::Service,
