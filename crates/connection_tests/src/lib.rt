@@ -1,6 +1,6 @@
 //! Tests of whole connections to one hub, with requests and replies written by hand as they stand on the wire: servers that start and stop,
-//! two passes that meet, adoptions, tokens and shares. A crate of their own, since a crate that has tests is proved twice. Nothing stands
-//! above it.
+//! two passes that meet, adoptions, the routes of a proxy, tokens and shares. A crate of their own, since a crate that has tests is proved
+//! twice. Nothing stands above it.
 #![tactic(auto)]
 
 #[cfg(test)]
@@ -13,6 +13,8 @@ mod hubs;
 mod of_adopt;
 #[cfg(test)]
 mod of_grants;
+#[cfg(test)]
+mod of_routes;
 #[cfg(test)]
 mod of_servers;
 #[cfg(test)]

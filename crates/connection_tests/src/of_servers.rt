@@ -227,12 +227,12 @@ const CONNECTIONS: [Connection; 8] = [
     },
 ];
 
-fn user(rt: &impl Abort, name: &[u8]) -> UserName {
+pub fn user(rt: &impl Abort, name: &[u8]) -> UserName {
     read_user(name).expect(rt, "it is a name")
 }
 
 /// A token of this user that holds all that the user holds.
-fn token(rt: &impl Abort, alloc: Global, text: &str, name: &[u8]) -> ConfigToken {
+pub fn token(rt: &impl Abort, alloc: Global, text: &str, name: &[u8]) -> ConfigToken {
     let scopes = vec![in alloc; RawScope::Inherit];
     ConfigToken {
         text: Text::from_str(alloc, text).expect(rt, "there is memory"),
@@ -242,7 +242,7 @@ fn token(rt: &impl Abort, alloc: Global, text: &str, name: &[u8]) -> ConfigToken
 }
 
 /// The pool of one target.
-fn pool(rt: &impl Abort, alloc: Global) -> Pool {
+pub fn pool(rt: &impl Abort, alloc: Global) -> Pool {
     let target = read_target(alloc, b"http://127.0.0.1:9001").expect(rt, "it is a target");
     let targets = vec![in alloc; target].expect(rt, "there is memory");
     Pool::new(List::from_vec(targets)).expect(rt, "it is a pool")

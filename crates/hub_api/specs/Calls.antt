@@ -3,14 +3,14 @@ use Rattle.std.specs.Prelude.{ℕ, List, bytes_eq, codes, if◌then◌else◌, O
 use Rattle.http_wire.specs.declared.request.Request.{Request}
 use Rattle.hub_machine.specs.declared.call.Asked.{Asked}
 use Rattle.hub_machine.specs.declared.call.Call.{Call}
-use Rattle.hub_machine.specs.declared.call.Call.TheVariants.{GetVersion, GetInfo}
+use Rattle.hub_machine.specs.declared.call.Call.TheVariants.{GetVersion, GetInfo, GetProxy, PostProxy}
 use Rattle.request_parts.specs.Steps.{◌>>=◌}
 use Rattle.hub_api.specs.Readings as calls
 use Rattle.hub_paths.specs.Paths.{path_of}
 use Rattle.hub_api.specs.declared.method.Method.{Method}
 use Rattle.hub_api.specs.declared.method.Method.TheVariants.{Get, Post, Put, Patch, Delete, Other}
 use Rattle.hub_paths.specs.declared.paths.Path.{Path}
-use Rattle.hub_paths.specs.declared.paths.Path.TheVariants.{Bare, Version, Info, Identity, Users, User, Activity, DefaultServer, NamedServer, Tokens, Token, Shared, GivenShares, DefaultShares, ServerShares, GivenCodes, DefaultCodes, ServerCodes, Groups, Group, Members, Services, Service, Roles, Role, Authorize, Trade}
+use Rattle.hub_paths.specs.declared.paths.Path.TheVariants.{Bare, Version, Info, Identity, Users, User, Activity, DefaultServer, NamedServer, Tokens, Token, Shared, GivenShares, DefaultShares, ServerShares, GivenCodes, DefaultCodes, ServerCodes, Groups, Group, Members, Services, Service, Roles, Role, Authorize, Trade, Proxy}
 use Rattle.hub_api.specs.declared.refusal.ApiRefusal.{ApiRefusal}
 use Rattle.hub_api.specs.declared.refusal.ApiRefusal.TheVariants.{NoPath, NoMethod}
 
@@ -141,6 +141,11 @@ abbrev pub trade : Method → Request → Result Call ApiRefusal
 trade Post q = calls.post_trade q
 trade method q = Err NoMethod
 
+abbrev pub proxy : Method → Result Call ApiRefusal
+proxy Get = Ok GetProxy
+proxy Post = Ok PostProxy
+proxy method = Err NoMethod
+
 -- /hub/api and /hub/api/ are the same, and behind a last slash stands the name of the default server
 abbrev pub at_path : Path → Method → Request → Result Call ApiRefusal
 at_path Bare method q = version method
@@ -170,6 +175,7 @@ at_path Roles method q = roles method q
 at_path Role method q = role method q
 at_path Authorize method q = authorize method q
 at_path Trade method q = trade method q
+at_path Proxy method q = proxy method
 
 -- ---- the request
 

@@ -60,6 +60,17 @@ fn get_identity(alloc: Global, request: &Request) -> Result<Call, ApiRefusal>
     Ok(Call::GetIdentity { for_server })
 }
 
+/// `/proxy`, by its methods. A body is ignored.
+fn proxy(method: Method) -> Result<Call, ApiRefusal>
+    ensures { result ≡ spec.proxy method }
+{
+    match method {
+        Method::Get => Ok(Call::GetProxy),
+        Method::Post => Ok(Call::PostProxy),
+        _ => Err(ApiRefusal::NoMethod),
+    }
+}
+
 /// The call of a path.
 fn at_path(alloc: Global, path: Path, method: Method, request: &Request) -> Result<Call, ApiRefusal>
     ensures { Gives result (spec.at_path path method request.now) }
@@ -89,6 +100,7 @@ fn at_path(alloc: Global, path: Path, method: Method, request: &Request) -> Resu
         Path::Role => role(alloc, method, request),
         Path::Authorize => authorize(alloc, method, request),
         Path::Trade => trade(alloc, method, request),
+        Path::Proxy => proxy(method),
     }
 }
 

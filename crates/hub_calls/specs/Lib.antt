@@ -8,4 +8,5 @@ pub mod Starts
 pub mod Stops
 pub mod GroupCalls
 pub mod ServiceCalls
+pub mod ProxyCalls
 pub mod RoleCalls

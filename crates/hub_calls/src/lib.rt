@@ -7,6 +7,7 @@ pub mod bodies;
 pub mod facts;
 pub mod group_calls;
 mod lists;
+pub mod proxy_calls;
 pub mod role_calls;
 mod ruled;
 pub mod server_calls;

@@ -21,6 +21,7 @@ use Rattle.access_calls.specs.CodeCalls.{accept_code, get_codes, post_code, dele
 use Rattle.access_calls.specs.GrantCalls.{client_refusal, get_authorize, post_trade}
 use Rattle.hub_calls.specs.GroupCalls.{get_groups, get_group, post_group, delete_group, join_group, leave_group}
 use Rattle.hub_calls.specs.ServiceCalls.{get_services, get_service, post_service, delete_service}
+use Rattle.hub_calls.specs.ProxyCalls.{leave}
 use Rattle.hub_calls.specs.RoleCalls.{get_roles, get_role, role_of, put_role, delete_role}
 use Rattle.hub_core.specs.declared.need.Need.{Need}
 use Rattle.hub_core.specs.declared.need.Need.TheVariants.{GoodToken, Held, On}
@@ -28,7 +29,7 @@ use Rattle.hub_machine.specs.declared.refusal.Refusal.{Refusal}
 use Rattle.hub_machine.specs.declared.refusal.Refusal.TheVariants.{SeenPast, NoValidToken, Needs, NotFound}
 use Rattle.hub_machine.specs.declared.call.Asked.{Asked}
 use Rattle.hub_machine.specs.declared.call.Call.{Call}
-use Rattle.hub_machine.specs.declared.call.Call.TheVariants.{GetVersion, GetInfo, GetIdentity, GetUsers, PostUsers, GetUser, PostUser, PatchUser, DeleteUser, PostActivity, PostServer, DeleteServer, GetTokens, PostToken, GetToken, DeleteToken, GetShares, AcceptCode, PostShare, PatchShare, DeleteShares, GetCodes, PostCode, DeleteCodes, GetGroups, GetGroup, PostGroup, DeleteGroup, JoinGroup, LeaveGroup, GetServices, GetService, PostService, DeleteService, GetRoles, GetRole, PutRole, DeleteRole, GetAuthorize, PostTrade}
+use Rattle.hub_machine.specs.declared.call.Call.TheVariants.{GetVersion, GetInfo, GetIdentity, GetUsers, PostUsers, GetUser, PostUser, PatchUser, DeleteUser, PostActivity, PostServer, DeleteServer, GetTokens, PostToken, GetToken, DeleteToken, GetShares, AcceptCode, PostShare, PatchShare, DeleteShares, GetCodes, PostCode, DeleteCodes, GetGroups, GetGroup, PostGroup, DeleteGroup, JoinGroup, LeaveGroup, GetServices, GetService, PostService, DeleteService, GetRoles, GetRole, PutRole, DeleteRole, GetAuthorize, PostTrade, GetProxy, PostProxy}
 
 -- what is decided over all scopes and objects, and not by looking into the tables (see Judged)
 pub record Judgement : Type 0 where
@@ -81,6 +82,8 @@ row s may inside now draw k (PutRole role scopes users groups services) = put_ro
 row s may inside now draw k (DeleteRole role) = delete_role s role
 row s may inside now draw k (GetAuthorize ask) = get_authorize s now draw k.owner ask
 row s may inside now draw k (PostTrade ask) = post_trade s now draw ask
+row s may inside now draw k GetProxy = leave
+row s may inside now draw k PostProxy = leave
 
 -- ---- the frame
 

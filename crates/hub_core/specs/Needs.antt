@@ -21,7 +21,7 @@ use Rattle.admin_rules.specs.Roles.{is_fixed_role}
 use Rattle.hub_core.specs.declared.need.Need.{Need}
 use Rattle.hub_core.specs.declared.need.Need.TheVariants.{GoodToken, Held, On}
 use Rattle.hub_machine.specs.declared.call.Call.{Call}
-use Rattle.hub_machine.specs.declared.call.Call.TheVariants.{GetVersion, GetInfo, GetIdentity, GetUsers, PostUsers, GetUser, PostUser, PatchUser, DeleteUser, PostActivity, PostServer, DeleteServer, GetTokens, PostToken, GetToken, DeleteToken, GetShares, AcceptCode, PostShare, PatchShare, DeleteShares, GetCodes, PostCode, DeleteCodes, GetGroups, GetGroup, PostGroup, DeleteGroup, JoinGroup, LeaveGroup, GetServices, GetService, PostService, DeleteService, GetRoles, GetRole, PutRole, DeleteRole, GetAuthorize, PostTrade}
+use Rattle.hub_machine.specs.declared.call.Call.TheVariants.{GetVersion, GetInfo, GetIdentity, GetUsers, PostUsers, GetUser, PostUser, PatchUser, DeleteUser, PostActivity, PostServer, DeleteServer, GetTokens, PostToken, GetToken, DeleteToken, GetShares, AcceptCode, PostShare, PatchShare, DeleteShares, GetCodes, PostCode, DeleteCodes, GetGroups, GetGroup, PostGroup, DeleteGroup, JoinGroup, LeaveGroup, GetServices, GetService, PostService, DeleteService, GetRoles, GetRole, PutRole, DeleteRole, GetAuthorize, PostTrade, GetProxy, PostProxy}
 
 -- shares that a user received, those that a user gave, and those of a server
 abbrev pub needs_shares : SharesOf → Need
@@ -84,6 +84,8 @@ needs (PutRole role scopes users groups services) = On A.AdminRoles Ob.Hub
 needs (DeleteRole role) = On A.AdminRoles Ob.Hub
 needs (GetAuthorize ask) = needs_client (whose_client ask.client_id)
 needs (PostTrade ask) = GoodToken
+needs GetProxy = On A.Proxy Ob.Hub
+needs PostProxy = On A.Proxy Ob.Hub
 
 -- the version needs no token, and a trade is asked by a client, who shows its secret
 abbrev pub needs_token : Call → Bool

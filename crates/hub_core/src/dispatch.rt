@@ -12,6 +12,7 @@ use access_calls::token_calls::{delete_token, get_token, get_tokens, post_token}
 use hub_calls::group_calls::{
     delete_group, get_group, get_groups, join_group, leave_group, post_group,
 };
+use hub_calls::proxy_calls::leave;
 use hub_calls::role_calls::{delete_role, get_role, get_roles, put_role, role_of};
 use hub_calls::server_calls::post_activity;
 use hub_calls::service_calls::{delete_service, get_service, get_services, post_service};
@@ -147,6 +148,7 @@ pub(crate) fn row(
         Call::DeleteRole { role } => delete_role(alloc, hub, role),
         Call::GetAuthorize { ask } => get_authorize(alloc, hub, now, draw, &token.owner, ask),
         Call::PostTrade { ask } => post_trade(alloc, hub, now, draw, ask),
+        Call::GetProxy | Call::PostProxy => Ok(leave()),
     }
 }
 

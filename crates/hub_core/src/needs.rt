@@ -84,6 +84,7 @@ pub(crate) fn needs(call: &Call) -> Need
         | Call::GetRole { .. }
         | Call::PutRole { .. }
         | Call::DeleteRole { .. } => { Need::On(Action::AdminRoles, Object::Hub) }
+        Call::GetProxy | Call::PostProxy => Need::On(Action::Proxy, Object::Hub),
     }
 }
 

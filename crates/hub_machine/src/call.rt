@@ -196,6 +196,10 @@ pub enum Call {
     PostTrade {
         ask: TradeAsk,
     },
+    /// `GET /proxy`: the routes of the proxy, which are asked for once the visit is over.
+    GetProxy,
+    /// `POST /proxy`: the routes are brought into step, once the visit is over.
+    PostProxy,
 }
 
 /// A call with the token that it brings, and the length of the history that its caller has seen, where it names one.

@@ -17,13 +17,12 @@ use Rattle.server_work.specs.Chains.{At, Chain, ChainEnds}
 use Rattle.hub_core.specs.LifeBook.{LeadsToLives, Notes}
 use Rattle.hub_core.specs.Visits.{Entry, Standing, VisitedAt, entries_of}
 use Rattle.hub_core.specs.declared.start.Start.{Start}
-use Rattle.hub_machine.specs.Answers.{outcome_view, reply_view}
+use Rattle.hub_machine.specs.Answers.{outcome_view}
 use Rattle.hub_machine.specs.Draws.{draws}
 use Rattle.hub_machine.specs.Replies.{Reply, answered}
 use Rattle.hub_machine.specs.declared.call.Asked.{Asked}
 use Rattle.hub_machine.specs.declared.reply.Outcome.{Outcome}
 use Rattle.hub_machine.specs.declared.reply.Outcome.TheVariants as given
-use Rattle.hub_machine.specs.declared.reply.Reply as replies
 use Rattle.hub_machine.specs.declared.work.Work as owed
 use Rattle.hub_api.specs.Calls.{call_read}
 use Rattle.hub_api.specs.Refusals.{api_refusal, no_draw}
@@ -31,6 +30,7 @@ use Rattle.hub_api.specs.declared.refusal.ApiRefusal.{ApiRefusal}
 use Rattle.reply_texts.specs.ReplyText.{reply_text, no_memory}
 use Rattle.hub_run.specs.Turns.{Turn, visited, worked, declined, undrawn, refused, unsaid, unfinished, wanting, View, Visit, Errand, Visits, Drew, IsDrawn, IsGiven, IsSent, IsUndrawn, IsCounted, Drives, Moves, TurnAt, IsLeft, closes, turn_text, refusal_text}
 use Rattle.hub_run.specs.Steps.{Asks, Says, SaysTale, Made, Refuses, StopsAt, TurnEnds}
+use Rattle.hub_run.specs.Routed.{lets}
 use Rattle.hub_run.specs.Works.{errand_of, path_for}
 use Rattle.hub_run.specs.declared.visit.Unanswered.{Unanswered}
 use Rattle.hub_run.specs.declared.visit.Unanswered.TheVariants as missed
@@ -65,27 +65,18 @@ made_unsaid start x y request text asked v last said closed is read drawn visits
 as_wished : (r : Reply) (close wished : Bool) (said : List ℕ) (closed : Bool) → close ≡ wished → Says r close said closed → Says r wished said closed
 as_wished r close wished said closed is says = subst (λ (c : Bool). Says r c said closed) is says
 
-replied : (start : Start) (x y : View) (request : Request) (text : List ℕ) (asked : Asked) (o : Outcome) (v : Visit) (r : Reply) (last : Bool) (said : List ℕ) (closed : Bool)
-    → IsRequestText request text → call_read request ≡ Ok asked → outcome_view o ≡ answered r → IsDrawn v asked → Visits x v y → IsGiven start v asked o
+pub replied : (start : Start) (x y : View) (request : Request) (text : List ℕ) (asked : Asked) (o : Outcome) (v : Visit) (r : Reply) (last : Bool) (said : List ℕ) (closed : Bool)
+    → IsRequestText request text → call_read request ≡ Ok asked → outcome_view o ≡ answered r → lets asked.call r ≡ None → IsDrawn v asked → Visits x v y → IsGiven start v asked o
     → Says r (request.close || last) said closed → Made start x y text last said closed
-replied start x y request text asked o v r last said closed is read view drawn visits gave (inl (text_is, closed_is)) = (
+replied start x y request text asked o v r last said closed is read view final drawn visits gave (inl (text_is, closed_is)) = (
   visited text request v r,
-  (λ left rest. ((is, record { asked = asked; outcome = o; read = read; drawn = drawn; given = gave; said = view }), refl)),
+  (λ left rest. ((is, record { asked = asked; outcome = o; read = read; drawn = drawn; given = gave; said = view; final = final }), refl)),
   visits,
   closed_is,
   text_is ∙ ap (λ c. reply_text r c) (sym closed_is),
 )
-replied start x y request text asked o v r last said closed is read view drawn visits gave (inr (text_is, closed_is)) =
+replied start x y request text asked o v r last said closed is read view final drawn visits gave (inr (text_is, closed_is)) =
     made_unsaid start x y request text asked v last said closed is read drawn visits (inr (o, gave)) text_is closed_is
-
--- the visit gave a reply
-pub made_visited : (start : Start) (x y : View) (request : Request) (text : List ℕ) (asked : Asked) (o : Outcome) (r : replies.Reply)
-    (close last : Bool) (said : List ℕ) (closed : Bool)
-    → IsRequestText request text → call_read request ≡ Ok asked → close ≡ (request.close || last) → o ≡ given.Answer r → Asks start x y asked (Ok o)
-    → Says (reply_view r) close said closed → Made start x y text last said closed
-made_visited start x y request text asked o r close last said closed is read close_is o_is asks says =
-    replied start x y request text asked o asks.0 (reply_view r) last said closed is read (ap outcome_view o_is) asks.2 asks.1 asks.3
-    (as_wished (reply_view r) close (request.close || last) said closed close_is says)
 
 -- no memory for the visit
 pub made_unvisited : (start : Start) (x y : View) (request : Request) (text : List ℕ) (asked : Asked) (u : Unanswered) (last : Bool) (said : List ℕ) (closed : Bool)

@@ -21,9 +21,12 @@ use Rattle.hub_machine.specs.declared.reply.Outcome.{Outcome}
 use Rattle.hub_machine.specs.declared.call.Asked.{Asked}
 use Rattle.hub_machine.specs.declared.refusal.Refusal.TheVariants.{KeeperFault}
 use Rattle.hub_machine.specs.declared.work.Work as owed
-use Rattle.hub_run.specs.Complete.{IsOf, IsDue, IsDone, IsUndone, IsSetOut, IsServed, is_work}
-use Rattle.hub_run.specs.Turns.{Turn, View, Visit, Visits, Errand, visited, worked, declined, undrawn, refused, unsaid, unfinished, wanting, TurnAt, IsDrawn, IsGiven, IsAnswered, IsSent, IsWorked, Moves, Turns}
+use Rattle.hub_run.specs.Complete.{IsOf, IsDue, IsDone, IsUndone, IsSetOut, IsServed, IsLetOn, is_work}
+use Rattle.hub_run.specs.Turns.{Turn, View, Visit, Visits, Errand, visited, worked, declined, undrawn, refused, unsaid, unfinished, wanting, routed, unrouted, TurnAt, IsLet, IsRouted, IsDrawn, IsGiven, IsAnswered, IsSent, IsWorked, Moves, Turns}
+use Rattle.hub_run.specs.Routed.{Asking, IsSaidOf, lets}
+use Rattle.hub_run.specs.declared.routed.Way.{Way}
 use Rattle.hub_run.proofs.CountLemmas.{between, never_risen}
+use Rattle.hub_run.proofs.RoutedLemmas.{keeper_stops}
 
 -- what the wire knows: one thing stands next
 abbrev pub NextIsOne : Type 0
@@ -87,6 +90,10 @@ its_turn one start left text more rest request (refused e) is at =
 its_turn one start left text more rest request (unsaid text' q v) is at =
     same_request q request (one (text ++ more) (Ok q) (Ok request) (text', rest, at.0, at.2) (text, more, is, refl))
 its_turn one start left text more rest request (unfinished text' q v e) is at =
+    same_request q request (one (text ++ more) (Ok q) (Ok request) (text', rest, at.0, at.2) (text, more, is, refl))
+its_turn one start left text more rest request (routed text' q v a r) is at =
+    same_request q request (one (text ++ more) (Ok q) (Ok request) (text', rest, at.0.0, at.1) (text, more, is, refl))
+its_turn one start left text more rest request (unrouted text' q v a) is at =
     same_request q request (one (text ++ more) (Ok q) (Ok request) (text', rest, at.0, at.2) (text, more, is, refl))
 its_turn one start left text more rest request wanting is at = _
 
@@ -158,6 +165,24 @@ its_work states answers start request v e a tells h due =
     let found = given_work states answers start request v h.asked h.outcome h.work a tells h.read h.gives h.given due in
     record { asked = h.asked; read = h.read; work = h.work; entry = found.0; gives = found.1; first = h.first; errand = h.errand }
 
+-- the reply that let a call go on is that of the answer that is due
+given_leave : StateIsOne → AnswerIsOne → (start : Start) (request : Request) (v : Visit) (call : Asked) (o : Outcome) (r : Reply) (way : Way) (a : Answer) → start.tells ≡ true
+    → call_read request ≡ Ok call → outcome_view o ≡ answered r → lets call.call r ≡ Some way → IsGiven start v call o → IsDue start request v a
+    → (v.after ≡ with_entry start.tells (change_of a) v.before) × (answered r ≡ outcome_of (length v.after) a)
+given_leave states answers start request v call o r way a tells read viewed goes (inl at) due =
+    let is = due_answer states answers start request v at.state call at.answer a tells at.reached at.answers read due in (
+      at.noted ∙ ap (λ (b : Answer). with_entry start.tells (change_of b) v.before) is,
+      sym viewed ∙ (at.outcome ∙ ap (λ (b : Answer). outcome_of (length v.after) b) is),
+    )
+given_leave states answers start request v call o r way a tells read viewed goes (inr at) due =
+    absurd (keeper_stops call.call (length v.after) r way (same_reply r (refusal_reply (length v.after) KeeperFault) (sym viewed ∙ at.outcome)) goes)
+
+pub its_leave : StateIsOne → AnswerIsOne → (start : Start) (request : Request) (v : Visit) (asking : Asking) (a : Answer) → start.tells ≡ true
+    → (h : IsLet start request v asking) → IsDue start request v a → (let_on : IsLetOn start request v asking a) × (let_on.gave ≡ h.gave)
+its_leave states answers start request v asking a tells h due =
+    let found = given_leave states answers start request v h.asked h.outcome h.gave h.way a tells h.read h.said h.goes h.given due in
+    (record { asked = h.asked; read = h.read; entry = found.0; gave = h.gave; gives = found.1; way = h.way; goes = h.goes; asks = h.asks }, refl)
+
 -- ---- a connection without faults
 
 pub its_reply : NextIsOne → StateIsOne → AnswerIsOne → (start : Start) (x y : View) (before after : List Turn) (turn : Turn) (left : Option (List ℕ))
@@ -174,6 +199,14 @@ its_reply one states answers start x y before after (worked text' q v e r) left 
     let mine : q ≡ request = its_turn one start left text more rest request (worked text' q v e r) is at in
     let done : IsWorked start request v e r = subst (λ (p : Request). IsWorked start p v e r) mine at.0.1 in
     (mine, λ a due. record { set_out = its_work states answers start request v e a tells done.sent due; tale = done.tale; told = done.told; reply = done.reply })
+its_reply one states answers start x y before after (routed text' q v asking r) left text more rest request tells turns same below is at =
+    let mine : q ≡ request = its_turn one start left text more rest request (routed text' q v asking r) is at in
+    let done : IsRouted start request v asking r = subst (λ (p : Request). IsRouted start p v asking r) mine at.0.1 in (
+      mine,
+      λ a due.
+          let found = its_leave states answers start request v asking a tells done.let_by due in
+          record { let_on = found.0; reply = subst (λ (g : Reply). IsSaidOf g asking r) (sym found.1) done.reply },
+    )
 its_reply one states answers start x y before after (declined text' q e) left text more rest request tells turns same below is at =
     let mine : q ≡ request = its_turn one start left text more rest request (declined text' q e) is at in
     (mine, subst (λ (p : Request). call_read p ≡ Err e) mine at.0.1)
@@ -186,6 +219,9 @@ its_reply one states answers start x y before after (unsaid text' q v) left text
 its_reply one states answers start x y before after (unfinished text' q v e) left text more rest request tells turns same below is at =
     let mine : q ≡ request = its_turn one start left text more rest request (unfinished text' q v e) is at in
     (mine, λ a due. its_work states answers start request v e a tells (subst (λ (p : Request). IsSent start p v e) mine at.1) due)
+its_reply one states answers start x y before after (unrouted text' q v asking) left text more rest request tells turns same below is at =
+    let mine : q ≡ request = its_turn one start left text more rest request (unrouted text' q v asking) is at in
+    (mine, λ a due. (its_leave states answers start request v asking a tells (subst (λ (p : Request). IsLet start p v asking) mine at.1) due).0)
 its_reply one states answers start x y before after wanting left text more rest request tells turns same below is at = _
 
 -- ---- a 503
@@ -210,10 +246,12 @@ counted start x y request v r h visits is below = given_503 start x y v h.asked 
 pub no_calls : (x y : View) (t : Turn) → Moves x t y → is_work t ≡ false → (y.spawner ≡ x.spawner) × (y.routes ≡ x.routes)
 no_calls x y (visited text q v r) moves is = (moves.spawner, moves.routes)
 no_calls x y (worked text q v e r) moves is = absurd (cc is)
+no_calls x y (routed text q v a r) moves is = absurd (cc is)
 no_calls x y (declined text q e) moves is = (ap (λ (z : View). z.spawner) moves, ap (λ (z : View). z.routes) moves)
 no_calls x y (undrawn text q) moves is = (moves.spawner, moves.routes)
 no_calls x y (refused e) moves is = (ap (λ (z : View). z.spawner) moves, ap (λ (z : View). z.routes) moves)
 no_calls x y (unsaid text q v) moves is = (moves.spawner, moves.routes)
 no_calls x y (unfinished text q v e) moves is = absurd (cc is)
+no_calls x y (unrouted text q v a) moves is = absurd (cc is)
 no_calls x y wanting (inl moves) is = (ap (λ (z : View). z.spawner) moves, ap (λ (z : View). z.routes) moves)
 no_calls x y wanting (inr moves) is = (moves.spawner, moves.routes)

@@ -12,7 +12,8 @@ use Rattle.hub_devices.specs.Faults.{Rises}
 use Rattle.hub_machine.specs.Replies.{Reply}
 use Rattle.hub_run.specs.Connections.{ConnectionEnds}
 use Rattle.server_work.proofs.Gaining.{chain_gains}
-use Rattle.hub_run.specs.Turns.{Turn, View, Visit, Errand, Visits, Drives, IsUndrawn, at_chain, visited, worked, declined, undrawn, refused, unsaid, unfinished, wanting, Moves, Turns}
+use Rattle.hub_run.specs.Routed.{Asking}
+use Rattle.hub_run.specs.Turns.{AsksLink, routed, unrouted, Turn, View, Visit, Errand, Visits, Drives, IsUndrawn, at_chain, visited, worked, declined, undrawn, refused, unsaid, unfinished, wanting, Moves, Turns}
 use Rattle.hub_run.specs.declared.served.Served.{Served}
 use Rattle.hub_run.specs.declared.served.Served.TheVariants.{Ended, Cut, Closed}
 
@@ -39,6 +40,10 @@ drive_grows x y e drives =
     let gains = chain_gains LeadsToLives Notes e.work (at_chain x) (at_chain y) e.owed e.chain e.tale drives.chain in
     record { faults = gains.counted; failed = omega (arith, gains.failed) }
 
+-- the route link adds to no count of the pass
+link_grows : (x y : View) (a : Asking) → AsksLink x a y → Grows x y
+link_grows x y a asks = record { faults = asks.comes.1; failed = omega (arith, asks.failed) }
+
 undrawn_grows : (x y : View) → IsUndrawn x y → Grows x y
 undrawn_grows x y moves = record {
   faults = subst (λ (p : PassState Entry Start). x.pass.faults ≤ p.faults) (sym moves.pass) (omega arith);
@@ -48,11 +53,13 @@ undrawn_grows x y moves = record {
 turn_grows : (x y : View) (t : Turn) → Moves x t y → Grows x y
 turn_grows x y (visited text q v r) moves = visit_grows x y v moves
 turn_grows x y (worked text q v e r) moves = grows_then x moves.0 y (visit_grows x moves.0 v moves.1) (drive_grows moves.0 y e moves.2)
+turn_grows x y (routed text q v a r) moves = grows_then x moves.0 y (visit_grows x moves.0 v moves.1) (link_grows moves.0 y a moves.2)
 turn_grows x y (declined text q e) moves = grows_same x y moves
 turn_grows x y (undrawn text q) moves = undrawn_grows x y moves
 turn_grows x y (refused e) moves = grows_same x y moves
 turn_grows x y (unsaid text q v) moves = visit_grows x y v moves
 turn_grows x y (unfinished text q v e) moves = grows_then x moves.0 y (visit_grows x moves.0 v moves.1) (drive_grows moves.0 y e moves.2)
+turn_grows x y (unrouted text q v a) moves = grows_then x moves.0 y (visit_grows x moves.0 v moves.1) (link_grows moves.0 y a moves.2)
 turn_grows x y wanting (inl same) = grows_same x y same
 turn_grows x y wanting (inr moves) = undrawn_grows x y moves
 

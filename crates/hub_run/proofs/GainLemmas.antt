@@ -1,6 +1,7 @@
 -- What turns gain, one after the other.
 use Rattle.std.proofs.Common.{◌≡◌, ◌≤◌, ◌+◌, ℕ, Bool, true, false, ltb, if◌then◌else◌, List, [], ◌∷◌, ◌++◌, length, drop, map, Option, inl, inr, refl, sym, ap, ◌∙◌, subst, arith}
 use Rattle.std.proofs.lemmas.Bool.{ltb-false}
+use Rattle.std.proofs.lemmas.List.{append-nil}
 use mathlib.Core.List.{IsPrefix}
 use Rattle.desk.proofs.Prefixes.{prefix_trans}
 use Rattle.desk.specs.OwnEntries.{placed, added}
@@ -13,9 +14,11 @@ use Rattle.hub_devices.specs.Calls.{Grows}
 use Rattle.hub_devices.specs.declared.calls.Routing.{Routing}
 use Rattle.hub_devices.specs.declared.calls.Spawning.{Spawning}
 use Rattle.hub_devices.specs.declared.calls.Told.{Told}
-use Rattle.hub_run.specs.Gained.{visit_gain, errand_gain, turn_gain}
-use Rattle.hub_run.specs.Turns.{Turn, View, Visit, Errand, Visits, Drives, Works, IsUndrawn, at_chain, visited, worked, declined, undrawn, refused, unsaid, unfinished, wanting, Moves, Turns}
+use Rattle.hub_run.specs.Gained.{visit_gain, errand_gain, asking_gain, turn_gain}
+use Rattle.hub_run.specs.Routed.{Asking}
+use Rattle.hub_run.specs.Turns.{Turn, View, Visit, Errand, Visits, Drives, Works, AsksLink, Routes, IsUndrawn, at_chain, visited, worked, routed, declined, undrawn, refused, unsaid, unfinished, unrouted, wanting, Moves, Turns}
 use Rattle.server_work.proofs.Gaining.{gains_none, gains_then, chain_gains}
+use Rattle.server_work.specs.Chains.{Sight}
 use Rattle.server_work.specs.Gains.{Gain, Gains, no_gain, plus, sum_of, without_place}
 
 unplaced : (n : ℕ) (xs : List Entry) → map without_place (placed n xs) ≡ xs
@@ -53,6 +56,23 @@ works_gain x y v e works =
     gains_then (at_chain x) (at_chain works.0) (at_chain y) (visit_gain v) (errand_gain e) (visit_gains x works.0 v works.1)
     (chain_gains LeadsToLives Notes e.work (at_chain works.0) (at_chain y) e.owed e.chain e.tale works.2.chain)
 
+link_gains : (x y : View) (a : Asking) → AsksLink x a y → Gains (at_chain x) (asking_gain a) (at_chain y)
+link_gains x y a asks = record {
+  same = asks.same;
+  begins = asks.comes.0;
+  counted = asks.comes.1;
+  alone = λ one. ap (λ (h : Sight Entry). h.entries) (asks.comes.2 one) ∙ sym (append-nil x.pass.seen);
+  still = λ one none. ap (λ (h : Sight Entry). h.faults) (asks.comes.2 one);
+  mine = asks.mine ∙ sym (append-nil x.pass.mine);
+  failed = omega (arith, asks.failed);
+  spawner = subst (λ (calls : Option (List (Spawning × Told))). Grows x.spawner [] calls) (sym asks.spawner) (Grows_none x.spawner);
+  routes = asks.routes;
+}
+
+routes_gain : (x y : View) (v : Visit) (a : Asking) → Routes x v a y → Gains (at_chain x) (plus (visit_gain v) (asking_gain a)) (at_chain y)
+routes_gain x y v a routes =
+    gains_then (at_chain x) (at_chain routes.0) (at_chain y) (visit_gain v) (asking_gain a) (visit_gains x routes.0 v routes.1) (link_gains routes.0 y a routes.2)
+
 still_gains : (x y : View) → y ≡ x → Gains (at_chain x) no_gain (at_chain y)
 still_gains x y same = subst (λ (z : View). Gains (at_chain x) no_gain (at_chain z)) (sym same) (gains_none (at_chain x))
 
@@ -65,11 +85,13 @@ undrawn_gains x y none =
 pub turn_gains : (x y : View) (t : Turn) → Moves x t y → Gains (at_chain x) (turn_gain t) (at_chain y)
 turn_gains x y (visited text q v r) moves = visit_gains x y v moves
 turn_gains x y (worked text q v e r) moves = works_gain x y v e moves
+turn_gains x y (routed text q v a r) moves = routes_gain x y v a moves
 turn_gains x y (declined text q e) moves = still_gains x y moves
 turn_gains x y (undrawn text q) moves = undrawn_gains x y moves
 turn_gains x y (refused e) moves = still_gains x y moves
 turn_gains x y (unsaid text q v) moves = visit_gains x y v moves
 turn_gains x y (unfinished text q v e) moves = works_gain x y v e moves
+turn_gains x y (unrouted text q v a) moves = routes_gain x y v a moves
 turn_gains x y wanting (inl same) = still_gains x y same
 turn_gains x y wanting (inr moves) = undrawn_gains x y moves
 

@@ -6,5 +6,6 @@ pub mod FaultLemmas
 pub mod GainLemmas
 pub mod RanLemmas
 pub mod RemovedLemmas
+mod RoutedLemmas
 pub mod StopLemmas
 pub mod TurnsLemmas

@@ -7,7 +7,7 @@ use Rattle.hub_devices.specs.Streams.{Appends}
 use Rattle.hub_devices.proofs.StreamLemmas.{Takes_none, Takes_then, Appends_none, Appends_then}
 use Rattle.http_wire.specs.Took.{Took}
 use Rattle.hub_core.specs.declared.start.Start.{Start}
-use Rattle.hub_run.specs.Turns.{Turn, visited, worked, declined, undrawn, refused, unsaid, unfinished, wanting, TurnAt, closes, turn_text, request_bytes}
+use Rattle.hub_run.specs.Turns.{Turn, visited, worked, declined, undrawn, refused, unsaid, unfinished, wanting, routed, unrouted, TurnAt, closes, turn_text, request_bytes}
 use Rattle.hub_run.specs.Connections.{Ran, IsOpenTurn}
 
 abbrev pub open_text : Turn → List ℕ
@@ -92,6 +92,11 @@ Ran_turn start left held left' held' turns ahead rest (worked text q v e r) clos
     Ran_next start left held left' held' turns ahead rest t
     (subst (λ (c : Bool). Ran start left held left' held' turns ahead (turn_text t c)) goes ran)
     (at.0, not_first (closes t) last (sym is ∙ goes)) at.1
+Ran_turn start left held left' held' turns ahead rest (routed text q v a r) close last ran at is goes =
+    let t : Turn = routed text q v a r in
+    Ran_next start left held left' held' turns ahead rest t
+    (subst (λ (c : Bool). Ran start left held left' held' turns ahead (turn_text t c)) goes ran)
+    (at.0, not_first (closes t) last (sym is ∙ goes)) at.1
 Ran_turn start left held left' held' turns ahead rest (declined text q e) close last ran at is goes =
     let t : Turn = declined text q e in
     Ran_next start left held left' held' turns ahead rest t
@@ -105,6 +110,7 @@ Ran_turn start left held left' held' turns ahead rest (undrawn text q) close las
 Ran_turn start left held left' held' turns ahead rest (refused e) close last ran at is goes = absurd (cc)
 Ran_turn start left held left' held' turns ahead rest (unsaid text q v) close last ran at is goes = absurd (cc)
 Ran_turn start left held left' held' turns ahead rest (unfinished text q v e) close last ran at is goes = absurd (cc)
+Ran_turn start left held left' held' turns ahead rest (unrouted text q v a) close last ran at is goes = absurd (cc)
 Ran_turn start left held left' held' turns ahead rest wanting close last ran at is goes = absurd (cc)
 
 -- what came and what was written in one turn, or a part of it

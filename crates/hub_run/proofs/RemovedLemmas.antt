@@ -29,7 +29,9 @@ use Rattle.hub_machine.specs.declared.refusal.Refusal.TheVariants.{NoValidToken,
 use Rattle.hub_machine.specs.declared.reply.Outcome.{Outcome}
 use Rattle.hub_machine.specs.declared.work.Work as owed
 use Rattle.hub_run.specs.Removed.{Knows, StandsIn, IsTokenRefusal, IsTurnedAway}
-use Rattle.hub_run.specs.Turns.{Turn, View, Visit, Visits, Errand, visited, worked, declined, undrawn, refused, unsaid, unfinished, wanting, TurnAt, IsGiven, IsAnswered, IsSent, IsUnsaid, IsLeft, Moves}
+use Rattle.hub_run.specs.Turns.{Turn, View, Visit, Visits, Errand, visited, worked, declined, undrawn, refused, unsaid, unfinished, wanting, routed, unrouted, TurnAt, IsLet, IsGiven, IsAnswered, IsSent, IsUnsaid, IsLeft, Moves}
+use Rattle.hub_run.specs.Routed.{Asking, lets}
+use Rattle.hub_run.specs.declared.routed.Way.{Way}
 use Rattle.hub_run.proofs.CompleteLemmas.{NextIsOne, its_turn}
 
 same_asked : (a b : Asked) (e : Result Asked ApiRefusal) → e ≡ Ok a → e ≡ Ok b → a ≡ b
@@ -40,6 +42,14 @@ same_reply a b e = cc
 
 no_work : (w : owed.Work) (r : Reply) → working w ≡ answered r → ⊥
 no_work w r e = cc
+
+none_way : (way : Way) → None ≡ Some way → ⊥
+none_way way e = cc
+
+-- a refusal of the token lets no call go on
+no_way : (asked : Asked) (n : ℕ) (call : Asked) (r : Reply) (way : Way) → IsTokenRefusal asked n r → lets call.call r ≡ Some way → ⊥
+no_way asked n call r way (inl e) goes = none_way way (sym (ap (lets call.call) e) ∙ goes)
+no_way asked n call r way (inr e) goes = none_way way (sym (ap (lets call.call) e) ∙ goes)
 
 none_some : (c : Change) → None ≡ Some c → ⊥
 none_some c e = cc
@@ -135,6 +145,9 @@ module _ (start : Start) (text : List ℕ) (gone later : List Change) (removed :
     no_errand : (o : Outcome) (w : owed.Work) → outcome_view o ≡ working w → TurnedAway o → ⊥
     no_errand o w gives away = no_work w away.1 (sym gives ∙ away.2)
 
+    no_leave : (o : Outcome) (r : Reply) (call : Asked) (way : Way) → outcome_view o ≡ answered r → lets call.call r ≡ Some way → TurnedAway o → ⊥
+    no_leave o r call way said goes away = no_way asked (length v.after) call r way (told_reply o r said away).1 goes
+
     left_so : IsLeft start v asked → v.after ≡ v.before
     left_so (inl same) = same
     left_so (inr gave) = (given gave.0 gave.1).0
@@ -154,6 +167,12 @@ module _ (one : NextIsOne) (start : Start) (x y : View) (left : Option (List ℕ
       (given start text gone later removed x v asked tells begins knows within token needed sent.outcome
       (subst (λ (c : Asked). IsGiven start v c sent.outcome) (its_call q sent.asked mine sent.read) sent.given))
 
+  let_away : (q : Request) (v : Visit) (a : Asking) → q ≡ request → IsLet start q v a → IsPrefix x.pass.seen v.before → IsPrefix v.before (map Some (gone ++ later)) → ⊥
+  let_away q v a mine h begins within =
+      no_leave start text gone later removed x v asked tells begins knows within token needed h.outcome h.gave h.asked h.way h.said h.goes
+      (given start text gone later removed x v asked tells begins knows within token needed h.outcome
+      (subst (λ (c : Asked). IsGiven start v c h.outcome) (its_call q h.asked mine h.read) h.given))
+
   pub turned_away : (turn : Turn) → TurnAt start left (bytes ++ more) turn rest → Moves x turn y → StandsIn (gone ++ later) turn → IsTurnedAway asked turn
   turned_away (visited t q v r) at moves within =
       let mine : q ≡ request = its_turn one start left bytes more rest request (visited t q v r) is at in
@@ -163,6 +182,8 @@ module _ (one : NextIsOne) (start : Start) (x y : View) (left : Option (List ℕ
       (subst (λ (c : Asked). IsGiven start v c h.outcome) (its_call q h.asked mine h.read) h.given))
   turned_away (worked t q v e r) at moves within =
       sent_away q v e (its_turn one start left bytes more rest request (worked t q v e r) is at) at.0.1.sent moves.1.begins within
+  turned_away (routed t q v a r) at moves within =
+      let_away q v a (its_turn one start left bytes more rest request (routed t q v a r) is at) at.0.1.let_by moves.1.begins within
   turned_away (declined t q e) at moves within = tt
   turned_away (undrawn t q) at moves within = tt
   turned_away (refused e) at moves within = tt
@@ -173,4 +194,6 @@ module _ (one : NextIsOne) (start : Start) (x y : View) (left : Option (List ℕ
       (subst (λ (c : Asked). IsLeft start v c) (its_call q h.asked mine h.read) h.left)
   turned_away (unfinished t q v e) at moves within =
       sent_away q v e (its_turn one start left bytes more rest request (unfinished t q v e) is at) at.1 moves.1.begins within
+  turned_away (unrouted t q v a) at moves within =
+      let_away q v a (its_turn one start left bytes more rest request (unrouted t q v a) is at) at.1 moves.1.begins within
   turned_away wanting at moves within = tt

@@ -15,17 +15,21 @@ use Rattle.hub_machine.specs.declared.refusal.Refusal.TheVariants.{KeeperFault, 
 use Rattle.hub_machine.specs.declared.work.Work as owed
 use Rattle.server_work.specs.declared.tale.Tale.{Tale}
 use Rattle.hub_run.specs.Works.{errand_of, path_for, tale_reply}
-use Rattle.hub_run.specs.Turns.{Turn, Visit, Errand, View, visited, worked, declined, undrawn, refused, unsaid, unfinished, wanting}
+use Rattle.hub_run.specs.Turns.{Turn, Visit, Errand, View, visited, worked, declined, undrawn, refused, unsaid, unfinished, wanting, routed, unrouted}
+use Rattle.hub_run.specs.declared.routed.Way.{Way}
+use Rattle.hub_run.specs.Routed.{Asking, IsAskingOf, IsSaidOf, lets}
 
 -- the turn is of this request, or a 507 before any visit
 abbrev pub IsOf : Request → Turn → Type 0
 IsOf request (visited text q v r) = q ≡ request
 IsOf request (worked text q v e r) = q ≡ request
+IsOf request (routed text q v a r) = q ≡ request
 IsOf request (declined text q e) = q ≡ request
 IsOf request (undrawn text q) = q ≡ request
 IsOf request (refused e) = ⊥
 IsOf request (unsaid text q v) = q ≡ request
 IsOf request (unfinished text q v e) = q ≡ request
+IsOf request (unrouted text q v a) = q ≡ request
 IsOf request wanting = Unit {0}
 
 -- the definition answers the request so, in the state that the entries before the visit left, at its moment and with its draw
@@ -66,16 +70,34 @@ pub record IsWorkDone (start : Start) (request : Request) (v : Visit) (e : Erran
   pub told : e.tale ≡ Some tale
   pub reply : tale_reply e.owed tale ≡ Some r
 
--- the turn gives the request the reply of the definition's answer, or of the chain that this answer owes, the refusal of a request that asks no
--- call, a 503 where no draw came, or a 507
+-- the answer's reply lets the call ask the route link, which was asked so; its change, if it has one, is the entry of the visit
+pub record IsLetOn (start : Start) (request : Request) (v : Visit) (asking : Asking) (a : Answer) : Type 0 where
+  pub asked : Asked
+  pub read : call_read request ≡ Ok asked
+  pub entry : v.after ≡ with_entry start.tells (change_of a) v.before
+  pub gave : Reply
+  pub gives : answered gave ≡ outcome_of (length v.after) a
+  pub way : Way
+  pub goes : lets asked.call gave ≡ Some way
+  pub asks : IsAskingOf way asking
+
+-- and the reply is that of what came
+pub record IsRouteDone (start : Start) (request : Request) (v : Visit) (asking : Asking) (r : Reply) (a : Answer) : Type 0 where
+  pub let_on : IsLetOn start request v asking a
+  pub reply : IsSaidOf let_on.gave asking r
+
+-- the turn gives the request the reply of the definition's answer, or of the chain that this answer owes, or of what the route link told where
+-- this answer lets it be asked, the refusal of a request that asks no call, a 503 where no draw came, or a 507
 abbrev pub IsServed : Start → Request → Turn → Type 0
 IsServed start request (visited text q v r) = (q ≡ request) × ((a : Answer) → IsDue start request v a → IsDone start v r a)
 IsServed start request (worked text q v e r) = (q ≡ request) × ((a : Answer) → IsDue start request v a → IsWorkDone start request v e r a)
+IsServed start request (routed text q v asking r) = (q ≡ request) × ((a : Answer) → IsDue start request v a → IsRouteDone start request v asking r a)
 IsServed start request (declined text q e) = (q ≡ request) × (call_read request ≡ Err e)
 IsServed start request (undrawn text q) = q ≡ request
 IsServed start request (refused e) = ⊥
 IsServed start request (unsaid text q v) = q ≡ request
 IsServed start request (unfinished text q v e) = (q ≡ request) × ((a : Answer) → IsDue start request v a → IsSetOut start request v e a)
+IsServed start request (unrouted text q v asking) = (q ≡ request) × ((a : Answer) → IsDue start request v a → IsLetOn start request v asking a)
 IsServed start request wanting = Unit {0}
 
 -- ---- what a 503 tells
@@ -94,8 +116,10 @@ pub record IsOfFault (x y : View) (r : Reply) : Type 0 where
   pub is : r ≡ refusal_reply revision cause
   pub failed : HasFailed x y cause
 
--- the turn is one of a call whose answer owed work
+-- the turn is one of a call whose answer owed work, or let it ask the route link
 abbrev pub is_work : Turn → Bool
 is_work (worked text q v e r) = true
 is_work (unfinished text q v e) = true
+is_work (routed text q v a r) = true
+is_work (unrouted text q v a) = true
 is_work turn = false

@@ -3,7 +3,8 @@ use Rattle.std.specs.Prelude.{ltb, if◌then◌else◌, []}
 use Rattle.desk.specs.OwnEntries.{added}
 use Rattle.server_work.specs.Gains.{Gain, no_gain, plus, gain_of}
 use Rattle.hub_core.specs.Visits.{Entry}
-use Rattle.hub_run.specs.Turns.{Turn, Visit, Errand, visited, worked, declined, undrawn, refused, unsaid, unfinished, wanting}
+use Rattle.hub_run.specs.Routed.{Asking, told_of}
+use Rattle.hub_run.specs.Turns.{Turn, Visit, Errand, visited, worked, routed, declined, undrawn, refused, unsaid, unfinished, unrouted, wanting}
 
 -- a visit gains the entries that it left beyond those that it found, each with its place, and calls nothing
 abbrev pub visit_gain : Visit → Gain Entry
@@ -18,12 +19,18 @@ visit_gain v = record {
 abbrev pub errand_gain : Errand → Gain Entry
 errand_gain e = gain_of e.work e.chain
 
+-- what the route link was asked gains its calls, and no entry
+abbrev pub asking_gain : Asking → Gain Entry
+asking_gain a = record { entries = []; failed = 0; spawner = []; routes = told_of a }
+
 abbrev pub turn_gain : Turn → Gain Entry
 turn_gain (visited text q v r) = visit_gain v
 turn_gain (worked text q v e r) = plus (visit_gain v) (errand_gain e)
+turn_gain (routed text q v a r) = plus (visit_gain v) (asking_gain a)
 turn_gain (declined text q e) = no_gain
 turn_gain (undrawn text q) = no_gain
 turn_gain (refused e) = no_gain
 turn_gain (unsaid text q v) = visit_gain v
 turn_gain (unfinished text q v e) = plus (visit_gain v) (errand_gain e)
+turn_gain (unrouted text q v a) = plus (visit_gain v) (asking_gain a)
 turn_gain wanting = no_gain

@@ -3,6 +3,7 @@ pub mod Connections
 pub mod Gained
 pub mod Removed
 pub mod Steps
+pub mod Routed
 pub mod Turns
 pub mod Works
 pub mod Written

@@ -6,7 +6,7 @@ use Rattle.hub_machine.specs.Replies.{Reply, refusal_reply}
 use Rattle.hub_machine.specs.declared.call.Asked.{Asked}
 use Rattle.hub_machine.specs.declared.change.Change.{Change}
 use Rattle.hub_machine.specs.declared.refusal.Refusal.TheVariants.{NoValidToken, SeenPast}
-use Rattle.hub_run.specs.Turns.{Turn, View, visited, worked, declined, undrawn, refused, unsaid, unfinished, wanting}
+use Rattle.hub_run.specs.Turns.{Turn, View, visited, worked, declined, undrawn, refused, unsaid, unfinished, wanting, routed, unrouted}
 
 -- the pass has seen these entries, or the call names a revision at which they stand
 abbrev pub Knows : View → Asked → List Change → Type 0
@@ -18,6 +18,8 @@ StandsIn h (visited text q v r) = IsPrefix v.before (map Some h)
 StandsIn h (worked text q v e r) = IsPrefix v.before (map Some h)
 StandsIn h (unsaid text q v) = IsPrefix v.before (map Some h)
 StandsIn h (unfinished text q v e) = IsPrefix v.before (map Some h)
+StandsIn h (routed text q v a r) = IsPrefix v.before (map Some h)
+StandsIn h (unrouted text q v a) = IsPrefix v.before (map Some h)
 StandsIn h turn = Unit {0}
 
 -- 403 `no valid token`, or 412
@@ -30,4 +32,6 @@ IsTurnedAway asked (visited text q v r) = (v.after ≡ v.before) × IsTokenRefus
 IsTurnedAway asked (worked text q v e r) = ⊥
 IsTurnedAway asked (unsaid text q v) = v.after ≡ v.before
 IsTurnedAway asked (unfinished text q v e) = ⊥
+IsTurnedAway asked (routed text q v a r) = ⊥
+IsTurnedAway asked (unrouted text q v a) = ⊥
 IsTurnedAway asked turn = Unit {0}

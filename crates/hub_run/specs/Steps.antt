@@ -15,7 +15,11 @@ use Rattle.hub_run.specs.Works.{tale_reply}
 use Rattle.hub_machine.specs.declared.reply.Outcome.{Outcome}
 use Rattle.hub_api.specs.Refusals.{wire_refusal}
 use Rattle.reply_texts.specs.ReplyText.{reply_text, no_memory}
-use Rattle.hub_run.specs.Turns.{Turn, View, Visit, Visits, IsDrawn, IsGiven, IsUndrawn, Moves, TurnAt, turn_text, closes}
+use Rattle.hub_machine.specs.Answers.{reply_view}
+use Rattle.hub_machine.specs.declared.reply.Reply as replies
+use Rattle.hub_run.specs.Routed.{Asking, IsAskingOf, IsSaidOf}
+use Rattle.hub_run.specs.declared.routed.Way.{Way}
+use Rattle.hub_run.specs.Turns.{AsksLink, Turn, View, Visit, Visits, IsDrawn, IsGiven, IsUndrawn, Moves, TurnAt, turn_text, closes}
 use Rattle.hub_run.specs.declared.visit.Unanswered.{Unanswered}
 use Rattle.hub_run.specs.declared.visit.Unanswered.TheVariants as missed
 use Rattle.hub_run.specs.declared.served.TurnEnd.{TurnEnd}
@@ -24,6 +28,21 @@ use Rattle.hub_run.specs.declared.served.TurnEnd.TheVariants as end
 -- the text is the reply's, and the connection is left as wished; or it is a 507, which closes it
 abbrev pub Says : spec.Reply → Bool → List ℕ → Bool → Type 0
 Says r close text closed = ((text ≡ reply_text r close) × (closed ≡ close)) ⊎ ((text ≡ no_memory) × (closed ≡ true))
+
+-- the reply of what came of the route link is said, or there is a 507; r is the reply of the visit that let it be asked
+abbrev pub SaysAsked : spec.Reply → Asking → Bool → List ℕ → Bool → Type 0
+SaysAsked r a close text closed =
+    ((q : spec.Reply) × IsSaidOf r a q × (text ≡ reply_text q close) × (closed ≡ close)) ⊎ ((text ≡ no_memory) × (closed ≡ true))
+
+-- the reply of a visit is said, or the route link is asked where it lets the call go on, and what came is said
+abbrev pub GoesOn : View → View → Option Way → spec.Reply → Bool → List ℕ → Bool → Type 0
+GoesOn x y None r close text closed = (y ≡ x) × Says r close text closed
+GoesOn x y (Some way) r close text closed = (a : Asking) × IsAskingOf way a × AsksLink x a y × SaysAsked r a close text closed
+
+-- what was made is said, or there is a 507
+abbrev pub SaysMade : {E : Type 0} → Result replies.Reply E → Bool → List ℕ → Bool → Type 0
+SaysMade (Ok r) close text closed = Says (reply_view r) close text closed
+SaysMade (Err e) close text closed = (text ≡ no_memory) × (closed ≡ true)
 
 -- the reply of a chain is said, or there is a 507
 abbrev pub SaysTale : Todo → Option Tale → Bool → List ℕ → Bool → Type 0

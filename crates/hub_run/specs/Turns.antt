@@ -9,6 +9,7 @@ use Rattle.hub_devices.specs.Streams.{Takes}
 use Rattle.hub_devices.specs.declared.calls.Spawning.{Spawning}
 use Rattle.hub_devices.specs.declared.calls.Routing.{Routing}
 use Rattle.hub_devices.specs.declared.calls.Told.{Told}
+use Rattle.hub_devices.specs.Calls.{Grows}
 use Rattle.http_wire.specs.declared.error.WireError.{WireError}
 use Rattle.http_wire.specs.declared.request.Request.{Request}
 use Rattle.http_wire.specs.Request.{IsRequestText}
@@ -18,7 +19,7 @@ use Rattle.server_work.specs.declared.work.Work.{Work}
 use Rattle.server_work.specs.declared.work.Device.{Device}
 use Rattle.server_work.specs.declared.work.Device.TheVariants.{Spawner, Proxy}
 use Rattle.server_work.specs.declared.tale.Tale.{Tale}
-use Rattle.server_work.specs.Chains.{At, Chain, ChainEnds}
+use Rattle.server_work.specs.Chains.{At, Chain, ChainEnds, Comes, sight}
 use Rattle.hub_machine.specs.Draws.{draws}
 use Rattle.hub_machine.specs.Replies.{Reply, answered, working}
 use Rattle.hub_machine.specs.Answers.{outcome_view}
@@ -32,8 +33,10 @@ use Rattle.hub_api.specs.Calls.{call_read}
 use Rattle.hub_api.specs.Refusals.{api_refusal, no_draw, wire_refusal}
 use Rattle.hub_api.specs.declared.refusal.ApiRefusal.{ApiRefusal}
 use Rattle.reply_texts.specs.ReplyText.{reply_text, no_memory}
+use Rattle.hub_run.specs.Routed.{Asking, IsAskingOf, IsPlanned, IsSaidOf, has_failed, lets, told_of}
 use Rattle.hub_run.specs.Works.{errand_of, path_for, tale_reply}
 use Rattle.hub_run.specs.declared.kit.HubKit.{HubKit}
+use Rattle.hub_run.specs.declared.routed.Way.{Way}
 
 -- a visit: its moment and its draw, the entries that it found and those that it left, and the keeper's counts of faults before and after it
 pub record Visit : Type 0 where
@@ -57,6 +60,8 @@ pub data Turn : Type 0 where
   visited : List ℕ → Request → Visit → Reply → Turn
   -- a request with its bytes whose call owed work, which was done, and the reply
   worked : List ℕ → Request → Visit → Errand → Reply → Turn
+  -- a request with its bytes whose call the visit let ask the route link, which was asked, and the reply
+  routed : List ℕ → Request → Visit → Asking → Reply → Turn
   -- a request with its bytes that asks no call
   declined : List ℕ → Request → ApiRefusal → Turn
   -- a request with its bytes whose call draws, for which no draw came
@@ -67,6 +72,8 @@ pub data Turn : Type 0 where
   unsaid : List ℕ → Request → Visit → Turn
   -- a request with its bytes whose call owed work, which broke, or whose end found no memory to be kept, or without memory for the reply
   unfinished : List ℕ → Request → Visit → Errand → Turn
+  -- a request with its bytes whose call the visit let ask the route link, without memory for the list, for what follows of it, or for the reply
+  unrouted : List ℕ → Request → Visit → Asking → Turn
   -- no memory before any visit; a draw may have failed
   wanting : Turn
 
@@ -79,22 +86,26 @@ refusal_text (Some r) close = reply_text r close
 abbrev pub turn_text : Turn → Bool → List ℕ
 turn_text (visited text q v r) close = reply_text r close
 turn_text (worked text q v e r) close = reply_text r close
+turn_text (routed text q v a r) close = reply_text r close
 turn_text (declined text q e) close = reply_text (api_refusal e) close
 turn_text (undrawn text q) close = reply_text no_draw close
 turn_text (refused e) close = refusal_text (wire_refusal e) close
 turn_text (unsaid text q v) close = no_memory
 turn_text (unfinished text q v e) close = no_memory
+turn_text (unrouted text q v a) close = no_memory
 turn_text wanting close = no_memory
 
 -- the connection is closed after it, whatever its place
 abbrev pub closes : Turn → Bool
 closes (visited text q v r) = q.close
 closes (worked text q v e r) = q.close
+closes (routed text q v a r) = q.close
 closes (declined text q e) = q.close
 closes (undrawn text q) = q.close
 closes (refused e) = true
 closes (unsaid text q v) = true
 closes (unfinished text q v e) = true
+closes (unrouted text q v a) = true
 closes wanting = true
 
 -- ---- what is read
@@ -109,7 +120,7 @@ abbrev pub IsGiven : Start → Visit → Asked → Outcome → Type 0
 IsGiven start v asked o =
     AnsweredAt start v.before v.after v.moment v.draw asked o ⊎ FaultedAt start v.before v.after v.faults v.faults_after v.moment v.draw asked o
 
--- the reply says what the visit gave to the call of the request
+-- the reply says what the visit gave to the call of the request, which doesn't go on to the route link
 pub record IsAnswered (start : Start) (q : Request) (v : Visit) (r : Reply) : Type 0 where
   pub asked : Asked
   pub outcome : Outcome
@@ -117,6 +128,7 @@ pub record IsAnswered (start : Start) (q : Request) (v : Visit) (r : Reply) : Ty
   pub drawn : IsDrawn v asked
   pub given : IsGiven start v asked outcome
   pub said : outcome_view outcome ≡ answered r
+  pub final : lets asked.call r ≡ None
 
 -- the visit gave this work to the call of the request, and the errand is that work by the path of the server that the call names
 pub record IsSent (start : Start) (q : Request) (v : Visit) (e : Errand) : Type 0 where
@@ -136,6 +148,24 @@ pub record IsWorked (start : Start) (q : Request) (v : Visit) (e : Errand) (r : 
   pub tale : Tale
   pub told : e.tale ≡ Some tale
   pub reply : tale_reply e.owed tale ≡ Some r
+
+-- the visit let the call of the request ask the route link, which was asked so
+pub record IsLet (start : Start) (q : Request) (v : Visit) (a : Asking) : Type 0 where
+  pub asked : Asked
+  pub outcome : Outcome
+  pub read : call_read q ≡ Ok asked
+  pub drawn : IsDrawn v asked
+  pub given : IsGiven start v asked outcome
+  pub gave : Reply
+  pub said : outcome_view outcome ≡ answered gave
+  pub way : Way
+  pub goes : lets asked.call gave ≡ Some way
+  pub asks : IsAskingOf way a
+
+-- and the reply is that of what came
+pub record IsRouted (start : Start) (q : Request) (v : Visit) (a : Asking) (r : Reply) : Type 0 where
+  pub let_by : IsLet start q v a
+  pub reply : IsSaidOf let_by.gave a r
 
 -- the entries that it left are those that it found, or those of what it gave to that call
 abbrev pub IsLeft : Start → Visit → Asked → Type 0
@@ -158,34 +188,40 @@ pub record Draws (q : Request) : Type 0 where
 abbrev pub request_bytes : Turn → List ℕ
 request_bytes (visited text q v r) = text
 request_bytes (worked text q v e r) = text
+request_bytes (routed text q v a r) = text
 request_bytes (declined text q e) = text
 request_bytes (undrawn text q) = text
 request_bytes (refused e) = []
 request_bytes (unsaid text q v) = text
 request_bytes (unfinished text q v e) = text
+request_bytes (unrouted text q v a) = text
 request_bytes wanting = []
 
 -- a request, with the reply that it has to get
 abbrev pub IsRight : Start → Turn → Type 0
 IsRight start (visited text q v r) = IsRequestText q text × IsAnswered start q v r
 IsRight start (worked text q v e r) = IsRequestText q text × IsWorked start q v e r
+IsRight start (routed text q v a r) = IsRequestText q text × IsRouted start q v a r
 IsRight start (declined text q e) = IsRequestText q text × (call_read q ≡ Err e)
 IsRight start (undrawn text q) = IsRequestText q text × Draws q
 IsRight start (refused e) = ⊥
 IsRight start (unsaid text q v) = ⊥
 IsRight start (unfinished text q v e) = ⊥
+IsRight start (unrouted text q v a) = ⊥
 IsRight start wanting = ⊥
 
 -- the turn stands at the front of the bytes, and the rest goes on; a 507 takes no more than one request
 abbrev pub TurnAt : Start → Option (List ℕ) → List ℕ → Turn → List ℕ → Type 0
 TurnAt start left bytes (visited text q v r) rest = IsRight start (visited text q v r) × (bytes ≡ text ++ rest)
 TurnAt start left bytes (worked text q v e r) rest = IsRight start (worked text q v e r) × (bytes ≡ text ++ rest)
+TurnAt start left bytes (routed text q v a r) rest = IsRight start (routed text q v a r) × (bytes ≡ text ++ rest)
 TurnAt start left bytes (declined text q e) rest = IsRight start (declined text q e) × (bytes ≡ text ++ rest)
 TurnAt start left bytes (undrawn text q) rest = IsRight start (undrawn text q) × (bytes ≡ text ++ rest)
 TurnAt start left bytes (refused e) rest =
     (r : Reply) × (gone : List ℕ) × (wire_refusal e ≡ Some r) × WithinRequest gone × (bytes ≡ gone ++ rest) × RequestRefusedAt left bytes e
 TurnAt start left bytes (unsaid text q v) rest = IsRequestText q text × IsUnsaid start q v × (bytes ≡ text ++ rest)
 TurnAt start left bytes (unfinished text q v e) rest = IsRequestText q text × IsSent start q v e × (bytes ≡ text ++ rest)
+TurnAt start left bytes (unrouted text q v a) rest = IsRequestText q text × IsLet start q v a × (bytes ≡ text ++ rest)
 TurnAt start left bytes wanting rest = (gone : List ℕ) × WithinRequest gone × (bytes ≡ gone ++ rest)
 
 -- ---- what it leaves
@@ -208,12 +244,12 @@ pub record View : Type 0 where
 -- what a connection knows of a pass and a kit of devices, by what these tell
 abbrev pub view_of : {S P C R : Type 0} → (C → Option (ℕ → ℕ)) → (R → Option (List (List ℕ))) → (S → Option (List (Spawning × Told))) → (P → Option (List (Routing × Told)))
     → (R → ℕ) → (S → ℕ) → (P → ℕ) → PassState Entry Start → HubKit S P C R → View
-view_of to_come left spawned routed draw_faults spawn_faults route_faults pass kit = record {
+view_of to_come left spawned linked draw_faults spawn_faults route_faults pass kit = record {
   pass = pass;
   clock = to_come kit.clock;
   draws = left kit.random;
   spawner = spawned kit.spawner;
-  routes = routed kit.routes;
+  routes = linked kit.routes;
   faults = record { random = draw_faults kit.random; spawner = spawn_faults kit.spawner; routes = route_faults kit.routes };
 }
 
@@ -263,6 +299,24 @@ pub record Drives (x : View) (e : Errand) (y : View) : Type 0 where
 abbrev pub Works : View → Visit → Errand → View → Type 0
 Works x v e y = (z : View) × Visits x v z × Drives z e y
 
+-- the route link was asked from the view x on. There is no entry, and no other device is asked
+pub record AsksLink (x : View) (a : Asking) (y : View) : Type 0 where
+  pub same : IsSamePass x.pass y.pass
+  pub mine : y.pass.mine ≡ x.pass.mine
+  pub failed : y.pass.failed ≡ x.pass.failed
+  pub comes : Comes x.pass.alone (sight x.pass) (sight y.pass)
+  pub planned : (start : Start) → x.pass.base ≡ Some start → IsPlanned start y.pass.seen a
+  pub clock : y.clock ≡ x.clock
+  pub draws : y.draws ≡ x.draws
+  pub spawner : y.spawner ≡ x.spawner
+  pub routes : Grows x.routes (told_of a) y.routes
+  pub others : (y.faults.random ≡ x.faults.random) × (y.faults.spawner ≡ x.faults.spawner)
+  pub counted : x.faults.routes ≤ y.faults.routes
+  pub cause : has_failed a ≡ true → Rises x.faults.routes y.faults.routes
+
+abbrev pub Routes : View → Visit → Asking → View → Type 0
+Routes x v a y = (z : View) × Visits x v z × AsksLink z a y
+
 -- no draw came, and all else is as before
 pub record IsUndrawn (x y : View) : Type 0 where
   pub pass : y.pass ≡ x.pass
@@ -276,11 +330,13 @@ pub record IsUndrawn (x y : View) : Type 0 where
 abbrev pub Moves : View → Turn → View → Type 0
 Moves x (visited text q v r) y = Visits x v y
 Moves x (worked text q v e r) y = Works x v e y
+Moves x (routed text q v a r) y = Routes x v a y
 Moves x (declined text q e) y = y ≡ x
 Moves x (undrawn text q) y = IsUndrawn x y
 Moves x (refused e) y = y ≡ x
 Moves x (unsaid text q v) y = Visits x v y
 Moves x (unfinished text q v e) y = Works x v e y
+Moves x (unrouted text q v a) y = Routes x v a y
 Moves x wanting y = (y ≡ x) ⊎ IsUndrawn x y
 
 -- one turn after the other

@@ -11,9 +11,10 @@ ghost use Rattle.hub_run.specs.Works.{path_for};
 ghost use Rattle.hub_run.specs.Written.{written_bytes};
 
 use crate::kit::HubKit;
+use crate::routed::{text_of_reply, way_of};
 use crate::visit::{Unanswered, ask};
 use crate::works::{path_for, work_done};
-use crate::written::{Written, text_of, text_of_no_draw, text_of_refusal, text_of_tale};
+use crate::written::{Written, text_of_no_draw, text_of_refusal, text_of_tale};
 use desk::{Desk, Pass};
 use http_wire::request::Request;
 use hub_api::{ApiRefusal, read_call};
@@ -75,7 +76,7 @@ pub(crate) fn answer<
     }
 }
 
-/// Visits the book with a call, and does what its answer owes by the path of its server.
+/// Visits the book with a call, and does what its answer owes by the path of its server, or asks the route link what it lets the call ask.
 fn answer_call<
     K: Keeper,
     T: Trail<Entry = Change>,
@@ -105,6 +106,7 @@ fn answer_call<
         → Made start (view_of C.to_come R.left S.calls P.calls R.faults S.faults P.faults pass.old kit.old) (view_of C.to_come R.left S.calls P.calls R.faults S.faults P.faults pass.new kit.new)
         text last (written_bytes result.0) result.1 }
 {
+    let way = way_of(&asked.call);
     match ask(rt, alloc, desk, pass, kit, asked) {
         Ok(Outcome::Work(work)) => {
             let owed = work.todo;
@@ -113,7 +115,7 @@ fn answer_call<
         }
         Ok(Outcome::Answer(reply)) => {
             drop(path);
-            let text = text_of(alloc, &reply, close);
+            let text = text_of_reply(rt, alloc, desk, pass, kit, way, &reply, close);
             // in one call, since it has many parts
             drop(reply);
             text

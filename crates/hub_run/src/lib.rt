@@ -7,6 +7,7 @@ mod answering;
 mod connection;
 mod kit;
 mod laws;
+mod routed;
 mod served;
 mod turn;
 mod visit;

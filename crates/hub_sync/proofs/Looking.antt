@@ -10,15 +10,16 @@ use Rattle.desk.specs.OwnEntries.{placed}
 use Rattle.desk.specs.Visits.{Visited}
 use Rattle.hub_devices.specs.declared.calls.ListedRoute.{ListedRoute}
 use Rattle.server_work.specs.Chains.{Sight, sight, Comes}
+use Rattle.hub_machine.specs.State.{Hub}
 use Rattle.hub_core.specs.Visits.{Entry, Reached, Standing, entries_of}
 use Rattle.hub_core.specs.declared.start.Start.{Start}
 use Rattle.hub_sync.specs.declared.calls.RouteCall.{RouteCall}
-use Rattle.hub_sync.specs.Plans.{IsPlan, IsPlanAt}
+use Rattle.hub_sync.specs.Plans.{IsPlan, IsPlanFor}
 
 -- what a book plans is the plan at the place of its history
-pub planned_at : {L E : Type 0} (b : Standing) (hub : Option (List ℕ)) (routes : List ListedRoute) (r : Result L E) (items : L → List RouteCall)
-    → Reached b.start (entries_of b) b.hub → IfOk r (λ (l : L). IsPlan b.hub.lives hub routes (items l))
-    → IfOk r (λ (l : L). IsPlanAt b.start (entries_of b) hub routes (items l))
+pub planned_at : {L E : Type 0} (b : Standing) (hub : Hub → Option (List ℕ)) (routes : List ListedRoute) (r : Result L E) (items : L → List RouteCall)
+    → Reached b.start (entries_of b) b.hub → IfOk r (λ (l : L). IsPlan b.hub.lives (hub b.hub) routes (items l))
+    → IfOk r (λ (l : L). IsPlanFor b.start (entries_of b) hub routes (items l))
 planned_at b hub routes (Ok l) items reached plan = record { state = b.hub; reached = reached; plan = plan }
 planned_at b hub routes (Err e) items reached plan = tt
 
@@ -55,10 +56,10 @@ same_start : (base : Option Start) (found start : Start) → base ≡ Some found
 same_start base found start first second = cc
 
 -- what was planned at the place that the book stood at was planned at the place that the pass came to
-pub plan_seen : {L E : Type 0} (start : Start) (p q : PassState Entry Start) (b b' : Standing) (hub : Option (List ℕ)) (routes : List ListedRoute) (r : Result L E)
+pub plan_seen : {L E : Type 0} (start : Start) (p q : PassState Entry Start) (b b' : Standing) (hub : Hub → Option (List ℕ)) (routes : List ListedRoute) (r : Result L E)
     (items : L → List RouteCall) → p.base ≡ Some start → b' ≡ b
     → Visited entries_of (λ (s : Standing). s.start) (λ (s : Standing). s.faults) p q b b'
-    → IfOk r (λ (l : L). IsPlanAt b.start (entries_of b) hub routes (items l)) → IfOk r (λ (l : L). IsPlanAt start q.seen hub routes (items l))
+    → IfOk r (λ (l : L). IsPlanFor b.start (entries_of b) hub routes (items l)) → IfOk r (λ (l : L). IsPlanFor start q.seen hub routes (items l))
 plan_seen start p q b b' hub routes r items base still visit plan =
-    subst (λ (h : List Entry). IfOk r (λ l. IsPlanAt start h hub routes (items l))) (sym (visit.seen ∙ ap entries_of still))
-    (subst (λ (s : Start). IfOk r (λ l. IsPlanAt s (entries_of b) hub routes (items l))) (same_start p.base b.start start visit.found_base base) plan)
+    subst (λ (h : List Entry). IfOk r (λ l. IsPlanFor start h hub routes (items l))) (sym (visit.seen ∙ ap entries_of still))
+    (subst (λ (s : Start). IfOk r (λ l. IsPlanFor s (entries_of b) hub routes (items l))) (same_start p.base b.start start visit.found_base base) plan)

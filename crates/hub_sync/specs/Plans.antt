@@ -57,8 +57,16 @@ pub record IsPlan (lives : Lives) (hub : Option (List ℕ)) (routes : List Liste
   pub ready : AreReady lives servers
   pub calls_are : calls ≡ hub_additions routes hub ++ filter_map (addition_of routes) servers ++ filter_map (deletion_of lives) routes
 
--- the calls are the plan in the state that the entries lead to
-pub record IsPlanAt (start : Start) (entries : List Entry) (hub : Option (List ℕ)) (routes : List ListedRoute) (calls : List RouteCall) : Type 0 where
+-- where the hub's own route leads: to the target that a state has, or to the one that is given, if one is
+abbrev pub target_of : Bool → Option (List ℕ) → Hub → Option (List ℕ)
+target_of own given s = if own then s.hub_url else given
+
+-- the calls are the plan in the state that the entries lead to, for a hub whose own route leads to this target of that state
+pub record IsPlanFor (start : Start) (entries : List Entry) (hub : Hub → Option (List ℕ)) (routes : List ListedRoute) (calls : List RouteCall) : Type 0 where
   pub state : Hub
   pub reached : Reached start entries state
-  pub plan : IsPlan state.lives hub routes calls
+  pub plan : IsPlan state.lives (hub state) routes calls
+
+-- the same where its target is known from outside
+abbrev pub IsPlanAt : Start → List Entry → Option (List ℕ) → List ListedRoute → List RouteCall → Type 0
+IsPlanAt start entries hub = IsPlanFor start entries (λ (s : Hub). hub)

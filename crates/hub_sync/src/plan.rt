@@ -3,7 +3,7 @@ ghost use Rattle.std.specs.Prelude.{◌≡◌, ◌<◌, ◌^◌, ◌++◌, All, 
 ghost use Rattle.std.specs.List.{filter_map};
 ghost use Rattle.std.specs.Option.{option_copied};
 ghost use Rattle.hub_sync.specs.Plans as spec;
-ghost use Rattle.hub_sync.specs.Plans.{IsPlan};
+ghost use Rattle.hub_sync.specs.Plans.{IsPlan, target_of};
 
 use crate::calls::RouteCall;
 use hub_core::book::Book;
@@ -145,7 +145,7 @@ fn push_deletions<K: Keeper, T: Trail<Entry = Change>>(
 }
 
 /// The calls that bring the listed routes into step with the book's servers.
-pub(crate) fn plan<K: Keeper, T: Trail<Entry = Change>>(
+fn plan<K: Keeper, T: Trail<Entry = Change>>(
     alloc: Global,
     book: &Book<K, T>,
     hub: Option<&Target>,
@@ -159,4 +159,21 @@ pub(crate) fn plan<K: Keeper, T: Trail<Entry = Change>>(
     push_additions(alloc, &mut calls, listed, servers.as_slice())?;
     push_deletions(alloc, &mut calls, book, listed)?;
     Ok(calls)
+}
+
+/// The same for a hub whose own route leads to the book's target, or to the given one.
+pub(crate) fn plan_for<K: Keeper, T: Trail<Entry = Change>>(
+    alloc: Global,
+    book: &Book<K, T>,
+    own: bool,
+    given: Option<&Target>,
+    listed: &[ListedRoute],
+) -> Result<Vec<RouteCall>, AllocError>
+    ensures { IfOk result (λ calls. IsPlan book.now.hub.lives (target_of own (option_copied given.entry) book.now.hub) listed.now calls.items) }
+{
+    if own {
+        plan(alloc, book, book.hub_url(), listed)
+    } else {
+        plan(alloc, book, given, listed)
+    }
 }

@@ -8,8 +8,9 @@ ghost use Rattle.hub_devices.specs.Calls.{Grows};
 ghost use Rattle.hub_devices.specs.Faults.{Rises};
 ghost use Rattle.server_work.specs.Chains.{sight, Comes};
 ghost use Rattle.hub_core.specs.declared.start.Start.{Start};
+ghost use Rattle.hub_machine.specs.State.{Hub};
 ghost use Rattle.hub_sync.specs.declared.calls.SyncFault.TheVariants as Fault;
-ghost use Rattle.hub_sync.specs.Plans.{IsPlanAt};
+ghost use Rattle.hub_sync.specs.Plans.{IsPlanAt, IsPlanFor, target_of};
 ghost use Rattle.hub_sync.specs.Syncing.{SyncTold};
 
 use crate::calls::{RouteCall, SyncFault, Synced, make};
@@ -32,6 +33,7 @@ fn ask_plan<K: Keeper, T: Trail<Entry = Change>, W: Wait>(
     alloc: Global,
     desk: &Desk<Book<K, T>>,
     pass: &mut Pass<Book<K, T>>,
+    own: bool,
     hub: Option<&Target>,
     listed: &[ListedRoute],
 ) -> Result<Vec<RouteCall>, AllocError>
@@ -40,15 +42,50 @@ fn ask_plan<K: Keeper, T: Trail<Entry = Change>, W: Wait>(
     ensures mine { pass.new.mine ≡ pass.old.mine }
     ensures failed { pass.new.failed ≡ pass.old.failed }
     ensures comes { Comes pass.old.alone (sight pass.old) (sight pass.new) }
-    ensures planned { (start : Start) → pass.old.base ≡ Some start → IfOk result (λ calls. IsPlanAt start pass.new.seen (option_copied hub.entry) listed.now calls.items) }
+    ensures planned { (start : Start) → pass.old.base ≡ Some start → IfOk result (λ calls. IsPlanFor start pass.new.seen (target_of own (option_copied hub.entry)) listed.now calls.items) }
 {
     let mut planning = Planning {
         alloc,
+        own,
         hub,
         listed,
         acted: false,
     };
     desk.visit(rt, pass, &mut planning)
+}
+
+/// Brings the routes into step, with the hub's own route to the book's target or to the given one.
+fn sync_with<K: Keeper, T: Trail<Entry = Change>, P: RouteLink, W: Wait>(
+    rt: &W,
+    alloc: Global,
+    desk: &Desk<Book<K, T>>,
+    pass: &mut Pass<Book<K, T>>,
+    routes: &mut P,
+    own: bool,
+    hub: Option<&Target>,
+) -> Result<Synced, SyncFault>
+    requires of { pass.old.of ≡ desk.now }
+    ensures same { IsSamePass pass.old pass.new }
+    ensures mine { pass.new.mine ≡ pass.old.mine }
+    ensures failed { pass.new.failed ≡ pass.old.failed }
+    ensures comes { Comes pass.old.alone (sight pass.old) (sight pass.new) }
+    ensures told { (start : Start) → pass.old.base ≡ Some start → (told : List (Routing × Told)) × Grows (P.calls routes.old) told (P.calls routes.new) × SyncTold (IsPlanFor start pass.new.seen (target_of own (option_copied hub.entry))) told result }
+    ensures counted { P.faults routes.old ≤ P.faults routes.new }
+    ensures cause { result ≡ Err Fault.Routes → Rises (P.faults routes.old) (P.faults routes.new) }
+{
+    let listed = match routes.list() {
+        Ok(listed) => listed,
+        Err(LinkError::Failed) => return Err(SyncFault::Routes),
+        Err(LinkError::Memory) => return Err(SyncFault::Memory),
+    };
+    let calls = match ask_plan(rt, alloc, desk, pass, own, hub, listed.as_slice()) {
+        Ok(calls) => calls,
+        Err(_) => return Err(SyncFault::Memory),
+    };
+    match make(routes, calls.as_slice()) {
+        Ok(synced) => Ok(synced),
+        Err(_) => Err(SyncFault::Routes),
+    }
 }
 
 /// Brings the routes of a proxy into step with the servers: lists the routes, looks once which servers are ready and which listed
@@ -71,17 +108,25 @@ pub fn sync_routes<K: Keeper, T: Trail<Entry = Change>, P: RouteLink, W: Wait>(
     ensures counted { P.faults routes.old ≤ P.faults routes.new }
     ensures cause { result ≡ Err Fault.Routes → Rises (P.faults routes.old) (P.faults routes.new) }
 {
-    let listed = match routes.list() {
-        Ok(listed) => listed,
-        Err(LinkError::Failed) => return Err(SyncFault::Routes),
-        Err(LinkError::Memory) => return Err(SyncFault::Memory),
-    };
-    let calls = match ask_plan(rt, alloc, desk, pass, hub, listed.as_slice()) {
-        Ok(calls) => calls,
-        Err(_) => return Err(SyncFault::Memory),
-    };
-    match make(routes, calls.as_slice()) {
-        Ok(synced) => Ok(synced),
-        Err(_) => Err(SyncFault::Routes),
-    }
+    sync_with(rt, alloc, desk, pass, routes, false, hub)
+}
+
+/// The same with the hub's own target, which its book has.
+pub fn sync_own_routes<K: Keeper, T: Trail<Entry = Change>, P: RouteLink, W: Wait>(
+    rt: &W,
+    alloc: Global,
+    desk: &Desk<Book<K, T>>,
+    pass: &mut Pass<Book<K, T>>,
+    routes: &mut P,
+) -> Result<Synced, SyncFault>
+    requires of { pass.old.of ≡ desk.now }
+    ensures same { IsSamePass pass.old pass.new }
+    ensures mine { pass.new.mine ≡ pass.old.mine }
+    ensures failed { pass.new.failed ≡ pass.old.failed }
+    ensures comes { Comes pass.old.alone (sight pass.old) (sight pass.new) }
+    ensures told { (start : Start) → pass.old.base ≡ Some start → (told : List (Routing × Told)) × Grows (P.calls routes.old) told (P.calls routes.new) × SyncTold (IsPlanFor start pass.new.seen (λ (s : Hub). s.hub_url)) told result }
+    ensures counted { P.faults routes.old ≤ P.faults routes.new }
+    ensures cause { result ≡ Err Fault.Routes → Rises (P.faults routes.old) (P.faults routes.new) }
+{
+    sync_with(rt, alloc, desk, pass, routes, true, None)
 }

@@ -12,7 +12,7 @@ use Rattle.hub_machine.specs.declared.call.Call.{Call}
 use Rattle.hub_machine.specs.declared.call.Call.TheVariants.{GetVersion, GetInfo, GetIdentity, GetUsers, GetUser, GetTokens, GetToken, GetShares, GetCodes, GetGroups, GetGroup, GetServices, GetService, GetRoles, GetRole}
 use Rattle.hub_core.specs.Answer.{is_past}
 
--- the calls whose method is GET, but for an authorization, which makes a code
+-- the calls whose method is GET, but for an authorization, which makes a code, and for the routes of the proxy, which come from outside
 abbrev pub is_get : Call → Bool
 is_get GetVersion = true
 is_get GetInfo = true

@@ -1,5 +1,6 @@
-use Rattle.std.proofs.Common.{refl}
-use Rattle.hub_run.proofs.AnswerLemmas.{made_visited, made_unvisited, made_undrawn, made_worked}
+use Rattle.std.proofs.Common.{refl, ◌∙◌}
+use Rattle.hub_run.proofs.RoutedLemmas.{made_answered}
+use Rattle.hub_run.proofs.AnswerLemmas.{made_unvisited, made_undrawn, made_worked}
 use Rattle.hub_run.proofs.answering.answer_call.Goals as goal
 
 pub returns-in-Ok-Work-clause-answers : goal.returns-in-Ok-Work-clause-answers
@@ -9,8 +10,9 @@ returns-in-Ok-Work-clause-answers g c = λ start base request text last is read 
 
 pub returns-in-Ok-Answer-clause-answers : goal.returns-in-Ok-Answer-clause-answers
 returns-in-Ok-Answer-clause-answers g c = λ start base request text last is read close_is.
-    made_visited start _ _ request text c.args.asked c.in-Ok-Answer.field-0 c.in-Ok-Answer.reply c.args.close last _ _
-    is read close_is c.in-Ok-Answer.field-0-is (c.in-Ok-Answer.ensures.asks start base) c.text_of-text.ensures.says
+    made_answered start _ _ _ request text c.args.asked c.in-Ok-Answer.field-0 c.in-Ok-Answer.reply c.way_of-way.result c.args.close last _ _
+    is read close_is c.way_of-way.ensures c.in-Ok-Answer.field-0-is (c.in-Ok-Answer.ensures.asks start base)
+    (c.text_of_reply-text.ensures.goes start (c.in-Ok-Answer.ensures.base ∙ base))
 
 pub returns-in-Err-NoDraw-clause-answers : goal.returns-in-Err-NoDraw-clause-answers
 returns-in-Err-NoDraw-clause-answers g c = λ start base request text last is read close_is.

@@ -1,0 +1,4 @@
+use Rattle.hub_sync.proofs.sync.sync_own_routes.Goals as goal
+
+pub returns-clause-told : goal.returns-clause-told
+returns-clause-told g c = c.sync_with.ensures.told
