@@ -1,6 +1,7 @@
 #!/bin/sh
 # What a service with a program does over real programs, which no clause can say: `serve` starts it behind a proxy and its path leads to it;
-# killed, it is back by the second connection; a command that isn't there is tried five times; at the hub's end no program and no route is left.
+# killed, it is back by the second connection; a command that isn't there is tried five times; where the hub is killed, the next ends what it left
+# and starts the service anew; at a hub's end no program and no route is left.
 # usage: docs/bench/services.sh PROGRAM
 # PROGRAM is the hub as `./run` links it (crates/hub/out/hub). It takes ten seconds, stands outside the gate, and writes into a new folder
 # under /tmp alone. It ends with status 1 at the first thing that isn't as it should be.
@@ -65,6 +66,13 @@ def until(said, holds, seconds=10):
     fail(said)
 
 
+def serve():
+    hub = subprocess.Popen([program, "serve", "--config", "hub.toml", "--no-trail"], cwd=place, stdin=subprocess.PIPE,
+                           stdout=subprocess.PIPE, stderr=open(f"{place}/said", "w"), text=True)
+    running.append(hub)
+    return hub
+
+
 def main():
     open(f"{place}/proxy-secret", "w").write(SECRET + "\n")
     os.makedirs(f"{place}/services/notes")
@@ -98,10 +106,7 @@ target = "http://127.0.0.1:{LOST}"
     running.append(proxy)
     if proxy.stdout.readline() != "ready\n":
         fail("the proxy isn't ready")
-    said = open(f"{place}/said", "w")
-    hub = subprocess.Popen([program, "serve", "--config", "hub.toml", "--no-trail"], cwd=place, stdin=subprocess.PIPE,
-                           stdout=subprocess.PIPE, stderr=said, text=True)
-    running.append(hub)
+    hub = serve()
     until("the service isn't started before the first connection", lambda: "/services/notes" in routes())
     if open(f"{place}/secret").read() != "secret-of-notes\n":
         fail("the program hasn't its secret")
@@ -122,6 +127,16 @@ target = "http://127.0.0.1:{LOST}"
     call()
     if len(started()) != 2 or get(PROXY, "/services/notes/page") != (200, b"a page of notes"):
         fail("the program isn't back by the second connection")
+    hub.kill()
+    hub.wait()
+    left = started()[1]
+    if not runs(left):
+        fail("a program ends with a hub that is killed")
+    hub = serve()
+    until("the service isn't started by the next hub", lambda: len(started()) == 3)
+    until("the path doesn't lead to the new program", lambda: get(PROXY, "/services/notes/page") == (200, b"a page of notes"))
+    if runs(left) or not runs(started()[2]):
+        fail("what a killed hub left running isn't ended before the service is started anew")
     hub.stdin.close()
     if hub.wait(timeout=30) != 0 or not hub.stdout.read().startswith("served "):
         fail("the hub doesn't end with status 0")

@@ -35,13 +35,23 @@ fn programs_of<H: Threads + Wait + Copy>(
     Ok(Programs::new(rt, handle, started, words))
 }
 
-/// Whether a start, a question, a stop and another question succeed, and what the questions tell. The stop may be one of a hub that was
-/// started later.
+/// Who ends a program.
+#[derive(Clone, Copy)]
+enum Ender {
+    /// The hub that started it.
+    Own,
+    /// A hub that was started later, and knows its generation.
+    Next,
+    /// A hub that was started later, and knows its target alone.
+    NextByTarget,
+}
+
+/// Whether a start, a question, a stop and another question succeed, and what the questions tell.
 fn life<H: Threads + Wait + Copy>(
     rt: HostRuntime,
     handle: H,
     script: &str,
-    is_of_next: bool,
+    ender: Ender,
 ) -> Result<[Option<bool>; 4], AllocError> {
     let mut programs = programs_of(rt, handle, script)?;
     let mut next = programs_of(rt, handle, script)?;
@@ -55,17 +65,20 @@ fn life<H: Threads + Wait + Copy>(
     };
     let begins = programs.start(7, &key, &target, &secret).is_ok();
     let runs = programs.poll(7, &target).ok();
-    let stopper = if is_of_next { &mut next } else { &mut programs };
-    let ends = stopper.stop(7, &target).is_ok();
+    let ends = match ender {
+        Ender::Own => programs.stop(7, &target).is_ok(),
+        Ender::Next => next.stop(7, &target).is_ok(),
+        Ender::NextByTarget => next.end_left(&target).is_ok(),
+    };
     let after = programs.poll(7, &target).ok();
     Ok([Some(begins), runs, Some(ends), after])
 }
 
 #[test]
 fn a_program_starts_and_ends(rt: HostRuntime) -> Result<(), AllocError> {
-    for is_of_next in [false, true] {
+    for ender in [Ender::Own, Ender::Next, Ender::NextByTarget] {
         let script = "read s; test \"$s\" = secret-word && echo ready; sleep 100";
-        let told = life(rt, rt, script, is_of_next)?;
+        let told = life(rt, rt, script, ender)?;
         assert_eq!(rt; told, [Some(true), Some(true), Some(true), Some(false)]);
     }
     Ok(())
@@ -74,7 +87,7 @@ fn a_program_starts_and_ends(rt: HostRuntime) -> Result<(), AllocError> {
 #[test]
 fn a_program_is_never_ready(rt: HostRuntime) -> Result<(), AllocError> {
     for script in ["echo steady; sleep 100", "exit 3", "read s"] {
-        let told = life(rt, rt, script, false)?;
+        let told = life(rt, rt, script, Ender::Own)?;
         assert_eq!(rt;
             told,
             [Some(false), Some(false), Some(true), Some(false)],

@@ -10,6 +10,9 @@ use std::{fs, io, thread};
 /// The variable that says of a program for which target and as which generation it was started.
 pub(crate) const MARK: &str = "HUB_PROGRAM";
 
+/// The variable as it stands in an environment.
+const PREFIX: &[u8] = b"HUB_PROGRAM=";
+
 /// What stands in that variable.
 pub(crate) fn mark_of(
     alloc: Global,
@@ -20,14 +23,18 @@ pub(crate) fn mark_of(
     format!(in alloc; "{generation} {target}")
 }
 
-/// Ends the programs of this generation that run, and what they started: they are asked, then killed.
-pub(crate) fn end_found(rt: &HostRuntime, generation: u64, target: &Target) -> io::Result<()> {
-    let alloc = rt.alloc();
-    let mark = mark_of(alloc, generation, target)?;
-    let entry = format!(in alloc; "{MARK}={mark}")?;
-    signal_all(rt, "TERM", &groups_of(rt, entry.as_bytes())?);
-    if !await_gone(rt, entry.as_bytes())? {
-        signal_all(rt, "KILL", &groups_of(rt, entry.as_bytes())?);
+/// Which programs are meant: those that were started for a target, as one generation or as any.
+#[derive(Clone, Copy)]
+pub(crate) struct Marked<'a> {
+    pub(crate) generation: Option<u64>,
+    pub(crate) target: &'a Target,
+}
+
+/// Ends the programs with such a mark that run, and what they started: they are asked, then killed.
+pub(crate) fn end_found(rt: &HostRuntime, marked: Marked<'_>) -> io::Result<()> {
+    signal_all(rt, "TERM", &groups_of(rt, marked)?);
+    if !await_gone(rt, marked)? {
+        signal_all(rt, "KILL", &groups_of(rt, marked)?);
     }
     Ok(())
 }
@@ -39,12 +46,12 @@ fn signal_all(rt: &HostRuntime, name: &str, groups: &[u32]) {
     }
 }
 
-/// Gives the programs with this entry in their environment time to end, and says whether they did.
-fn await_gone(rt: &HostRuntime, entry: &[u8]) -> io::Result<bool> {
+/// Gives the programs with such a mark time to end, and says whether they did.
+fn await_gone(rt: &HostRuntime, marked: Marked<'_>) -> io::Result<bool> {
     let begun = Instant::now(rt)?;
     let mut pause = 1u64;
     for _ in 0..100_000 {
-        if groups_of(rt, entry)?.is_empty() {
+        if groups_of(rt, marked)?.is_empty() {
             return Ok(true);
         }
         if time_left(rt, begun, Duration::from_secs(END_SECONDS))?.is_none() {
@@ -56,13 +63,13 @@ fn await_gone(rt: &HostRuntime, entry: &[u8]) -> io::Result<bool> {
     Ok(false)
 }
 
-/// The groups of the processes that run and were started with this entry in their environment.
-fn groups_of(rt: &HostRuntime, entry: &[u8]) -> io::Result<Vec<u32>> {
+/// The groups of the processes that run and were started with such a mark in their environment.
+fn groups_of(rt: &HostRuntime, marked: Marked<'_>) -> io::Result<Vec<u32>> {
     let mut groups = Vec::new(rt.alloc());
     for found in fs::read_dir(rt, "/proc")? {
         let found = found?;
         if let Ok(number) = found.file_name().parse::<u32>() {
-            if let Some(group) = group_of(rt, number, entry) {
+            if let Some(group) = group_of(rt, number, marked) {
                 if !groups.contains(&group) {
                     groups.push(group)?;
                 }
@@ -72,35 +79,56 @@ fn groups_of(rt: &HostRuntime, entry: &[u8]) -> io::Result<Vec<u32>> {
     Ok(groups)
 }
 
-/// The group of a process that runs, if it was started with this entry.
-fn group_of(rt: &HostRuntime, number: u32, entry: &[u8]) -> Option<u32> {
-    if has_entry(rt, number, entry) {
+/// The group of a process that runs, if it was started with such a mark.
+fn group_of(rt: &HostRuntime, number: u32, marked: Marked<'_>) -> Option<u32> {
+    if has_mark(rt, number, marked) {
         running_group(rt, number)
     } else {
         None
     }
 }
 
-/// Whether a process was started with this entry in its environment. Of another user's process, and of one that has ended, this isn't
+/// Whether a process was started with such a mark in its environment. Of another user's process, and of one that has ended, this isn't
 /// known: it is none of the hub's.
-fn has_entry(rt: &HostRuntime, number: u32, entry: &[u8]) -> bool {
+fn has_mark(rt: &HostRuntime, number: u32, marked: Marked<'_>) -> bool {
     let Ok(path) = format!(in rt.alloc(); "/proc/{number}/environ") else {
         return false;
     };
     match fs::read(rt, path.as_str()) {
-        Ok(text) => has_part(text.as_slice(), entry),
+        Ok(text) => has_entry(text.as_slice(), marked),
         Err(_) => false,
     }
 }
 
-/// Whether one of the parts between zeros is this.
-fn has_part(text: &[u8], part: &[u8]) -> bool {
-    for each in text.split(|b| *b == 0) {
-        if each == part {
+/// Whether one of the entries between zeros is such a mark.
+fn has_entry(text: &[u8], marked: Marked<'_>) -> bool {
+    for entry in text.split(|b| *b == 0) {
+        if is_mark(entry, marked) {
             return true;
         }
     }
     false
+}
+
+/// Whether an entry is such a mark: the variable, the generation, and behind a blank the target.
+fn is_mark(entry: &[u8], marked: Marked<'_>) -> bool {
+    let Some(value) = entry.strip_prefix(PREFIX) else {
+        return false;
+    };
+    let mut words = value.split(|b| *b == b' ');
+    let (Some(number), Some(target), None) = (words.next(), words.next(), words.next()) else {
+        return false;
+    };
+    target == marked.target.as_text().as_bytes()
+        && match marked.generation {
+            Some(generation) => read_number(number) == Some(generation),
+            None => true,
+        }
+}
+
+/// The number that a text is.
+fn read_number(text: &[u8]) -> Option<u64> {
+    std::str::from_utf8(text).ok()?.parse().ok()
 }
 
 /// The group of a process that runs. It stands behind the program's name, which is in brackets and may have any bytes, the state and the

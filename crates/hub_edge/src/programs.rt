@@ -1,7 +1,7 @@
 //! The programs of single-user servers.
 ghost use Rattle.std.specs.Prelude.{None};
 
-use crate::adopted::end_found;
+use crate::adopted::{Marked, end_found};
 use crate::groups::{end, has_ended};
 use crate::starting::{StartFault, await_ready, drain, start_program, tell_secret};
 use crate::targets::is_served;
@@ -151,11 +151,24 @@ impl<H: Threads + Wait + Copy> Programs<H> {
         if let Some(mut started) = self.take(generation) {
             return end(&self.rt, &mut started.child);
         }
-        end_found(&self.rt, generation, target)?;
+        let marked = Marked {
+            generation: Some(generation),
+            target,
+        };
+        end_found(&self.rt, marked)?;
         if is_served(&self.rt, target)? {
             return Err(io::Error::from(ErrorKind::ResourceBusy));
         }
         Ok(())
+    }
+
+    /// Ends what another run of the hub started for a target and left running, whichever generation it was.
+    pub fn end_left(&self, target: &Target) -> io::Result<()> {
+        let marked = Marked {
+            generation: None,
+            target,
+        };
+        end_found(&self.rt, marked)
     }
 
     /// Whether a generation runs. One that another run of the hub started does where it serves.

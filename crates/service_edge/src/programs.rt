@@ -80,7 +80,8 @@ impl<H: Threads + Wait + Copy> ServicePrograms<H> {
         Ok(())
     }
 
-    /// Starts the program of a service, if it has one.
+    /// Starts the program of a service, if it has one. What a hub that was killed left running for this service ends before, since it has
+    /// the address.
     fn begin(
         &mut self,
         g: u64,
@@ -95,6 +96,9 @@ impl<H: Threads + Wait + Copy> ServicePrograms<H> {
         };
         for command in self.commands.iter_mut() {
             if command.name == *name {
+                if command.programs.end_left(target).is_err() {
+                    return Err(Failed);
+                }
                 return command.programs.start(g, &key, target, secret);
             }
         }
