@@ -1,6 +1,5 @@
 //! The call that a request asks.
 ghost use Rattle.std.specs.Prelude.{◌≡◌, false};
-ghost use Rattle.hub_paths.specs.Paths.{IsRouter};
 ghost use Rattle.hub_api.specs.Refusals.{Gives};
 ghost use Rattle.hub_api.specs.Calls as spec;
 ghost use Rattle.hub_api.specs.Readings as calls;
@@ -19,7 +18,7 @@ use crate::tokens::{token, tokens};
 use crate::users::{activity, user, users};
 use http_wire::request::Request;
 use hub_machine::call::{Asked, Call};
-use hub_paths::{ApiRouter, Path, path_of};
+use hub_paths::{Path, path_of};
 use std::alloc::Global;
 
 /// `/`, by its methods.
@@ -117,11 +116,10 @@ fn call_of(alloc: Global, path: Option<Path>, request: &Request) -> Result<Call,
 /// method, the names in its path, its query, its body, its scopes. A call looks at those keys of the query and of the body
 /// alone that it has.
 #[tactic(auto, unfolding(crate::specs::Calls::call_read))]
-pub fn read_call(alloc: Global, router: &ApiRouter, request: Request) -> Result<Asked, ApiRefusal>
-    requires { IsRouter router.now }
+pub fn read_call(alloc: Global, request: Request) -> Result<Asked, ApiRefusal>
     ensures { Gives result (spec.call_read request) }
 {
-    let path = path_of(router, request.path.as_str());
+    let path = path_of(request.path.as_str());
     match call_of(alloc, path, &request) {
         Ok(call) => Ok(Asked {
             token: request.token,

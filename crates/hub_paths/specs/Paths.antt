@@ -1,10 +1,7 @@
 -- The paths of the calls, and which of them a text is.
-use Rattle.std.specs.Prelude.{◌≡◌, ℕ, List, [], ◌∷◌, codes, Bool, ◌==◌, nat_eq, nat_lt, length, if◌then◌else◌, Option, option_map}
+use Rattle.std.specs.Prelude.{ℕ, List, [], ◌∷◌, codes, Bool, ◌==◌, nat_eq, nat_lt, length, if◌then◌else◌, Option}
 use Rattle.std.specs.List.{find, slice_split, starts_with}
 use Rattle.std.specs.Cmp.Lexicographic.{pointwise}
-use Rattle.matchit.specs.Rows.{RowsOf}
-use Rattle.matchit.specs.Router.{RouteOf}
-use Rattle.matchit.specs.Seek.{first}
 use Rattle.hub_paths.specs.declared.paths.Path.{Path}
 use Rattle.hub_paths.specs.declared.paths.Path.TheVariants.{Bare, Version, Info, Identity, Users, User, Activity, DefaultServer, NamedServer, Tokens, Token, Shared, GivenShares, DefaultShares, ServerShares, GivenCodes, DefaultCodes, ServerCodes, Groups, Group, Members, Services, Service, Roles, Role, Authorize, Trade, Proxy}
 
@@ -60,7 +57,3 @@ fits path text = pointwise fits_part (segments path) (segments text)
 -- the path that a text is. Nothing is decoded before
 unfoldable pub path_of : List ℕ → Option Path
 path_of text = find (λ path. fits (text_of path) text) every_path
-
--- a router gives for each text the path that it is
-abbrev pub IsRouter : RowsOf (RouteOf Path) → Type 0
-IsRouter routes = (text : List ℕ) → option_map (λ route. route.value) (first routes text) ≡ path_of text

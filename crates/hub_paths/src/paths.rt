@@ -1,10 +1,7 @@
-//! The paths of the calls, found by `matchit`.
-ghost use Rattle.std.specs.Prelude.{◌≡◌, IfOk};
-ghost use Rattle.hub_paths.specs.Paths.{IsRouter, every_path};
+//! The paths of the calls, and how one is found.
+ghost use Rattle.std.specs.Prelude.{◌≡◌, ◌<◌, ◌==◌, ◌∷◌, [], ℕ, length, position, IfSome, MatchOption};
+ghost use Rattle.hub_paths.specs.Paths.{every_path, segments};
 ghost use Rattle.hub_paths.specs.Paths as spec;
-
-use matchit::Router;
-use std::alloc::{AllocError, Global};
 
 /// A path of the calls that are built, named by what it is.
 #[derive(Clone, Copy)]
@@ -80,7 +77,7 @@ impl Path {
     }
 }
 
-/// All paths, in the order of a router's rows.
+/// All paths. No text fits two of them.
 static PATHS: [Path; 28] = [
     Path::Members,
     Path::Group,
@@ -112,9 +109,6 @@ static PATHS: [Path; 28] = [
     Path::Bare,
 ];
 
-/// What finds the path that a text is. A connection makes one and keeps it.
-pub type ApiRouter = Router<Path>;
-
 #[tactic(auto, unfolding(crate::specs::Paths::every_path))]
 fn paths() -> &'static [Path]
     ensures { result.now ≡ every_path }
@@ -122,27 +116,71 @@ fn paths() -> &'static [Path]
     PATHS.as_slice()
 }
 
-/// The router of all paths. The one refusal is want of memory.
-pub fn new_router(alloc: Global) -> Result<ApiRouter, AllocError>
-    ensures { IfOk result (λ router. IsRouter router) }
+/// Where the first slash stands.
+fn first_slash(bytes: &[u8]) -> Option<usize>
+    ensures value { result ≡ position (λ b. b == 47) bytes.now }
+    ensures within { IfSome result (λ i. i < length bytes.now) }
 {
-    let mut router = Router::new(alloc);
-    let all = paths();
-    for path in all {
-        if router.insert(path.text(), *path).is_err() {
-            return Err(AllocError);
+    bytes.iter().position(|b| *b == b'/')
+}
+
+/// The bytes before the first slash, and those behind it.
+fn next_segment(bytes: &[u8]) -> (&[u8], Option<&[u8]>)
+    ensures parts { MatchOption result.1 (segments bytes.now ≡ result.0.now ∷ [])
+        (λ rest. segments bytes.now ≡ result.0.now ∷ segments rest.now) }
+    ensures shorter { IfSome result.1 (λ rest. length rest.now < length bytes.now) }
+{
+    match first_slash(bytes) {
+        Some(end) => (&bytes[..end], Some(&bytes[end + 1..])),
+        None => (bytes, None),
+    }
+}
+
+/// Whether a part of a path fits a segment.
+fn fits_part(part: &[u8], segment: &[u8]) -> bool
+    ensures { result ≡ spec.fits_part part.now segment.now }
+{
+    if part.starts_with(b"{") {
+        !segment.is_empty()
+    } else {
+        part == segment
+    }
+}
+
+/// Whether the parts of a path fit the segments of a text, one by one.
+fn fits(path: &[u8], text: &[u8]) -> bool
+    ensures { result ≡ spec.fits path.now text.now }
+{
+    let mut parts = path;
+    let mut segments = text;
+    'segments: loop {
+        let (part, more_parts) = next_segment(parts);
+        let (segment, more_segments) = next_segment(segments);
+        if !fits_part(part, segment) {
+            return false;
+        }
+        match more_parts {
+            Some(rest) => match more_segments {
+                Some(left) => {
+                    parts = rest;
+                    segments = left;
+                }
+                None => return false,
+            },
+            None => return more_segments.is_none(),
         }
     }
-    Ok(router)
 }
 
 /// The path that a text is. Nothing is decoded before.
-pub fn path_of(router: &ApiRouter, text: &str) -> Option<Path>
-    requires { IsRouter router.now }
+#[tactic(auto, unfolding(crate::specs::Paths::path_of))]
+pub fn path_of(text: &str) -> Option<Path>
     ensures { result ≡ spec.path_of text.now }
 {
-    match router.at(text) {
-        Ok(found) => Some(*found.value),
-        Err(_) => None,
+    for path in paths() {
+        if fits(path.text().as_bytes(), text.as_bytes()) {
+            return Some(*path);
+        }
     }
+    None
 }

@@ -1,25 +1,18 @@
 -- The ends of a connection.
 use Rattle.std.proofs.Common.{◌≡◌, inl, inr, ℕ, List, [], Option, Result, Ok, Err, refl, sym, subst}
 use Rattle.httparse.specs.Grammar.{RequestHead}
-use Rattle.hub_devices.specs.Streams.{Appends, IsEnd}
+use Rattle.hub_devices.specs.Streams.{IsEnd}
 use Rattle.http_wire.proofs.DueLemmas.{body_due_not_ended}
 use Rattle.http_wire.specs.Body.{RequestRefusedAt, NoBody}
 use Rattle.http_wire.specs.Head.{head_of}
 use Rattle.http_wire.specs.Request.{body_due_of}
 use Rattle.http_wire.specs.declared.error.WireError.{WireError}
 use Rattle.http_wire.specs.declared.error.WireError.TheVariants as wire
-use Rattle.hub_core.specs.declared.start.Start.{Start}
-use Rattle.hub_run.proofs.RanLemmas.{Ran_start, Ran_wrote}
-use Rattle.hub_run.specs.Connections.{Ran}
 use Rattle.hub_run.specs.Turns.{Turn, View, Turns}
 
 -- nothing changed
 pub turns_same : (x y z : View) (turns : List Turn) → Turns x turns y → z ≡ y → Turns x turns z
 turns_same x y z turns done same = subst (λ (v : View). Turns x turns v) (sym same) done
-
--- nothing was read, and a 507 was written, or a part of it
-pub only_wanting : (start : Start) (left held held' : Option (List ℕ)) (text : List ℕ) → Appends held text held' → Ran start left held left held' [] [] text
-only_wanting start left held held' text wrote = Ran_wrote start left held left held held' [] [] text (Ran_start start left held) wrote
 
 abbrev Due : Type 0
 Due = Result ℕ WireError

@@ -3,7 +3,6 @@ ghost use Rattle.std.specs.Prelude.{◌≡◌, ◌||◌, ℕ, true, Bool, List, 
 ghost use Rattle.http_wire.specs.Request.{IsRequestText};
 ghost use Rattle.http_wire.specs.declared.request.Request.{Request};
 ghost use Rattle.hub_api.specs.Calls.{call_read};
-ghost use Rattle.hub_paths.specs.Paths.{IsRouter};
 ghost use Rattle.hub_core.specs.declared.start.Start.{Start};
 ghost use Rattle.hub_run.specs.Steps.{Made};
 ghost use Rattle.hub_run.specs.Turns.{view_of};
@@ -27,7 +26,6 @@ use hub_kit::text::Text;
 use hub_machine::call::Asked;
 use hub_machine::change::Change;
 use hub_machine::reply::Outcome;
-use hub_paths::ApiRouter;
 use keeper::keeper::Keeper;
 use keeper::trail::Trail;
 use std::alloc::Global;
@@ -45,7 +43,6 @@ pub(crate) fn answer<
 >(
     rt: &W,
     alloc: Global,
-    router: &ApiRouter,
     desk: &Desk<Book<K, T>>,
     pass: &mut Pass<Book<K, T>>,
     kit: &mut HubKit<S, P, C, R>,
@@ -53,7 +50,6 @@ pub(crate) fn answer<
     last: bool,
 ) -> (Written, bool)
     requires of { pass.old.of ≡ desk.now }
-    requires routed { IsRouter router.now }
     ensures of { pass.new.of ≡ pass.old.of }
     ensures base { pass.new.base ≡ pass.old.base }
     ensures alone { pass.new.alone ≡ pass.old.alone }
@@ -63,7 +59,7 @@ pub(crate) fn answer<
         text last (written_bytes result.0) result.1 }
 {
     let close = closes_after(&request, last);
-    match read_call(alloc, router, request) {
+    match read_call(alloc, request) {
         Ok(asked) => match path_for(alloc, &asked.call) {
             Ok(path) => answer_call(rt, alloc, desk, pass, kit, asked, path, close),
             Err(_) => {

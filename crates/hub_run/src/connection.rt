@@ -1,6 +1,5 @@
 //! One connection from its first request to its end.
 ghost use Rattle.std.specs.Prelude.{◌≡◌, ◌≤◌, ℕ, [], Some, Ok, Err};
-ghost use Rattle.hub_paths.specs.Paths.{IsRouter};
 ghost use Rattle.hub_core.specs.declared.start.Start.{Start};
 ghost use Rattle.hub_devices.specs.Faults.{Rises};
 ghost use Rattle.hub_run.specs.Connections.{ConnectionEnds};
@@ -12,7 +11,6 @@ use crate::turn::turn;
 use desk::{Desk, Pass};
 use http_wire::buffer::WireBuffer;
 use http_wire::error::SessionFault;
-use http_wire::writes::write_all;
 use hub_core::book::Book;
 use hub_devices::clock::Clock;
 use hub_devices::random::Random;
@@ -21,10 +19,8 @@ use hub_devices::sink::Sink;
 use hub_devices::source::Source;
 use hub_devices::spawner::Spawner;
 use hub_machine::change::Change;
-use hub_paths::{ApiRouter, new_router};
 use keeper::keeper::Keeper;
 use keeper::trail::Trail;
-use reply_texts::no_memory;
 use std::alloc::Global;
 use std::sync::Wait;
 
@@ -66,24 +62,13 @@ pub fn serve_connection<
     ensures read_fault { (n : ℕ) → result ≡ Err (SessionFault.ReadFault n) → Rises (I.faults input.old) (I.faults input.new) }
     ensures write_fault { (n : ℕ) → result ≡ Err (SessionFault.WriteFault n) → Rises (O.faults output.old) (O.faults output.new) }
 {
-    match new_router(alloc) {
-        Ok(router) => {
-            let mut kept = WireBuffer::new(alloc);
-            let served = serve_turns(
-                rt, alloc, &router, desk, pass, input, output, &mut kept, kit,
-            );
-            drop(kept);
-            drop(router);
-            served
-        }
-        Err(_) => match write_all(output, no_memory()) {
-            Ok(()) => Ok(Served::Closed(1)),
-            Err(_) => Err(SessionFault::WriteFault(0)),
-        },
-    }
+    let mut kept = WireBuffer::new(alloc);
+    let served = serve_turns(rt, alloc, desk, pass, input, output, &mut kept, kit);
+    drop(kept);
+    served
 }
 
-/// The turns of a connection, by a router and a buffer of its own.
+/// The turns of a connection, by a buffer of its own.
 fn serve_turns<
     K: Keeper,
     T: Trail<Entry = Change>,
@@ -97,7 +82,6 @@ fn serve_turns<
 >(
     rt: &W,
     alloc: Global,
-    router: &ApiRouter,
     desk: &Desk<Book<K, T>>,
     pass: &mut Pass<Book<K, T>>,
     input: &mut I,
@@ -106,7 +90,6 @@ fn serve_turns<
     kit: &mut HubKit<S, P, C, R>,
 ) -> Result<Served, SessionFault>
     requires of { pass.old.of ≡ desk.now }
-    requires routed { IsRouter router.now }
     requires kept { kept.old ≡ [] }
     ensures of { pass.new.of ≡ pass.old.of }
     ensures base { pass.new.base ≡ pass.old.base }
@@ -125,7 +108,6 @@ fn serve_turns<
         match turn(
             rt,
             alloc,
-            router,
             desk,
             pass,
             input,

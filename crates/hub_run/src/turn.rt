@@ -5,7 +5,6 @@ ghost use Rattle.hub_devices.specs.Faults.{Rises};
 ghost use Rattle.http_wire.specs.Took.{Took};
 ghost use Rattle.http_wire.specs.Request.{IsRequestText};
 ghost use Rattle.http_wire.specs.Wire.{head_limit};
-ghost use Rattle.hub_paths.specs.Paths.{IsRouter};
 ghost use Rattle.hub_core.specs.declared.start.Start.{Start};
 ghost use Rattle.hub_run.specs.Steps.{StopsAt, TurnEnds};
 ghost use Rattle.hub_run.specs.Turns.{Turn, TurnAt, Moves, turn_text, closes, view_of};
@@ -28,7 +27,6 @@ use hub_devices::sink::Sink;
 use hub_devices::source::Source;
 use hub_devices::spawner::Spawner;
 use hub_machine::change::Change;
-use hub_paths::ApiRouter;
 use keeper::keeper::Keeper;
 use keeper::trail::Trail;
 use std::alloc::Global;
@@ -47,7 +45,6 @@ fn next_reply<
 >(
     rt: &W,
     alloc: Global,
-    router: &ApiRouter,
     desk: &Desk<Book<K, T>>,
     pass: &mut Pass<Book<K, T>>,
     input: &mut I,
@@ -56,7 +53,6 @@ fn next_reply<
     last: bool,
 ) -> Result<(Written, bool), TurnEnd>
     requires of { pass.old.of ≡ desk.now }
-    requires routed { IsRouter router.now }
     ensures of { pass.new.of ≡ pass.old.of }
     ensures base { pass.new.base ≡ pass.old.base }
     ensures alone { pass.new.alone ≡ pass.old.alone }
@@ -73,7 +69,7 @@ fn next_reply<
     ensures cause { result ≡ Err TurnEnd.ReadFault → Rises (I.faults input.old) (I.faults input.new) }
 {
     match read_request(alloc, input, kept) {
-        Ok(request) => Ok(answer(rt, alloc, router, desk, pass, kit, request, last)),
+        Ok(request) => Ok(answer(rt, alloc, desk, pass, kit, request, last)),
         Err(WireError::Ended) => Err(TurnEnd::Ended),
         Err(WireError::Cut) => Err(TurnEnd::Cut),
         Err(WireError::ReadFault) => Err(TurnEnd::ReadFault),
@@ -95,7 +91,6 @@ pub(crate) fn turn<
 >(
     rt: &W,
     alloc: Global,
-    router: &ApiRouter,
     desk: &Desk<Book<K, T>>,
     pass: &mut Pass<Book<K, T>>,
     input: &mut I,
@@ -105,7 +100,6 @@ pub(crate) fn turn<
     last: bool,
 ) -> Result<bool, TurnEnd>
     requires of { pass.old.of ≡ desk.now }
-    requires routed { IsRouter router.now }
     ensures of { pass.new.of ≡ pass.old.of }
     ensures base { pass.new.base ≡ pass.old.base }
     ensures alone { pass.new.alone ≡ pass.old.alone }
@@ -125,7 +119,7 @@ pub(crate) fn turn<
     ensures read_fault { result ≡ Err TurnEnd.ReadFault → Rises (I.faults input.old) (I.faults input.new) }
     ensures write_fault { result ≡ Err TurnEnd.WriteFault → Rises (O.faults output.old) (O.faults output.new) }
 {
-    match next_reply(rt, alloc, router, desk, pass, input, kept, kit, last) {
+    match next_reply(rt, alloc, desk, pass, input, kept, kit, last) {
         Ok((written, close)) => match write_all(output, written.as_slice()) {
             Ok(()) => {
                 drop(written);
