@@ -51,15 +51,22 @@ impl<K: Keeper + Send> ServeWorld for InMemory<K> {
     type Runs = MemRunning;
 }
 
-/// What is called, what stands in the file `hub.toml`, and how it ends. Three callers come.
-struct Command {
-    words: &'static str,
-    file: &'static str,
+/// What is called, what stands in the file `hub.toml`, what fails, and how it ends. Three callers come.
+pub struct Command {
+    pub words: &'static str,
+    pub file: &'static str,
     /// The call of the listener that fails.
-    failing_call: u64,
-    status: u8,
-    output: &'static [u8],
+    pub failing_accept: u64,
+    /// The call of the opening's route link that fails.
+    pub failing_route: u64,
+    /// What the polls of services tell.
+    pub polls: &'static [bool],
+    pub status: u8,
+    pub output: &'static [u8],
 }
+
+/// What is outside of the command.
+pub type MemOutside = ServeOutside<InMemory<MemKeeper>>;
 
 /// The number of a call that doesn't come.
 pub const NEVER: u64 = u64::MAX;
@@ -70,14 +77,18 @@ const COMMANDS: [Command; 8] = [
     Command {
         words: "serve --config hub.toml --connections 2",
         file: LISTEN_ALONE,
-        failing_call: NEVER,
+        failing_accept: NEVER,
+        failing_route: NEVER,
+        polls: &[],
         status: 0,
         output: b"served 2\n",
     },
     Command {
         words: "serve --config hub.toml --connections 0 --no-trail",
         file: LISTEN_ALONE,
-        failing_call: 0,
+        failing_accept: 0,
+        failing_route: NEVER,
+        polls: &[],
         status: 0,
         output: b"served 0\n",
     },
@@ -85,48 +96,60 @@ const COMMANDS: [Command; 8] = [
     Command {
         words: "serve --config hub.toml",
         file: LISTEN_ALONE,
-        failing_call: NEVER,
+        failing_accept: NEVER,
+        failing_route: NEVER,
+        polls: &[],
         status: 8,
         output: b"served 3\n",
     },
     Command {
         words: "serve --config hub.toml --connections 3",
         file: LISTEN_ALONE,
-        failing_call: 1,
+        failing_accept: 1,
+        failing_route: NEVER,
+        polls: &[],
         status: 8,
         output: b"served 1\n",
     },
     Command {
         words: "serve --connections 2",
         file: LISTEN_ALONE,
-        failing_call: NEVER,
+        failing_accept: NEVER,
+        failing_route: NEVER,
+        polls: &[],
         status: 2,
         output: b"",
     },
     Command {
         words: "serve --config hub.toml --workers 17",
         file: LISTEN_ALONE,
-        failing_call: NEVER,
+        failing_accept: NEVER,
+        failing_route: NEVER,
+        polls: &[],
         status: 2,
         output: b"",
     },
     Command {
         words: "serve --config gone.toml",
         file: LISTEN_ALONE,
-        failing_call: NEVER,
+        failing_accept: NEVER,
+        failing_route: NEVER,
+        polls: &[],
         status: 3,
         output: b"",
     },
     Command {
         words: "serve --config hub.toml",
         file: "pool = []",
-        failing_call: NEVER,
+        failing_accept: NEVER,
+        failing_route: NEVER,
+        polls: &[],
         status: 3,
         output: b"",
     },
 ];
 
-pub fn words_of(rt: &impl Abort, alloc: Global, line: &str) -> Vec<Text> {
+fn words_of(rt: &impl Abort, alloc: Global, line: &str) -> Vec<Text> {
     let mut words = Vec::new(alloc);
     for word in line.split(' ') {
         words
@@ -136,41 +159,47 @@ pub fn words_of(rt: &impl Abort, alloc: Global, line: &str) -> Vec<Text> {
     words
 }
 
-pub fn files(rt: &impl Abort, alloc: Global, file: &str) -> MemFiles {
+fn files(rt: &impl Abort, alloc: Global, file: &str) -> MemFiles {
     let bytes = Bytes::from_slice(alloc, file.as_bytes()).expect(rt, "there is memory");
     let files = vec![in alloc; (text(rt, alloc, "hub.toml"), bytes)];
     MemFiles::new(alloc, files.expect(rt, "there is memory"), Vec::new(alloc))
 }
 
 /// Three callers, of whom none asks anything.
-pub fn doors(rt: &impl Abort, alloc: Global, failing_call: u64) -> MemListener<MemSource, MemSink> {
+fn doors(rt: &impl Abort, alloc: Global, failing_accept: u64) -> MemListener<MemSource, MemSink> {
     let mut doors = Vec::new(alloc);
     for _ in 0..3 {
         let source = MemSource::new(Bytes::new(alloc), 1, Vec::new(alloc));
         let sink = MemSink::new(alloc, Vec::new(alloc));
         doors.push((source, sink)).expect(rt, "there is memory");
     }
-    let failing = Vec::from_slice(alloc, &[failing_call]);
-    MemListener::new(doors, failing.expect(rt, "there is memory"))
+    MemListener::new(doors, failing(rt, alloc, failing_accept))
+}
+
+/// The number of the call that fails.
+fn failing(rt: &impl Abort, alloc: Global, call: u64) -> Vec<u64> {
+    Vec::from_slice(alloc, &[call]).expect(rt, "there is memory")
 }
 
 pub type MemKit = HubKit<MemSpawner, MemRouteLink, FixedClock, ListRandom>;
 
-/// A kit of which the clock alone is asked: it has no draws.
-pub fn quiet_kit(alloc: Global) -> MemKit {
+/// A kit of which the route link and the clock alone are asked: it has no draws.
+fn kit(rt: &impl Abort, alloc: Global, failing_route: u64) -> MemKit {
     HubKit {
         spawner: MemSpawner::new(alloc, Vec::new(alloc)),
-        routes: MemRouteLink::new(alloc, Vec::new(alloc)),
+        routes: MemRouteLink::new(alloc, failing(rt, alloc, failing_route)),
         clock: FixedClock(Moment::zero()),
         random: ListRandom::new(Vec::new(alloc), Vec::new(alloc)),
     }
 }
 
 /// By what services are tended, where polls tell this.
-pub fn service_kit(
+fn service_kit(
+    rt: &impl Abort,
     alloc: Global,
-    polls: Vec<bool>,
+    polls: &[bool],
 ) -> ServiceKit<MemRunning, MemRouteLink, FixedClock> {
+    let polls = Vec::from_slice(alloc, polls).expect(rt, "there is memory");
     ServiceKit {
         running: MemRunning::new(alloc, polls, Vec::new(alloc)),
         paths: MemRouteLink::new(alloc, Vec::new(alloc)),
@@ -179,48 +208,54 @@ pub fn service_kit(
 }
 
 /// The kits of two workers.
-pub fn kits(rt: &impl Abort, alloc: Global) -> Vec<MemKit>
+fn kits(rt: &impl Abort, alloc: Global) -> Vec<MemKit>
     ensures { 0 < length result.items }
 {
-    let kits = vec![in alloc; quiet_kit(alloc), quiet_kit(alloc)];
+    let kits = vec![in alloc; kit(rt, alloc, NEVER), kit(rt, alloc, NEVER)];
     kits.expect(rt, "there is memory")
 }
 
-pub fn store(rt: &impl Abort, alloc: Global) -> MemKeeper {
+fn store(rt: &impl Abort, alloc: Global) -> MemKeeper {
     let store = MemKeeper::new(alloc, Vec::new(alloc), Vec::new(alloc));
     store.expect(rt, "there is memory")
 }
 
-fn outside(rt: &impl Abort, alloc: Global, command: &Command) -> ServeOutside<InMemory<MemKeeper>>
+fn outside(rt: &impl Abort, alloc: Global, command: &Command) -> MemOutside
     ensures store { IsSome result.store }
     ensures kits { 0 < length result.kits.items }
 {
     ServeOutside {
         output: MemSink::new(alloc, Vec::new(alloc)),
         store: Some(store(rt, alloc)),
-        kit: quiet_kit(alloc),
+        kit: kit(rt, alloc, command.failing_route),
         kits: kits(rt, alloc),
-        doors: doors(rt, alloc, command.failing_call),
-        services: service_kit(alloc, Vec::new(alloc)),
+        doors: doors(rt, alloc, command.failing_accept),
+        services: service_kit(rt, alloc, command.polls),
         files: files(rt, alloc, command.file),
         end: None,
     }
 }
 
-/// Whether the command ends with its status, and has written its line.
-fn ends_so<R: Threads + Wait + Abort + Sync>(rt: &R, alloc: Global, command: &Command) -> bool {
+/// Whether the command ends with its status, and has written its line; and what is outside then.
+pub fn ended<R: Threads + Wait + Abort + Sync>(
+    rt: &R,
+    alloc: Global,
+    command: &Command,
+) -> (bool, MemOutside) {
     let words = words_of(rt, alloc, command.words);
     let mut outside = outside(rt, alloc, command);
     let status = run(rt, alloc, words.as_slice(), &mut outside);
-    let has_written = outside.output.as_slice() == command.output;
-    drop(outside);
-    (status == command.status) & has_written
+    drop(words);
+    let so = (status == command.status) & (outside.output.as_slice() == command.output);
+    (so, outside)
 }
 
 #[test]
 fn commands(rt: HostRuntime) {
     for command in &COMMANDS {
-        check(&rt, ends_so(&rt, rt.alloc(), command), command.words);
+        let (so, outside) = ended(&rt, rt.alloc(), command);
+        drop(outside);
+        check(&rt, so, command.words);
     }
 }
 

@@ -1,43 +1,20 @@
 //! A service of a hub that serves: its program is started before the connection, asked after it, and stopped at the end.
-ghost use Rattle.std.specs.Prelude.{◌<◌, IsSome, length};
-
 use crate::check::check;
-use crate::of_commands::{
-    InMemory, NEVER, doors, files, kits, quiet_kit, service_kit, store, words_of,
-};
+use crate::of_commands::{Command, MemOutside, NEVER, ended};
 use hub_devices::calls::{Routing, Told};
-use hub_devices::mem_bytes::MemSink;
-use hub_serving::run::run;
-use hub_serving::world::ServeOutside;
-use keeper::mem_keeper::MemKeeper;
 use services_run::calls::ServiceCall;
-use std::alloc::Global;
-use std::process::Abort;
-use std::sync::Wait;
-use std::thread::Threads;
 
-/// A file with one service that has a program, and one that has none.
-const WITH_SERVICE: &str =
-    "listen = \"127.0.0.1:8000\"\n[[services]]\nname = \"other\"\n[[services]]\nname = \"web\"\n\
-    redirect_uri = \"/services/web/cb\"\nsecret = \"service-secret-web\"\ncommand = [\"web\"]\ntarget = \"http://127.0.0.1:9201\"\n";
-
-/// What is outside, where one poll tells that the program runs.
-fn outside(rt: &impl Abort, alloc: Global) -> ServeOutside<InMemory<MemKeeper>>
-    ensures store { IsSome result.store }
-    ensures kits { 0 < length result.kits.items }
-{
-    let polls = Vec::from_slice(alloc, &[true]);
-    ServeOutside {
-        output: MemSink::new(alloc, Vec::new(alloc)),
-        store: Some(store(rt, alloc)),
-        kit: quiet_kit(alloc),
-        kits: kits(rt, alloc),
-        doors: doors(rt, alloc, NEVER),
-        services: service_kit(alloc, polls.expect(rt, "there is memory")),
-        files: files(rt, alloc, WITH_SERVICE),
-        end: None,
-    }
-}
+/// One connection to a hub with one service that has a program, and one that has none. One poll tells that the program runs.
+const WITH_SERVICE: Command = Command {
+    words: "serve --config hub.toml --connections 1",
+    file: "listen = \"127.0.0.1:8000\"\n[[services]]\nname = \"other\"\n[[services]]\nname = \"web\"\n\
+    redirect_uri = \"/services/web/cb\"\nsecret = \"service-secret-web\"\ncommand = [\"web\"]\ntarget = \"http://127.0.0.1:9201\"\n",
+    failing_accept: NEVER,
+    failing_route: NEVER,
+    polls: &[true],
+    status: 0,
+    output: b"served 1\n",
+};
 
 /// Whether the program was started with its secret, asked and stopped, each once.
 fn ran_once(calls: &[(ServiceCall, Told)]) -> bool {
@@ -70,25 +47,21 @@ fn routed_once(calls: &[(Routing, Told)]) -> bool {
     }
 }
 
-/// Whether one connection was served, with these calls.
-fn tends_once<R: Threads + Wait + Abort + Sync>(rt: &R, alloc: Global) -> bool {
-    let words = words_of(rt, alloc, "serve --config hub.toml --connections 1");
-    let mut outside = outside(rt, alloc);
-    let status = run(rt, alloc, words.as_slice(), &mut outside);
-    let has_run = match outside.services.running.calls() {
-        Some(calls) => ran_once(calls),
-        None => false,
-    };
-    let has_routed = match outside.services.paths.calls() {
-        Some(calls) => routed_once(calls),
-        None => false,
-    };
-    drop(outside);
-    (status == 0) & has_run & has_routed
+/// Whether the program and its path were tended so.
+fn is_tended(outside: &MemOutside) -> bool {
+    match (
+        outside.services.running.calls(),
+        outside.services.paths.calls(),
+    ) {
+        (Some(run), Some(routed)) => ran_once(run) & routed_once(routed),
+        _ => false,
+    }
 }
 
 #[test]
 fn a_service_is_started_asked_and_stopped(rt: HostRuntime) {
-    let holds = tends_once(&rt, rt.alloc());
+    let (so, outside) = ended(&rt, rt.alloc(), &WITH_SERVICE);
+    let holds = so & is_tended(&outside);
+    drop(outside);
     check(&rt, holds, "one start, one poll, one stop");
 }

@@ -185,7 +185,9 @@ fn status_of<R: Abort + Wait>(
     ensures { IsSome outside.new.store }
 {
     let words = words_of(rt, alloc, line);
-    run(rt, alloc, words.as_slice(), outside)
+    let status = run(rt, alloc, words.as_slice(), outside);
+    drop(words);
+    status
 }
 
 /// Whether a session over this file and these rows ends with this status.

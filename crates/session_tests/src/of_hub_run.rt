@@ -445,7 +445,12 @@ fn is_served<R: Abort + Wait>(
     let mut sink = MemSink::new(alloc, Vec::new(alloc));
     let mut kit = quiet_kit(alloc, Moment::up_to(NOW));
     let served = serve_connection(rt, alloc, desk, pass, &mut source, &mut sink, &mut kit);
-    (served == Ok(connection.end)) & (sink.as_slice() == output.as_slice())
+    drop(source);
+    drop(kit);
+    let so = (served == Ok(connection.end)) & (sink.as_slice() == output.as_slice());
+    drop(sink);
+    drop(output);
+    so
 }
 
 /// How often the rights of a token were at hand.

@@ -282,7 +282,10 @@ fn ends_so<R: Abort + Wait>(rt: &R, alloc: Global, session: &Session) -> bool {
     let words = words_of(rt, alloc, session.words);
     let mut outside = outside(rt, alloc, session);
     let status = run(rt, alloc, words.as_slice(), &mut outside);
-    (status == session.status) & (outside.output.as_slice() == session.output)
+    let so = (status == session.status) & (outside.output.as_slice() == session.output);
+    drop(words);
+    drop(outside);
+    so
 }
 
 #[test]
