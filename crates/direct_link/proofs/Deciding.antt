@@ -222,7 +222,7 @@ module _ (users : UsersBodySays) (services : ServicesBodySays) (nothings : Nothi
       by : IsTurnOf start x (get_of (access_target server) token) bytes y ⊎ IsUnread bytes → Judges start x y token server access
       by (inl turned) =
           judged users services nothings start x y token server bytes access
-          (visit_of start x y (get_of (access_target server) token) bytes (ask token server) (call_is server token user name) refl (asks_nothing token server) turned) says
+          (visit_of start x y (get_of (access_target server) token) bytes (ask token server) (call_is server token user name) refl (asks_nothing token server) refl turned) says
       by (inr unread) = nothing_told start x y token server access (unread_says bytes access unread says)
 
   -- ---- the end of a request

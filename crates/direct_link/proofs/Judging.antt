@@ -1,5 +1,5 @@
 -- What the hub's reply to an ask for access says of the state that it was answered in.
-use Rattle.std.proofs.Common.{◌≡◌, ◌↔◌, inl, inr, ℕ, Bool, true, false, IsTrue, List, length, Option, Some, None, Result, Ok, Err, refl, sym, ap, ◌∙◌, subst}
+use Rattle.std.proofs.Common.{◌≡◌, ◌↔◌, ◌==◌, if◌then◌else◌, inl, inr, ℕ, Bool, true, false, IsTrue, List, length, Option, Some, None, Result, Ok, Err, refl, sym, ap, ◌∙◌, subst}
 use Rattle.std.specs.FinMap.{get}
 use mathlib.Core.List.{IsPrefix}
 use Rattle.json.specs.Print.{print}
@@ -23,6 +23,7 @@ use Rattle.hub_machine.specs.Replies as replies
 use Rattle.hub_machine.specs.State.{Hub}
 use Rattle.hub_machine.specs.Trails.{in_trail}
 use Rattle.hub_machine.specs.declared.call.Asked.{Asked}
+use Rattle.hub_machine.specs.declared.call.Call.{Call}
 use Rattle.hub_machine.specs.declared.call.Call.TheVariants.{GetIdentity}
 use Rattle.hub_machine.specs.declared.change.Change.{Change}
 use Rattle.hub_machine.specs.declared.refusal.Refusal.TheVariants.{NoValidToken}
@@ -38,7 +39,9 @@ use Rattle.scope_filters.specs.declared.object.Object.TheVariants as Ob
 use Rattle.scope_names.specs.declared.action.Action.TheVariants.{AccessServers}
 use Rattle.hub_machine.specs.declared.work.Work.{Work}
 use Rattle.hub_machine.specs.Draws.{draws}
-use Rattle.hub_run.specs.Turns.{Turn, View, Visit, Visits, Errand, Moves, IsRight, IsAnswered, IsSent, IsGiven, turn_text, visited, worked, declined, undrawn, refused, unsaid, unfinished, wanting}
+use Rattle.hub_run.specs.Routed.{way_of, lets, lets_by}
+use Rattle.hub_run.specs.Turns.{Turn, View, Visit, Visits, Errand, Moves, IsRight, IsAnswered, IsSent, IsLet, IsGiven, turn_text, visited, worked, declined, undrawn, refused, unsaid, unfinished, wanting, routed, unrouted}
+use Rattle.hub_run.specs.declared.routed.Way.{Way}
 use Rattle.hub_run.specs.Complete.{IsOf}
 use Rattle.reply_texts.specs.ReplyText.{reply_text, has_body}
 use Rattle.direct_link.specs.Answered.{IsTurnOf}
@@ -144,6 +147,14 @@ not_sent start q v e asked read none is = by is.given
 read_both : (r : Result Asked ApiRefusal) (a : Asked) (e : ApiRefusal) → r ≡ Ok a → r ≡ Err e → ⊥
 read_both r a e one two = cc
 
+no_way : (b : Bool) (w : Way) → (if b then None else None) ≡ Some w → ⊥
+no_way true w e = cc
+no_way false w e = cc
+
+-- a call that doesn't ask the route link isn't let go on to it
+not_let : (call : Call) (r : Reply) (w : Way) → way_of call ≡ None → lets call r ≡ Some w → ⊥
+not_let call r w none goes = no_way (r.status == 200) w (ap (λ (o : Option Way). lets_by o r) (sym none) ∙ goes)
+
 -- the visit of a turn, and its reply
 pub record Visited (start : Start) (x : View) (asked : Asked) (bytes : List ℕ) (y : View) : Type 0 where
   pub visit : Visit
@@ -156,8 +167,8 @@ read_of : (p q : Request) (asked : Asked) → p ≡ q → call_read q ≡ Ok ask
 read_of p q asked same read = ap call_read same ∙ read
 
 pub visit_of : (start : Start) (x y : View) (q : Request) (bytes : List ℕ) (asked : Asked) → call_read q ≡ Ok asked → draws asked.call ≡ false
-    → ChangesNothing asked → IsTurnOf start x q bytes y → Visited start x asked bytes y
-visit_of start x y q bytes asked read undraws none turned = by turned.turn turned.of turned.right turned.moves turned.said
+    → ChangesNothing asked → way_of asked.call ≡ None → IsTurnOf start x q bytes y → Visited start x asked bytes y
+visit_of start x y q bytes asked read undraws none apart turned = by turned.turn turned.of turned.right turned.moves turned.said
   where
     drawn_not : (b : Bool) → b ≡ false → b ≡ true → ⊥
     drawn_not b one two = cc
@@ -171,6 +182,10 @@ visit_of start x y q bytes asked read undraws none turned = by turned.turn turne
       is = said;
     }
     by (worked text p v e r) of right moves said = absurd (not_sent start p v e asked (read_of p q asked of read) none (right.1).sent)
+    by (routed text p v a r) of right moves said =
+        let asks : IsLet start p v a = (right.1).let_by in
+        let same : asks.asked ≡ asked = same_ask asks.asked asked (call_read p) asks.read (read_of p q asked of read) in
+        absurd (not_let asked.call asks.gave asks.way apart (subst (λ (c : Asked). lets c.call asks.gave ≡ Some asks.way) same asks.goes))
     by (declined text p e) of right moves said = absurd (read_both (call_read p) asked e (read_of p q asked of read) right.1)
     by (undrawn text p) of right moves said =
         let same : (right.1).asked ≡ asked = same_ask (right.1).asked asked (call_read p) (right.1).read (read_of p q asked of read) in
@@ -178,6 +193,7 @@ visit_of start x y q bytes asked read undraws none turned = by turned.turn turne
     by (refused e) of right moves said = absurd of
     by (unsaid text p v) of right moves said = absurd right
     by (unfinished text p v e) of right moves said = absurd right
+    by (unrouted text p v a) of right moves said = absurd right
     by wanting of right moves said = absurd right
 
 -- where it is seen

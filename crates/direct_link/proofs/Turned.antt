@@ -9,7 +9,7 @@ use Rattle.http_wire.specs.declared.request.Request.{Request}
 use Rattle.hub_core.specs.declared.start.Start.{Start}
 use Rattle.hub_run.specs.Complete.{IsOf}
 use Rattle.hub_run.specs.Connections.{ConnectionEnds, Ran, IsOpenTurn, IsLast}
-use Rattle.hub_run.specs.Turns.{Turn, View, Turns, TurnAt, IsRight, Moves, closes, turn_text, refusal_text, request_bytes, visited, worked, declined, undrawn, refused, unsaid, unfinished, wanting}
+use Rattle.hub_run.specs.Turns.{Turn, View, Turns, TurnAt, IsRight, Moves, closes, turn_text, refusal_text, request_bytes, visited, worked, declined, undrawn, refused, unsaid, unfinished, wanting, routed, unrouted}
 use Rattle.hub_run.specs.declared.served.Served.{Served}
 use Rattle.hub_run.specs.declared.served.Served.TheVariants.{Ended, Cut, Closed}
 use Rattle.reply_texts.specs.ReplyText.{no_memory}
@@ -38,11 +38,13 @@ said_of said text wrote = said_so said text (wrote.adds [] refl)
 right_of : (start : Start) (q : Request) (request more : List ℕ) (t : Turn) → OnlyReads request q → request ≡ request_bytes t ++ more → IsRight start t → IsOf q t
 right_of start q request more (visited text p v r) only is right = only p text more right.0 is
 right_of start q request more (worked text p v e r) only is right = only p text more right.0 is
+right_of start q request more (routed text p v a r) only is right = only p text more right.0 is
 right_of start q request more (declined text p e) only is right = only p text more right.0 is
 right_of start q request more (undrawn text p) only is right = only p text more right.0 is
 right_of start q request more (refused e) only is right = absurd right
 right_of start q request more (unsaid text p v) only is right = absurd right
 right_of start q request more (unfinished text p v e) only is right = absurd right
+right_of start q request more (unrouted text p v a) only is right = absurd right
 right_of start q request more wanting only is right = absurd right
 
 closes_as : (p q : Request) → p ≡ q → q.close ≡ true → p.close ≡ true
@@ -51,11 +53,13 @@ closes_as p q same close = ap (λ (r : Request). r.close) same ∙ close
 right_closes : (start : Start) (q : Request) (t : Turn) → IsOf q t → IsRight start t → q.close ≡ true → closes t ≡ true
 right_closes start q (visited text p v r) of right close = closes_as p q of close
 right_closes start q (worked text p v e r) of right close = closes_as p q of close
+right_closes start q (routed text p v a r) of right close = closes_as p q of close
 right_closes start q (declined text p e) of right close = closes_as p q of close
 right_closes start q (undrawn text p) of right close = closes_as p q of close
 right_closes start q (refused e) of right close = absurd right
 right_closes start q (unsaid text p v) of right close = absurd right
 right_closes start q (unfinished text p v e) of right close = absurd right
+right_closes start q (unrouted text p v a) of right close = absurd right
 right_closes start q wanting of right close = absurd right
 
 never_both : (b : Bool) → b ≡ true → b ≡ false → ⊥
@@ -105,11 +109,13 @@ last_turn start x y z q request bytes ahead rest more left t only is at moves sa
     by : (t : Turn) → TurnAt start left ahead t rest → Moves x t z → bytes ≡ turn_text t true → IsTurnOf start x q bytes y ⊎ IsUnread bytes
     by (visited text p v r) at moves said = turned (visited text p v r) at.0 at.1 moves said
     by (worked text p v e r) at moves said = turned (worked text p v e r) at.0 at.1 moves said
+    by (routed text p v a r) at moves said = turned (routed text p v a r) at.0 at.1 moves said
     by (declined text p e) at moves said = turned (declined text p e) at.0 at.1 moves said
     by (undrawn text p) at moves said = turned (undrawn text p) at.0 at.1 moves said
     by (refused e) at moves said = inr (inr (e, at.0, at.2, said ∙ ap (λ o. refusal_text o true) at.2))
     by (unsaid text p v) at moves said = absurd (kept said)
     by (unfinished text p v e) at moves said = absurd (kept said)
+    by (unrouted text p v a) at moves said = absurd (kept said)
     by wanting at moves said = absurd (kept said)
 
 -- ---- the connection
