@@ -10,6 +10,7 @@ pub mod failing_calls;
 pub mod files;
 pub mod link_error;
 pub mod listener;
+pub mod listing;
 pub mod mem_bytes;
 pub mod mem_clock;
 pub mod mem_files;

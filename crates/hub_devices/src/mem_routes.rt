@@ -1,14 +1,11 @@
 //! A route link in memory.
-ghost use Rattle.std.specs.Prelude.{◌≡◌, ℕ, ◌≤◌, ◌<◌, List, [], ◌∷◌, map, not, filter, Option, Some, None, true, false, is_err, IsErr, IsSome, IfOk, IfErr, OnOk, OnErr};
-ghost use Rattle.std.specs.BTreeMap.{get, IsOrdered};
-ghost use Rattle.std.specs.Cmp.Lexicographic.{slice_cmp};
+ghost use Rattle.std.specs.Prelude.{◌≡◌, ◌≤◌, List, [], ◌∷◌, not, filter, Option, Some, None, true, false, is_err, IsErr, IsSome, IfOk, IfErr, OnOk, OnErr};
 ghost use Rattle.std.specs.Option.{option_map};
-ghost use Rattle.std.specs.Ordering.{nat_cmp};
 ghost use Rattle.hub_devices.specs.Calls.{Grows, told_unit, told_error, is_fault};
 ghost use Rattle.hub_devices.specs.FailingCalls.{is_failing, after_call, new_script};
 ghost use Rattle.hub_devices.specs.Faults.{Rises};
 ghost use Rattle.hub_devices.specs.NamedFiles.{same_text};
-ghost use Rattle.hub_devices.specs.Routes.{route_from, route_of, Puts, Lists};
+ghost use Rattle.hub_devices.specs.Routes.{Puts, Lists};
 ghost use Rattle.hub_devices.specs.declared.calls.Routing.{Routing};
 ghost use Rattle.hub_devices.specs.declared.calls.Routing.TheVariants as Route;
 ghost use Rattle.hub_devices.specs.declared.calls.Told.{Told};
@@ -18,13 +15,13 @@ ghost use Rattle.hub_devices.specs.declared.link_error.LinkError.TheVariants as 
 use crate::call_log::CallLog;
 use crate::calls::{ListedRoute, Routing, Told};
 use crate::link_error::LinkError;
+use crate::listing::listed_routes;
 use crate::route_link::RouteLink;
 use crate::source::Failed;
 use hub_kit::list::List;
 use hub_kit::target::Target;
 use hub_kit::text::Text;
 use std::alloc::{AllocError, Global};
-use std::collections::BTreeMap;
 
 /// Keeps the routes that its calls leave, and all calls with what they told. It fails at the calls that `failing` numbers,
 /// the first call being 0, and `add` and `delete` where they find no memory; a call that failed is never applied. A call
@@ -114,43 +111,6 @@ fn take_out(routes: &mut Vec<ListedRoute>, path: &Text)
     routes.retain(|route| route.path != *path);
 }
 
-/// The routes by their paths.
-fn by_path(
-    alloc: Global,
-    routes: &[ListedRoute],
-) -> Result<BTreeMap<Text, (Text, Option<u64>)>, AllocError>
-    ensures { IfOk result (λ table. (path : List ℕ) → get (slice_cmp nat_cmp) table path ≡ route_of routes.now path) }
-{
-    let mut table = BTreeMap::new(alloc);
-    let mut at = routes.len();
-    while at > 0 {
-        at -= 1;
-        let route = &routes[at];
-        let path = route.path.copy(alloc)?;
-        let target = route.target.copy(alloc)?;
-        table.insert(path, (target, route.serial))?;
-    }
-    Ok(table)
-}
-
-/// The routes of a table, in its order.
-fn in_order(
-    alloc: Global,
-    table: BTreeMap<Text, (Text, Option<u64>)>,
-) -> Result<Vec<ListedRoute>, AllocError>
-    ensures routes { IfOk result (λ listed. listed.items ≡ map route_from table.entries) }
-    ensures ordered { IsOrdered (slice_cmp nat_cmp) table }
-{
-    table
-        .into_iter()
-        .map(|(path, (target, serial))| ListedRoute {
-            path,
-            target,
-            serial,
-        })
-        .collect(alloc)
-}
-
 fn copy_routes(alloc: Global, routes: &[ListedRoute]) -> Result<Vec<ListedRoute>, AllocError>
     ensures { IfOk result (λ copies. copies.items ≡ routes.now) }
 {
@@ -173,8 +133,7 @@ fn list_twice(
     ensures listed { IfOk result (λ lists. Lists routes.now lists.0.items) }
     ensures same { IfOk result (λ lists. lists.1.items ≡ lists.0.items) }
 {
-    let table = by_path(alloc, routes)?;
-    let listed = in_order(alloc, table)?;
+    let listed = listed_routes(alloc, routes)?;
     let copies = copy_routes(alloc, listed.as_slice())?;
     Ok((listed, copies))
 }

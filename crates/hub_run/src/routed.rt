@@ -32,6 +32,7 @@ use hub_core::book::Book;
 use hub_devices::calls::ListedRoute;
 use hub_devices::clock::Clock;
 use hub_devices::link_error::LinkError;
+use hub_devices::listing::listed_routes;
 use hub_devices::random::Random;
 use hub_devices::route_link::RouteLink;
 use hub_devices::spawner::Spawner;
@@ -41,7 +42,7 @@ use hub_machine::call::Call;
 use hub_machine::change::Change;
 use hub_machine::refusal::Refusal;
 use hub_machine::reply::Reply;
-use hub_sync::{SyncFault, Synced, shown_routes, sync_own_routes};
+use hub_sync::{SyncFault, Synced, sync_own_routes};
 use hub_view::{Body, add_member, line};
 use keeper::keeper::Keeper;
 use keeper::trail::Trail;
@@ -131,7 +132,7 @@ fn routes_body(alloc: Global, routes: &[ListedRoute]) -> Result<Body, AllocError
 fn list_reply(alloc: Global, gave: &Reply, listed: &[ListedRoute]) -> Result<Reply, AllocError>
     ensures { IfOk result (λ reply. IsListReply (reply_view gave.now) (Ok listed.now) (reply_view reply)) }
 {
-    let shown = shown_routes(alloc, listed)?;
+    let shown = listed_routes(alloc, listed)?;
     let body = routes_body(alloc, shown.as_slice())?;
     Ok(with_body(gave, body))
 }

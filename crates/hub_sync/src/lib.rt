@@ -6,9 +6,7 @@
 mod calls;
 mod plan;
 mod planning;
-mod shown;
 mod sync;
 
 pub use calls::{RouteCall, SyncFault, Synced};
-pub use shown::shown_routes;
 pub use sync::{sync_own_routes, sync_routes};

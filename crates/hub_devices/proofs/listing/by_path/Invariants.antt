@@ -3,7 +3,7 @@ use Rattle.std.specs.BTreeMap.{get}
 use Rattle.std.specs.Cmp.Lexicographic.{slice_cmp}
 use Rattle.std.specs.Ordering.{nat_cmp}
 use Rattle.hub_devices.specs.Routes.{route_of}
-use Rattle.hub_devices.proofs.mem_routes.by_path.Given as goal
+use Rattle.hub_devices.proofs.listing.by_path.Given as goal
 
 abbrev pub invariant-loop-at : goal.invariant-loop-at
 invariant-loop-at l =

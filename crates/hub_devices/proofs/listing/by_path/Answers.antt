@@ -1,7 +1,7 @@
 use Rattle.std.proofs.Common.{◌≡◌, ap, ◌∙◌, arith, drop}
 use Rattle.hub_devices.specs.Routes.{route_of}
 use Rattle.hub_devices.proofs.RouteLemmas.{get_before}
-use Rattle.hub_devices.proofs.mem_routes.by_path.Goals as goal
+use Rattle.hub_devices.proofs.listing.by_path.Goals as goal
 
 pub loop-at-preserved-in_ok-insert : goal.loop-at-preserved-in_ok-insert
 loop-at-preserved-in_ok-insert c =

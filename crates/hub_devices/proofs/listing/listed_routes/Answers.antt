@@ -6,7 +6,7 @@ use Rattle.std.specs.Ordering.{nat_cmp}
 use Rattle.hub_devices.specs.Routes.{Lists, route_from, route_of}
 use Rattle.hub_devices.specs.declared.calls.ListedRoute.{ListedRoute}
 use Rattle.hub_devices.proofs.RouteLemmas.{Lists_map}
-use Rattle.hub_sync.proofs.shown.shown_routes.Goals as goal
+use Rattle.hub_devices.proofs.listing.listed_routes.Goals as goal
 
 in_a_list : {E : Type 0} (routes : List ListedRoute) (table : BTreeMap (List ℕ) (List ℕ × Option ℕ)) (made : Result (Vec ListedRoute Global) E)
     → IfOk made (λ (l : Vec ListedRoute Global). l.items ≡ map route_from table.entries) → IsOrdered (slice_cmp nat_cmp) table

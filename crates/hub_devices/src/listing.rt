@@ -1,11 +1,11 @@
-//! The routes of a list as they're shown: one for each path, in the order of paths.
+//! The routes of a list as a proxy lists them: one for each path, in the order of paths.
 ghost use Rattle.std.specs.Prelude.{◌≡◌, ℕ, List, map, IfOk};
 ghost use Rattle.std.specs.BTreeMap.{get, IsOrdered};
 ghost use Rattle.std.specs.Cmp.Lexicographic.{slice_cmp};
 ghost use Rattle.std.specs.Ordering.{nat_cmp};
 ghost use Rattle.hub_devices.specs.Routes.{Lists, route_from, route_of};
 
-use hub_devices::calls::ListedRoute;
+use crate::calls::ListedRoute;
 use hub_kit::text::Text;
 use std::alloc::{AllocError, Global};
 use std::collections::BTreeMap;
@@ -48,8 +48,8 @@ fn in_order(
 }
 
 /// The routes of a list, one for each path, in the order of paths. Of several of one path the first counts.
-pub fn shown_routes(alloc: Global, routes: &[ListedRoute]) -> Result<Vec<ListedRoute>, AllocError>
-    ensures { IfOk result (λ shown. Lists routes.now shown.items) }
+pub fn listed_routes(alloc: Global, routes: &[ListedRoute]) -> Result<Vec<ListedRoute>, AllocError>
+    ensures { IfOk result (λ listed. Lists routes.now listed.items) }
 {
     let table = by_path(alloc, routes)?;
     in_order(alloc, table)
