@@ -5,8 +5,9 @@
 # then one `session` makes the same calls in the order of their revisions, and has to give the same bytes, but for moments, tokens, codes.
 # `storm`: for $SECONDS_LONG (3600) eight connections start, stop, enter, revoke and change roles, while the hub's link to its proxy drops,
 # delays and repeats messages; nobody may get to a server by another's path. Then routes, leases and programs are compared, and one more
-# stop of each server has to free all of it. `hostile`: $BYTES (10000000) hostile bytes at the hub, the proxy's interface, the proxy and a
-# guard, which then answer as before, with memory and open files flat.
+# stop of each server has to free all of it. Each connection waits $PAUSE seconds (0) on average between two calls, so that a long storm
+# leaves a machine to others. `hostile`: $BYTES (10000000) hostile bytes at the hub, the proxy's interface, the proxy and a guard, which
+# then answer as before, with memory and open files flat.
 # $SEED (1) is where the random numbers begin, $HUB names the program `hub`; it is crates/hub/out/hub where that isn't set. It needs Python
 # alone, stands outside the gate, writes to a folder under /tmp, and ends with status 1 at the first thing that isn't as it should be.
 set -eu
@@ -19,6 +20,7 @@ program, parts = os.path.abspath(sys.argv[1]), sys.argv[2:]
 SEED = int(os.environ.get("SEED", "1"))
 ROUNDS = int(os.environ.get("ROUNDS", "20"))
 SECONDS = int(os.environ.get("SECONDS_LONG", "3600"))
+PAUSE = float(os.environ.get("PAUSE", "0"))
 BYTES = int(os.environ.get("BYTES", "10000000"))
 HUB, PROXY, API, LINK, GUARD, FIRST = 18700, 18701, 18702, 18703, 18704, 18710
 USERS = [f"u{n}" for n in range(8)]
@@ -86,6 +88,16 @@ def await_port(port):
         except OSError:
             time.sleep(0.05)
     fail(f"nobody listens at {port}")
+
+
+def weight(one):
+    memory = int(re.search(r"VmRSS:\s+(\d+)", open(f"/proc/{one.pid}/status").read())[1])
+    return memory, len(os.listdir(f"/proc/{one.pid}/fd"))
+
+
+def seconds_of(one):
+    spent = open(f"/proc/{one.pid}/stat").read().rsplit(")", 1)[1].split()
+    return (int(spent[11]) + int(spent[12])) / os.sysconf("SC_CLK_TCK")
 
 
 def stop(one):
@@ -418,6 +430,7 @@ def busy(seed, until, counts, lock):
                 fail(f"{way} of {user}/{server} is answered {status}")
             with lock:
                 counts[(way, status)] = counts.get((way, status), 0) + 1
+        time.sleep(rng.uniform(0, 2 * PAUSE))
 
 
 def storm():
@@ -427,7 +440,7 @@ def storm():
         file.write("secret-of-the-proxy\n")
     config(f'command = ["{sys.executable}", "-ISE", "server.py", "{{port}}", "{{user}}", "{{server}}"]\n'
            f'proxy_api = "http://127.0.0.1:{LINK}"\nproxy_secret = "secret-of-the-proxy"')
-    start("proxy", "--listen", f"127.0.0.1:{PROXY}", "--api", f"127.0.0.1:{API}", "--secret-file", "secret", says=b"ready\n")
+    proxy = start("proxy", "--listen", f"127.0.0.1:{PROXY}", "--api", f"127.0.0.1:{API}", "--secret-file", "secret", says=b"ready\n")
     link = BadLink(random.Random(SEED))
     hub = start("serve", "--config", "hub.toml", "--db", "hub.db", "--no-trail", "--workers", "12")
     await_port(HUB)
@@ -435,8 +448,10 @@ def storm():
     threads = [threading.Thread(target=busy, args=(SEED * 100 + n, until, counts, lock), daemon=True) for n in range(8)]
     for one in threads:
         one.start()
+    before = {}
     while any(one.is_alive() for one in threads):
         time.sleep(min(30, max(1, until - time.time())))
+        before = before or {name: weight(one) for name, one in [("hub", hub), ("proxy", proxy)]}
         print(f"{max(0, int(until - time.time()))} s left, {sum(counts.values())} calls", flush=True)
     link.bad = False
     while link.late:
@@ -454,6 +469,12 @@ def storm():
     left = [n for n in marked() if b"server.py" in open(f"/proc/{n}/cmdline", "rb").read()]
     if left:
         fail(f"the programs {left} are left when all is stopped")
+    for name, one in [("hub", hub), ("proxy", proxy)]:
+        (memory, files), (memory_then, files_then) = weight(one), before[name]
+        print(f"    {name}: {memory_then} KiB and {files_then} files at first, {memory} and {files} at the end;"
+              f" {seconds_of(one):.1f} s of a processor")
+        if files > files_then + 2:
+            fail(f"files stay open at the {name}")
     stop(hub)
     for (way, status), n in sorted(counts.items()):
         print(f"    {way} {status}: {n}")
@@ -541,11 +562,6 @@ def fill(port, count):
         while peer.recv(4096):
             pass
         peer.close()
-
-
-def weight(one):
-    memory = int(re.search(r"VmRSS:\s+(\d+)", open(f"/proc/{one.pid}/status").read())[1])
-    return memory, len(os.listdir(f"/proc/{one.pid}/fd"))
 
 
 def hostile():
