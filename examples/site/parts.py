@@ -46,11 +46,13 @@ def token():
 
 
 def parent_of(number):
+    """The number of a program's parent, and 0 where the program has ended, though its parent may not have asked for that yet."""
     try:
         with open(f"/proc/{number}/stat") as file:
-            return int(file.read().rsplit(")", 1)[1].split()[1])
+            state, parent = file.read().rsplit(")", 1)[1].split()[:2]
     except OSError:
         return 0
+    return 0 if state == "Z" else int(parent)
 
 
 def words_of(number):
