@@ -2,8 +2,9 @@
 # A session over a file in which one request for memory is refused: the first, the second and so on, each in a run of its own.
 # usage: docs/bench/memory.sh [PROGRAM [FIRST [STEP [LAST]]]]
 # PROGRAM is the program `hub` (crates/hub/out/hub if none is named: `./run` makes that). FIRST (1) is the number of the request for memory
-# that is refused in the first run, and STEP (1) is added from run to run, until a run makes fewer requests or LAST is passed. It needs a C
-# compiler and Python, stands outside the gate, writes to a folder under TMPDIR, and ends with status 1 at the first thing that isn't so:
+# that is refused in the first run, and STEP (1) is added from run to run, until a run makes fewer requests or LAST is passed. The variable
+# MANY (1) is how many requests in a row are refused. It needs a C compiler and Python, stands outside the gate, writes to a folder under
+# TMPDIR, and ends with status 1 at the first thing that isn't so:
 # - no run is killed, hangs, or ends with another status than 0, 4 and 7, and with 4 and 7 it says a line and has answered nothing;
 # - what is written is the front of what a session writes that is refused nothing, in whole replies, and after it at most one reply 507;
 # - the file then has exactly the changes that were answered, or one more where the 507 stands in the place of its reply;
@@ -14,31 +15,36 @@ exec python3 - "${1:-$top/crates/hub/out/hub}" "${2:-1}" "${3:-1}" "${4:-1000000
 import collections, os, re, shutil, sqlite3, subprocess, sys, tempfile
 
 program, first, step, last = sys.argv[1], int(sys.argv[2]), int(sys.argv[3]), int(sys.argv[4])
+many = os.environ.get("MANY", "1")
 SECONDS = 60
 WORDS = [program, "session", "1700000000", "ann", "secret-token-ann", "--admin", "--db"]
 
-# refuses the request for memory with the number of the environment, and tells on standard error that it came to it
+# refuses the request for memory with the number of the environment and those behind it, and tells on standard error that it came to it
 REFUSAL = r"""
+#include <errno.h>
 #include <stdlib.h>
 #include <unistd.h>
 extern void *__libc_malloc(size_t), *__libc_realloc(void *, size_t), *__libc_calloc(size_t, size_t);
 extern void *__libc_memalign(size_t, size_t);
-static long left;
+static long counted, from, many;
 __attribute__((constructor)) static void begin(void) {
-    char *number = getenv("REFUSED");
-    left = number ? atol(number) : 0;
+    from = getenv("REFUSED") ? atol(getenv("REFUSED")) : 0;
+    many = getenv("MANY") ? atol(getenv("MANY")) : 1;
 }
 static int is_refused(void) {
-    return left > 0 && --left == 0 && write(2, "refused\n", 8) == 8;
+    long at = __atomic_add_fetch(&counted, 1, __ATOMIC_SEQ_CST);
+    if (!from || at < from || at >= from + many || (at == from && write(2, "refused\n", 8) != 8)) return 0;
+    errno = ENOMEM;
+    return 1;
 }
 void *malloc(size_t size) { return is_refused() ? 0 : __libc_malloc(size); }
 void *realloc(void *kept, size_t size) { return is_refused() ? 0 : __libc_realloc(kept, size); }
 void *calloc(size_t count, size_t size) { return is_refused() ? 0 : __libc_calloc(count, size); }
 void *aligned_alloc(size_t align, size_t size) { return is_refused() ? 0 : __libc_memalign(align, size); }
 int posix_memalign(void **into, size_t align, size_t size) {
-    if (is_refused()) return 12;
+    if (is_refused()) return ENOMEM;
     *into = __libc_memalign(align, size);
-    return *into ? 0 : 12;
+    return *into ? 0 : ENOMEM;
 }
 """
 
@@ -68,7 +74,7 @@ LOOKS = [request(b"GET", b"users"), request(b"GET", b"groups"), request(b"GET", 
 
 def session(file, requests, refused=0):
     """What is written, the status, and what is said on standard error."""
-    outside = {"REFUSED": str(refused), "LD_PRELOAD": library} if refused else {}
+    outside = {"REFUSED": str(refused), "MANY": many, "LD_PRELOAD": library} if refused else {}
     try:
         ran = subprocess.run(WORDS + [file], input=b"".join(requests), capture_output=True, timeout=SECONDS, env=outside)
     except subprocess.TimeoutExpired:
