@@ -1,18 +1,20 @@
 #!/bin/sh
 # What no proof says of the running program: that random callers, a bad network and hostile bytes find nothing that isn't as it should be.
-# usage: docs/bench/storm.sh [replay] [storm] [hostile]
+# usage: docs/bench/storm.sh [replay] [storm] [kills] [hostile]
 # `replay`: eight connections at once make $ROUNDS times (20) 110 random calls each on users, groups, roles, tokens, shares and codes;
 # then one `session` makes the same calls in the order of their revisions, and has to give the same bytes, but for moments, tokens, codes.
 # `storm`: for $SECONDS_LONG (3600) eight connections start, stop, enter, revoke and change roles, while the hub's link to its proxy drops,
 # delays and repeats messages; nobody may get to a server by another's path. Then routes, leases and programs are compared, and one more
 # stop of each server has to free all of it. Each connection waits $PAUSE seconds (0) on average between two calls, so that a long storm
-# leaves a machine to others. `hostile`: $BYTES (10000000) hostile bytes at the hub, the proxy's interface, the proxy and a guard, which
-# then answer as before, with memory and open files flat.
+# leaves a machine to others. `kills`: for as long the hub is killed every few seconds and started again over its file, while each of eight
+# connections starts and stops own servers, makes and revokes tokens and changes a role; whatever was answered has to be so after each kill.
+# `hostile`: $BYTES (10000000) hostile bytes at the hub, the proxy's interface, the proxy and a guard, which then answer as before, with
+# memory and open files flat. It uses the ports from $PORT (18700) on.
 # $SEED (1) is where the random numbers begin, $HUB names the program `hub`; it is crates/hub/out/hub where that isn't set. It needs Python
 # alone, stands outside the gate, writes to a folder under /tmp, and ends with status 1 at the first thing that isn't as it should be.
 set -eu
 top=$(cd "$(dirname "$0")/../.." && pwd)
-[ $# -gt 0 ] || set -- replay storm hostile
+[ $# -gt 0 ] || set -- replay storm kills hostile
 exec python3 - "${HUB:-$top/crates/hub/out/hub}" "$@" <<'PYTHON'
 import http.client, json, os, random, re, resource, shutil, signal, socket, subprocess, sys, tempfile, threading, time
 
@@ -22,7 +24,8 @@ ROUNDS = int(os.environ.get("ROUNDS", "20"))
 SECONDS = int(os.environ.get("SECONDS_LONG", "3600"))
 PAUSE = float(os.environ.get("PAUSE", "0"))
 BYTES = int(os.environ.get("BYTES", "10000000"))
-HUB, PROXY, API, LINK, GUARD, FIRST = 18700, 18701, 18702, 18703, 18704, 18710
+PORT = int(os.environ.get("PORT", "18700"))
+HUB, PROXY, API, LINK, GUARD, FIRST = (PORT + more for more in (0, 1, 2, 3, 4, 10))
 USERS = [f"u{n}" for n in range(8)]
 POOL = 12
 # by this variable the processes of this run are told from others
@@ -273,7 +276,11 @@ import os, socket, sys
 port, user, server = int(sys.argv[1]), sys.argv[2], sys.argv[3]
 sys.stdin.readline()
 listener = socket.create_server(("127.0.0.1", port), backlog=64)
-os.write(1, b"ready\n")
+try:
+    os.write(1, b"ready\n")
+except OSError:
+    # the hub was killed meanwhile, and the next one takes the program over
+    pass
 body = f"{user}/{server}".encode()
 while True:
     peer, _ = listener.accept()
@@ -433,17 +440,27 @@ def busy(seed, until, counts, lock):
         time.sleep(rng.uniform(0, 2 * PAUSE))
 
 
-def storm():
+def start_proxy(its_api):
+    """A proxy, and the configuration of a hub that reaches its interface at this port."""
     with open(f"{place}/server.py", "w") as file:
         file.write(SERVER)
     with open(f"{place}/secret", "w") as file:
         file.write("secret-of-the-proxy\n")
     config(f'command = ["{sys.executable}", "-ISE", "server.py", "{{port}}", "{{user}}", "{{server}}"]\n'
-           f'proxy_api = "http://127.0.0.1:{LINK}"\nproxy_secret = "secret-of-the-proxy"')
-    proxy = start("proxy", "--listen", f"127.0.0.1:{PROXY}", "--api", f"127.0.0.1:{API}", "--secret-file", "secret", says=b"ready\n")
-    link = BadLink(random.Random(SEED))
+           f'proxy_api = "http://127.0.0.1:{its_api}"\nproxy_secret = "secret-of-the-proxy"')
+    return start("proxy", "--listen", f"127.0.0.1:{PROXY}", "--api", f"127.0.0.1:{API}", "--secret-file", "secret", says=b"ready\n")
+
+
+def start_hub():
     hub = start("serve", "--config", "hub.toml", "--db", "hub.db", "--no-trail", "--workers", "12")
     await_port(HUB)
+    return hub
+
+
+def storm():
+    proxy = start_proxy(LINK)
+    link = BadLink(random.Random(SEED))
+    hub = start_hub()
     counts, lock, until = {}, threading.Lock(), time.time() + SECONDS
     threads = [threading.Thread(target=busy, args=(SEED * 100 + n, until, counts, lock), daemon=True) for n in range(8)]
     for one in threads:
@@ -457,6 +474,22 @@ def storm():
     while link.late:
         time.sleep(0.1)
     compare_routes()
+    stop_all()
+    for name, one in [("hub", hub), ("proxy", proxy)]:
+        (memory, files), (memory_then, files_then) = weight(one), before[name]
+        print(f"    {name}: {memory_then} KiB and {files_then} files at first, {memory} and {files} at the end;"
+              f" {seconds_of(one):.1f} s of a processor")
+        if files > files_then + 2:
+            fail(f"files stay open at the {name}")
+    stop(hub)
+    for (way, status), n in sorted(counts.items()):
+        print(f"    {way} {status}: {n}")
+    print(f"    messages to the proxy: {link.counts}")
+    print(f"ok  {sum(counts.values())} calls in {SECONDS} s over a bad link: no path led to another's server, all was freed", flush=True)
+
+
+def stop_all():
+    """One more stop of each server frees its target, its route and its program."""
     for user in USERS:
         for server in ["", "lab"]:
             status, said = call(HUB, "DELETE", path_of(user, server), "secret-token-ann")
@@ -469,17 +502,6 @@ def storm():
     left = [n for n in marked() if b"server.py" in open(f"/proc/{n}/cmdline", "rb").read()]
     if left:
         fail(f"the programs {left} are left when all is stopped")
-    for name, one in [("hub", hub), ("proxy", proxy)]:
-        (memory, files), (memory_then, files_then) = weight(one), before[name]
-        print(f"    {name}: {memory_then} KiB and {files_then} files at first, {memory} and {files} at the end;"
-              f" {seconds_of(one):.1f} s of a processor")
-        if files > files_then + 2:
-            fail(f"files stay open at the {name}")
-    stop(hub)
-    for (way, status), n in sorted(counts.items()):
-        print(f"    {way} {status}: {n}")
-    print(f"    messages to the proxy: {link.counts}")
-    print(f"ok  {sum(counts.values())} calls in {SECONDS} s over a bad link: no path led to another's server, all was freed", flush=True)
 
 
 def compare_routes():
@@ -502,6 +524,133 @@ def compare_routes():
         if call(PROXY, "GET", f"{path}/page")[1].decode() != whose:
             fail(f"{path} leads to another server")
     print(f"ok  {len(ready)} ready servers have their own routes; {len(live) - len(ready)} are to be stopped once more", flush=True)
+
+
+# ---- kills
+
+
+class Owner:
+    """One connection, which alone changes one user's servers and tokens and one role, so that it knows what has to be there."""
+
+    def __init__(self, n):
+        self.rng, self.user, self.role, self.scopes = random.Random(SEED * 100 + n), USERS[n], f"own{n}", None
+        self.good, self.revoked, self.live, self.calls = {}, [], set(), 0
+
+    def call(self, method, path, token="secret-token-ann", body=None, port=HUB):
+        """The answer, or nothing where the hub was killed meanwhile; then it is there again."""
+        try:
+            self.calls += 1
+            return call(port, method, path, token, body)
+        except (OSError, http.client.HTTPException):
+            self.sure("GET", "/hub/api/")
+            return None
+
+    def sure(self, method, path, token="secret-token-ann"):
+        """What a reading answers, however often the hub is killed."""
+        for _ in range(600):
+            try:
+                return call(HUB, method, path, token)
+            except (OSError, http.client.HTTPException):
+                time.sleep(0.1)
+        fail("the hub doesn't come back")
+
+    def expect(self, what, told, *allowed):
+        if told is not None and told[0] not in allowed:
+            fail(f"{what} of {self.user} is answered {told}")
+        return told is not None
+
+    def shown_role(self):
+        status, body = self.sure("GET", f"/hub/api/roles/{self.role}")
+        return json.loads(body)["scopes"] if status == 200 else None
+
+    def servers(self):
+        return json.loads(self.sure("GET", f"/hub/api/users/{self.user}")[1])["servers"]
+
+    def change_role(self):
+        scopes = self.rng.choice([None, ["list:users"], ["read:users"], [f"servers!user={self.user}"]])
+        path = f"/hub/api/roles/{self.role}"
+        told = self.call("DELETE", path) if scopes is None else self.call("PUT", path, body={"scopes": scopes})
+        if not self.expect("a role", told, 200, 201, 204, 404) and self.shown_role() == self.scopes:
+            return
+        self.scopes = scopes
+
+    def make_token(self):
+        told = self.call("POST", f"/hub/api/users/{self.user}/tokens", body={})
+        if self.expect("a token", told, 201):
+            self.good[json.loads(told[1])["id"]] = json.loads(told[1])["token"]
+
+    def revoke(self):
+        if self.good:
+            number = self.rng.choice(list(self.good))
+            token = self.good.pop(number)
+            told = self.call("DELETE", f"/hub/api/users/{self.user}/tokens/{number}")
+            if self.expect("a revocation", told, 204) or self.sure("GET", "/hub/api/user", token)[0] == 403:
+                self.revoked.append(token)
+            else:
+                self.good[number] = token
+
+    def start_or_stop(self):
+        server = self.rng.choice(["", "lab"])
+        path = path_of(self.user, server)
+        if server in self.live:
+            sure = self.expect("a stop", self.call("DELETE", path), 204)
+            is_live = False
+        else:
+            # fewer targets than servers
+            told = self.call("POST", path)
+            sure = self.expect("a start", told, 201, 429)
+            is_live = bool(told) and told[0] == 201
+        while not sure:
+            # it was killed in the middle: either all is as before, or a stop makes an end
+            shown = self.servers().get(server)
+            is_live = bool(shown and shown["ready"])
+            sure = is_live or not shown or self.expect("a stop after a kill", self.call("DELETE", path), 204)
+        (self.live.add if is_live else self.live.discard)(server)
+
+    def see(self):
+        """All that was answered is so."""
+        if self.shown_role() != self.scopes:
+            fail(f"the role {self.role} is {self.shown_role()}, and was {self.scopes}")
+        for token in list(self.good.values())[-4:]:
+            if self.sure("GET", "/hub/api/user", token)[0] != 200:
+                fail(f"a token of {self.user} is lost")
+        for token in self.revoked[-4:]:
+            if self.sure("GET", "/hub/api/user", token)[0] != 403:
+                fail(f"a revoked token of {self.user} is good")
+        shown = self.servers()
+        if set(shown) != self.live or not all(it["ready"] for it in shown.values()):
+            fail(f"{self.user} has the servers {shown}, and had {self.live}")
+        for server in self.live:
+            path = f"/user/{self.user}/{server}/page" if server else f"/user/{self.user}/page"
+            if (told := call(PROXY, "GET", path)) != (200, f"{self.user}/{server}".encode()):
+                fail(f"{path} is answered {told}")
+
+    def run(self, until):
+        while time.time() < until:
+            self.rng.choice([self.change_role, self.make_token, self.revoke, self.start_or_stop, self.start_or_stop, self.see])()
+            time.sleep(self.rng.uniform(0, 2 * PAUSE))
+        self.see()
+
+
+def kills():
+    start_proxy(API)
+    hub, killed, until, rng = start_hub(), 0, time.time() + SECONDS, random.Random(SEED)
+    owners = [Owner(n) for n in range(8)]
+    threads = [threading.Thread(target=one.run, args=(until,), daemon=True) for one in owners]
+    for one in threads:
+        one.start()
+    while any(one.is_alive() for one in threads):
+        time.sleep(rng.uniform(1, 6))
+        if time.time() < until:
+            hub.kill()
+            hub.wait()
+            running.remove(hub)
+            hub, killed = start_hub(), killed + 1
+            if killed % 10 == 0:
+                print(f"{killed} kills, {sum(it.calls for it in owners)} calls", flush=True)
+    stop_all()
+    stop(hub)
+    print(f"ok  {killed} kills in {SECONDS} s and {sum(it.calls for it in owners)} calls: nothing that was answered is lost", flush=True)
 
 
 # ---- hostile bytes
@@ -614,7 +763,7 @@ def hostile():
 
 
 for part in parts:
-    {"replay": replay, "storm": storm, "hostile": hostile}[part]()
+    {"replay": replay, "storm": storm, "kills": kills, "hostile": hostile}[part]()
     for one in running:
         if one.poll() is None:
             one.kill()
