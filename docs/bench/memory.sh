@@ -11,42 +11,13 @@
 # - the next session opens the file, and SQLite itself finds nothing wrong in it.
 set -eu
 top=$(cd "$(dirname "$0")/../.." && pwd)
-exec python3 - "${1:-$top/crates/hub/out/hub}" "${2:-1}" "${3:-1}" "${4:-1000000000}" <<'END'
+exec python3 - "$top/docs/bench/refusal.c" "${1:-$top/crates/hub/out/hub}" "${2:-1}" "${3:-1}" "${4:-1000000000}" <<'END'
 import collections, os, re, shutil, sqlite3, subprocess, sys, tempfile
 
-program, first, step, last = sys.argv[1], int(sys.argv[2]), int(sys.argv[3]), int(sys.argv[4])
+refusal, program, first, step, last = *sys.argv[1:3], *(int(it) for it in sys.argv[3:])
 many = os.environ.get("MANY", "1")
 SECONDS = 60
 WORDS = [program, "session", "1700000000", "ann", "secret-token-ann", "--admin", "--db"]
-
-# refuses the request for memory with the number of the environment and those behind it, and tells on standard error that it came to it
-REFUSAL = r"""
-#include <errno.h>
-#include <stdlib.h>
-#include <unistd.h>
-extern void *__libc_malloc(size_t), *__libc_realloc(void *, size_t), *__libc_calloc(size_t, size_t);
-extern void *__libc_memalign(size_t, size_t);
-static long counted, from, many;
-__attribute__((constructor)) static void begin(void) {
-    from = getenv("REFUSED") ? atol(getenv("REFUSED")) : 0;
-    many = getenv("MANY") ? atol(getenv("MANY")) : 1;
-}
-static int is_refused(void) {
-    long at = __atomic_add_fetch(&counted, 1, __ATOMIC_SEQ_CST);
-    if (!from || at < from || at >= from + many || (at == from && write(2, "refused\n", 8) != 8)) return 0;
-    errno = ENOMEM;
-    return 1;
-}
-void *malloc(size_t size) { return is_refused() ? 0 : __libc_malloc(size); }
-void *realloc(void *kept, size_t size) { return is_refused() ? 0 : __libc_realloc(kept, size); }
-void *calloc(size_t count, size_t size) { return is_refused() ? 0 : __libc_calloc(count, size); }
-void *aligned_alloc(size_t align, size_t size) { return is_refused() ? 0 : __libc_memalign(align, size); }
-int posix_memalign(void **into, size_t align, size_t size) {
-    if (is_refused()) return ENOMEM;
-    *into = __libc_memalign(align, size);
-    return *into ? 0 : ENOMEM;
-}
-"""
 
 
 def request(method, path, body=b""):
@@ -152,7 +123,7 @@ def run(number):
 
 with tempfile.TemporaryDirectory() as folder:
     library = f"{folder}/refusal.so"
-    subprocess.run(["cc", "-O2", "-shared", "-fPIC", "-x", "c", "-", "-o", library], input=REFUSAL.encode(), check=True)
+    subprocess.run(["cc", "-O2", "-shared", "-fPIC", refusal, "-o", library], check=True)
     calm, found = whole()
     ends, number = collections.Counter(), first
     while number <= last and (end := run(number)) is not None:
