@@ -1,16 +1,27 @@
 -- Some requests that were accepted, and then others.
-use Rattle.std.proofs.Common.{◌≡◌, ℕ, suc, ◌+◌, arith, List, [], ◌∷◌, ◌++◌, map, All, Option, Result, Ok, OnOk, append_assoc, refl, sym, ap, ◌∙◌, subst}
+use Rattle.std.proofs.Common.{◌≡◌, ℕ, suc, ◌+◌, arith, List, [], ◌∷◌, ◌++◌, map, Option, Result, Ok, OnOk, append_assoc, refl, ap, ◌∙◌, subst}
 use Rattle.std.proofs.lemmas.List.{map-append}
 use Rattle.std.proofs.lemmas.Result.{on_ok_weaker}
 use Rattle.std.proofs.lemmas.List.Elements.{All-nil, All-cons, All-append}
+use Rattle.hub_devices.specs.Calls.{Grows}
 use Rattle.hub_devices.specs.declared.link_error.LinkError.{LinkError}
-use Rattle.hub_link.specs.Links.{Exchange, Asks}
+use Rattle.hub_link.specs.Links.{Asks, reply_of}
 use Rattle.hub_link.specs.Replies.{IsReply}
-use Rattle.hub_link.proofs.AskLemmas.{no_ask, asks_then}
-use Rattle.load_asks.specs.Posts.{Accepted, IsAccepted, request_of, posts}
+use Rattle.hub_link.proofs.AskLemmas.{no_ask, one_ask, asks_then}
+use Rattle.load_asks.specs.Posts.{Accepted, Reached, IsAccepted, request_of, posts}
 use Rattle.load_asks.specs.Requests.{user_request, token_request}
 
 module _ {L : Type 0} (asked : L → Option (List (List ℕ × Option (List ℕ)))) (does : L → List ℕ → Result (List ℕ) LinkError → L → Type 0) where
+  pub reached_none : (link : L) → Reached asked does link link
+  reached_none link = ([], no_ask asked does link)
+
+  pub reached_ask : (old new : L) (request : List ℕ) (given : Result (List ℕ) LinkError) → does old request given new
+      → Grows (asked old) ((request, reply_of given) ∷ []) (asked new) → Reached asked does old new
+  reached_ask old new request given met told = ((request, given) ∷ [], one_ask asked does old new request request given refl met told)
+
+  pub reached_then : (old between new : L) → Reached asked does old between → Reached asked does between new → Reached asked does old new
+  reached_then old between new (xs, one) (ys, two) = (xs ++ ys, asks_then asked does old between new xs ys one two)
+
   pub none_accepted : (link : L) → Accepted asked does link [] link
   none_accepted link = record { asks = []; chain = no_ask asked does link; are = refl; accepted = All-nil IsAccepted }
 

@@ -2,6 +2,7 @@
 ghost use Rattle.std.specs.Prelude.{◌≡◌, List, ℕ, [], ◌∷◌, Ok, IfSome};
 ghost use Rattle.hub_link.specs.Links.{Asks};
 ghost use Rattle.hub_link.specs.Replies.{IsReply};
+ghost use Rattle.load_asks.specs.Posts.{Reached};
 
 use hub_kit::bytes::Bytes;
 use hub_link::link::HubLink;
@@ -9,7 +10,8 @@ use hub_link::replies::read_reply;
 
 /// Asks a hub, and gives the status of what came, if it is a reply.
 pub fn ask_status<H: HubLink>(link: &mut H, request: &Bytes) -> Option<u16>
-    ensures { IfSome result (λ status. (bytes body : List ℕ)
+    ensures reached { Reached H.asked H.does link.old link.new }
+    ensures status { IfSome result (λ status. (bytes body : List ℕ)
         × Asks H.asked H.does link.old ((request.now, Ok bytes) ∷ []) link.new × IsReply bytes status body) }
 {
     match link.ask(request) {

@@ -1,4 +1,3 @@
-use Rattle.std.proofs.Common.{◌≡◌}
 use Rattle.load_asks.specs.Hashes.{Keeps, AreApart}
 use Rattle.load_asks.proofs.hashes.find_kept.Given as goal
 
