@@ -1,0 +1,11 @@
+pub mod RoundLemmas
+pub mod GetLemmas
+pub mod SeenLemmas
+pub mod LinkLemmas
+pub mod BoolLemmas
+pub mod TokenLemmas
+pub mod HeadLemmas
+pub mod JobLemmas
+pub mod SettingLemmas
+pub mod EndLemmas
+pub mod WordLemmas

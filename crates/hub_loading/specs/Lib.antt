@@ -1,0 +1,6 @@
+pub mod Setting
+pub mod Seeing
+pub mod Rounds
+pub mod Jobs
+pub mod Lines
+pub mod Runs
