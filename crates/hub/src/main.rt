@@ -7,6 +7,7 @@ use guard_command::guard;
 use hub_edge::output::say;
 use hub_edge::standard::{self, NoWords};
 use hub_store::command::run_over_file;
+use load_command::load;
 use proxy_command::proxy;
 use serve_command::serve;
 use session_command::Session;
@@ -34,6 +35,7 @@ fn main(rt: HostRuntime) -> ExitCode {
         [first, ..] if first.as_str() == "proxy" => proxy(rt, &rt, words),
         [first, ..] if first.as_str() == "guard" => guard(rt, &rt, words),
         [first, ..] if first.as_str() == "cull" => cull(rt, words),
+        [first, ..] if first.as_str() == "load" => load(rt, &rt, words),
         _ => status(rt, run_over_file(rt, Unknown, &Session::new(rt, words))),
     }
 }
