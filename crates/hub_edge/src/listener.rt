@@ -117,14 +117,14 @@ impl SocketListener {
         })
     }
 
-    /// The next connection that has sent something. Where none can be taken it waits before the next try.
-    fn next_stream(&mut self) -> io::Result<TcpStream>
+    /// The next connection that has sent something, as its two sides. Where none can be taken it waits before the next try.
+    fn next_sides(&mut self) -> io::Result<(SocketSource, SocketSink)>
         ensures { self.new.faults ≡ self.old.faults }
     {
         let mut failed = 0u32;
         for _ in 0..u64::MAX {
-            match self.try_next() {
-                Ok(Some(stream)) => return Ok(stream),
+            match self.try_sides() {
+                Ok(Some(sides)) => return Ok(sides),
                 Ok(None) => failed = 0,
                 Err(error) => {
                     failed = failed.saturating_add(1);
@@ -136,6 +136,19 @@ impl SocketListener {
             }
         }
         Err(io::Error::from(ErrorKind::Other))
+    }
+
+    /// The two sides of a caller, if one came. A caller for whose sides there is no memory is let go.
+    fn try_sides(&mut self) -> io::Result<Option<(SocketSource, SocketSink)>>
+        ensures { self.new.faults ≡ self.old.faults }
+    {
+        match self.try_next()? {
+            Some(stream) => {
+                let door = Arc::try_clone(&self.door)?;
+                Ok(Some(sides(self.rt, stream, Some(door))?))
+            }
+            None => Ok(None),
+        }
     }
 
     /// Waits for a caller or for a silent one to say something.
@@ -214,15 +227,6 @@ impl SocketListener {
         } else {
             drop(self.silent.remove(0));
         }
-    }
-
-    /// The next connection, as its two sides.
-    fn next_sides(&mut self) -> io::Result<(SocketSource, SocketSink)>
-        ensures { self.new.faults ≡ self.old.faults }
-    {
-        let stream = self.next_stream()?;
-        let door = Arc::try_clone(&self.door)?;
-        Ok(sides(self.rt, stream, Some(door))?)
     }
 }
 

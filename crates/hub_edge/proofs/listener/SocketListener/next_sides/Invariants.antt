@@ -1,5 +1,5 @@
 use Rattle.std.proofs.Common.{◌≡◌}
-use Rattle.hub_edge.proofs.listener.SocketListener.next_stream.Given as goal
+use Rattle.hub_edge.proofs.listener.SocketListener.next_sides.Given as goal
 
 abbrev pub invariant-loop : goal.invariant-loop
 invariant-loop l = l.self.faults ≡ l.fn.self.faults
