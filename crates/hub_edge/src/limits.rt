@@ -53,3 +53,10 @@ pub const READY_SECONDS: u64 = 60;
 
 /// How many seconds a program has to end in peace.
 pub const END_SECONDS: u64 = 10;
+
+/// How many seconds the address of a program that another run of the hub started may be held behind its end, as a large one holds it until
+/// the system has taken its memory back.
+pub const LET_GO_SECONDS: u64 = 5;
+
+/// How many milliseconds pass before such an address is looked at again.
+pub const LOOK_AGAIN_MILLIS: u64 = 50;

@@ -4,7 +4,7 @@ ghost use Rattle.std.specs.Prelude.{None};
 use crate::adopted::{Marked, end_found};
 use crate::groups::{end, has_ended};
 use crate::starting::{StartFault, await_ready, drain, start_program, tell_secret};
-use crate::targets::is_served;
+use crate::targets::{is_held, is_served};
 use hub_devices::source::Failed;
 use hub_devices::spawner::Spawner;
 use hub_kit::list::List;
@@ -156,7 +156,7 @@ impl<H: Threads + Wait + Copy> Programs<H> {
             target,
         };
         end_found(&self.rt, marked)?;
-        if is_served(&self.rt, target)? {
+        if is_held(&self.rt, target)? {
             return Err(io::Error::from(ErrorKind::ResourceBusy));
         }
         Ok(())

@@ -1,11 +1,13 @@
 //! Connections to targets.
 use crate::connection::{SocketSink, SocketSource, sides};
-use crate::limits::{CONNECT_SECONDS, TARGET_READ_SECONDS};
+use crate::limits::{CONNECT_SECONDS, LET_GO_SECONDS, LOOK_AGAIN_MILLIS, TARGET_READ_SECONDS};
 use crate::listener::set_options;
+use crate::waiting::time_left;
 use hub_kit::target::Target;
 use std::io::{self, ErrorKind};
 use std::net::{TcpStream, ToSocketAddrs};
-use std::time::Duration;
+use std::thread;
+use std::time::{Duration, Instant};
 
 /// `HOST:PORT` of a target.
 pub(crate) fn address_of(target: &Target) -> &str {
@@ -32,6 +34,21 @@ pub(crate) fn is_served(rt: &HostRuntime, target: &Target) -> io::Result<bool> {
         Err(error) if error.kind() == ErrorKind::ConnectionRefused => Ok(false),
         Err(error) => Err(error),
     }
+}
+
+/// Whether a target is still served once those that end have had time to let go of it.
+pub(crate) fn is_held(rt: &HostRuntime, target: &Target) -> io::Result<bool> {
+    let begun = Instant::now(rt)?;
+    for _ in 0..10_000 {
+        if !is_served(rt, target)? {
+            return Ok(false);
+        }
+        if time_left(rt, begun, Duration::from_secs(LET_GO_SECONDS))?.is_none() {
+            break;
+        }
+        thread::sleep(rt, Duration::from_millis(LOOK_AGAIN_MILLIS));
+    }
+    Ok(true)
 }
 
 /// A connection to a target.
