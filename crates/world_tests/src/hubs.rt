@@ -1,4 +1,4 @@
-//! The hub of the tests: ann and bob with a token each, one target, and a keeper in memory.
+//! The hub of the tests: ann, an admin, and bob with a token each, one target, and a keeper in memory.
 ghost use Rattle.std.specs.Prelude.{◌≡◌, ◌≤◌, ◌^◌};
 ghost use Rattle.hub_opening.specs.Kept.{MakeTable};
 
@@ -16,6 +16,7 @@ use hub_kit::text::Text;
 use hub_machine::change::Change;
 use hub_opening::config::{ConfigToken, ConfigUser, HubConfig, greatest_limits};
 use hub_run::HubKit;
+use keeper::keeper::Keeper;
 use keeper::mem_keeper::MemKeeper;
 use keeper::trail::ListTrail;
 use late_routes::{LatePlan, LateRoutes};
@@ -26,7 +27,10 @@ use server_life::Pool;
 use std::alloc::Global;
 use std::process::Abort;
 
-pub type MemBook = Book<MemKeeper, ListTrail<Change>>;
+/// The book of a hub over a keeper.
+pub type BookOver<K> = Book<K, ListTrail<Change>>;
+
+pub type MemBook = BookOver<MemKeeper>;
 
 pub type LateKit = HubKit<MemSpawner, LateRoutes, FixedClock, ListRandom>;
 
@@ -92,7 +96,7 @@ fn config(rt: &impl Abort, alloc: Global) -> HubConfig
     let users = vec![in alloc;
         ConfigUser {
             name: user(rt, b"ann"),
-            admin: false
+            admin: true
         },
         ConfigUser {
             name: user(rt, b"bob"),
@@ -122,15 +126,23 @@ pub fn failing(rt: &impl Abort, alloc: Global, call: u64) -> Vec<u64> {
     Vec::from_slice(alloc, &[call]).expect(rt, "there is memory")
 }
 
-/// The book of that configuration. The keeper's call with this number fails; the opening makes the first two.
-pub fn book_failing(rt: &impl Abort, alloc: Global, call: u64) -> MemBook {
-    let failing = failing(rt, alloc, call);
-    let keeper = MemKeeper::new(alloc, Vec::new(alloc), failing).expect(rt, "there is memory");
+/// The book of that configuration over a keeper, or the keeper where that is refused.
+pub fn open_book<K: Keeper>(rt: &impl Abort, alloc: Global, keeper: K) -> Result<BookOver<K>, K> {
     let config = config(rt, alloc);
     let now = Moment::up_to(NOW);
     let book = Book::open(alloc, keeper, ListTrail::new(alloc), &config, now);
     drop(config);
     match book {
+        Ok(book) => Ok(book),
+        Err((keeper, _)) => Err(keeper),
+    }
+}
+
+/// The book of that configuration. The keeper's call with this number fails; the opening makes the first two.
+pub fn book_failing(rt: &impl Abort, alloc: Global, call: u64) -> MemBook {
+    let failing = failing(rt, alloc, call);
+    let keeper = MemKeeper::new(alloc, Vec::new(alloc), failing).expect(rt, "there is memory");
+    match open_book(rt, alloc, keeper) {
         Ok(book) => book,
         Err(_) => panic!(rt; "no book"),
     }
@@ -143,26 +155,30 @@ pub fn late_routes(rt: &impl Abort, alloc: Global, plans: &[LatePlan]) -> LateRo
     LateRoutes::new(alloc, 10, plans)
 }
 
-/// A clock that stands still, and three draws: each start that is asked for takes one, also one that is refused.
+/// What the devices of a hub may draw: each start that is asked for takes one, also one that is refused.
+pub const DRAWS: [[u8; 16]; 6] = [
+    [0, 0, 0, 0, 0, 0, 0, 0, 0, 0, 0, 0, 0, 0, 0, 1],
+    [0, 0, 0, 0, 0, 0, 0, 0, 0, 0, 0, 0, 0, 0, 0, 2],
+    [0, 0, 0, 0, 0, 0, 0, 0, 0, 0, 0, 0, 0, 0, 0, 3],
+    [0, 0, 0, 0, 0, 0, 0, 0, 0, 0, 0, 0, 0, 0, 1, 1],
+    [0, 0, 0, 0, 0, 0, 0, 0, 0, 0, 0, 0, 0, 0, 1, 2],
+    [0, 0, 0, 0, 0, 0, 0, 0, 0, 0, 0, 0, 0, 0, 1, 3],
+];
+
+/// A spawner and draws whose calls with these numbers fail, with a clock that stands still.
 pub fn kit(
     rt: &impl Abort,
     alloc: Global,
-    spawner: MemSpawner,
     routes: LateRoutes,
-    draw: u8,
+    failing_spawn: u64,
+    failing_draw: u64,
+    draws: &[[u8; 16]],
 ) -> LateKit {
-    let draws = vec![in alloc;
-        [0, 0, 0, 0, 0, 0, 0, 0, 0, 0, 0, 0, 0, 0, draw, 1],
-        [0, 0, 0, 0, 0, 0, 0, 0, 0, 0, 0, 0, 0, 0, draw, 2],
-        [0, 0, 0, 0, 0, 0, 0, 0, 0, 0, 0, 0, 0, 0, draw, 3],
-    ];
+    let draws = Vec::from_slice(alloc, draws).expect(rt, "there is memory");
     HubKit {
-        spawner,
+        spawner: MemSpawner::new(alloc, failing(rt, alloc, failing_spawn)),
         routes,
         clock: FixedClock(Moment::up_to(NOW)),
-        random: ListRandom::new(
-            draws.expect(rt, "there is memory"),
-            failing(rt, alloc, NEVER),
-        ),
+        random: ListRandom::new(draws, failing(rt, alloc, failing_draw)),
     }
 }

@@ -1,17 +1,14 @@
 //! A start, a stop and a start, while each of the first twelve calls on the spawner, the proxy and the keeper fails in turn: what is
 //! replied, that programs, routes and leases are of one piece then, and that a further stop frees the target.
-ghost use Rattle.std.specs.Prelude.{◌≡◌};
-
-use crate::hubs::{
-    LateKit, MemBook, NEVER, book_failing, bytes, check, failing, kit, late_routes, open_desk,
-};
-use desk::{Desk, Pass};
+use crate::connections::{are_statuses, served_over};
+use crate::hubs::{DRAWS, LateKit, MemBook, NEVER, book_failing, bytes, check, kit, late_routes};
 use hub_devices::calls::{Spawning, Told};
 use hub_devices::mem_bytes::{MemSink, MemSource};
 use hub_devices::mem_spawner::MemSpawner;
-use hub_run::{Served, serve_connection};
+use hub_run::Served;
 use late_routes::LatePlan;
 use route_table::route::Route;
+use route_table::routes::Routes;
 use std::alloc::Global;
 use std::process::Abort;
 use std::sync::Wait;
@@ -167,73 +164,67 @@ fn number_of(failing: Failing, device: Failing, number: u64) -> u64 {
 }
 
 /// Devices of which this call fails: the message of one to the proxy is lost.
-fn kit_of(rt: &impl Abort, alloc: Global, failure: Failing, number: u64, draw: u8) -> LateKit {
+fn kit_of(rt: &impl Abort, alloc: Global, failing: Failing, number: u64) -> LateKit {
+    let lost = number_of(failing, Failing::Proxy, number);
     let mut plans = [LatePlan::Done; 12];
-    let lost = number_of(failure, Failing::Proxy, number);
     for at in 0..12 {
         if at as u64 == lost {
             plans[at] = LatePlan::Lost;
         }
     }
-    let spawn = number_of(failure, Failing::Spawner, number);
-    let spawner = MemSpawner::new(alloc, failing(rt, alloc, spawn));
-    kit(rt, alloc, spawner, late_routes(rt, alloc, &plans), draw)
+    let spawn = number_of(failing, Failing::Spawner, number);
+    let routes = late_routes(rt, alloc, &plans);
+    kit(rt, alloc, routes, spawn, NEVER, &DRAWS[..3])
 }
 
-/// Whether the replies on the wire have these statuses.
-fn are_statuses(output: &[u8], statuses: &[&str]) -> bool {
-    let mut found = 0;
-    for at in 0..output.len() {
-        let rest = &output[at..];
-        if rest.starts_with(b"HTTP/1.1 ") {
-            let Some(status) = statuses.get(found) else {
-                return false;
-            };
-            if !rest[9..].starts_with(status.as_bytes()) {
-                return false;
-            }
-            found += 1;
-        }
-    }
-    found == statuses.len()
-}
-
-/// Whether a connection that asks this gets replies of these statuses, and ends then.
+/// Whether a connection to the hub with this book that asks this gets replies of these statuses, and ends then; and the book.
 fn is_served<R: Abort + Wait>(
     rt: &R,
     alloc: Global,
-    desk: &Desk<MemBook>,
-    pass: &mut Pass<MemBook>,
+    book: MemBook,
     kit: &mut LateKit,
     input: &[u8],
     statuses: &[&str],
-) -> bool
-    requires { pass.old.of ≡ desk.now }
-    ensures { pass.new.of ≡ pass.old.of }
-{
-    let input = bytes(rt, alloc, input);
-    let mut source = MemSource::new(input, 100, Vec::new(alloc));
+) -> (bool, MemBook) {
+    let source = MemSource::new(bytes(rt, alloc, input), 100, Vec::new(alloc));
     let mut sink = MemSink::new(alloc, Vec::new(alloc));
-    let served = serve_connection(rt, alloc, desk, pass, &mut source, &mut sink, kit);
-    (served == Ok(Served::Ended(statuses.len() as u64))) & are_statuses(sink.as_slice(), statuses)
+    let (end, book) = served_over(rt, alloc, book, kit, source, &mut sink);
+    let so = (end == Ok(Served::Ended(statuses.len() as u64)))
+        & are_statuses(sink.as_slice(), statuses);
+    drop(sink);
+    (so, book)
 }
 
-/// The generations whose programs run: those that were started and not stopped since.
-fn running(rt: &impl Abort, alloc: Global, spawner: &MemSpawner) -> Vec<u64> {
-    let mut running = Vec::new(alloc);
-    let Some(calls) = spawner.calls() else {
-        panic!(rt; "the calls are told");
-    };
+/// The generation whose program runs, if one does; or the one that was started while another ran at the one target.
+fn running(calls: &[(Spawning, Told)]) -> Result<Option<u64>, u64> {
+    let mut runs = None;
     for (call, told) in calls {
         match (call, told) {
-            (Spawning::Start(generation, ..), Told::Done) => {
-                running.push(*generation).expect(rt, "there is memory");
+            (Spawning::Start(generation, ..), Told::Done) => match runs {
+                Some(_) => return Err(*generation),
+                None => runs = Some(*generation),
+            },
+            (Spawning::Stop(generation, ..), Told::Done) => {
+                if runs == Some(*generation) {
+                    runs = None;
+                }
             }
-            (Spawning::Stop(generation, ..), Told::Done) => running.retain(|g| *g != *generation),
             _ => {}
         }
     }
-    running
+    Ok(runs)
+}
+
+/// Whether at most one program ever ran, and the one that runs now is of a live generation.
+fn are_leased_programs(book: &MemBook, spawner: &MemSpawner) -> bool {
+    let Some(calls) = spawner.calls() else {
+        return false;
+    };
+    match running(calls) {
+        Ok(Some(generation)) => book.server_of(generation).is_some(),
+        Ok(None) => true,
+        Err(_) => false,
+    }
 }
 
 /// Whether the route is that of ann's live server of its generation.
@@ -253,17 +244,14 @@ fn is_leased(book: &MemBook, route: &Route) -> bool {
     }
 }
 
-/// Whether each route and each program is of a live generation, and no two programs run at the one target.
-fn are_leased(rt: &impl Abort, alloc: Global, book: &MemBook, kit: &LateKit) -> bool {
-    let running = running(rt, alloc, &kit.spawner);
-    let mut all = running.len() <= 1;
-    for generation in running.as_slice() {
-        all &= book.server_of(*generation).is_some();
-    }
-    let routes = kit.routes.table().list(None).expect(rt, "there is memory");
+/// Whether each route is that of a live server of its generation.
+fn are_leased_routes(rt: &impl Abort, alloc: Global, book: &MemBook, table: &Routes) -> bool {
+    let routes = table.list(None).expect(rt, "there is memory");
+    let mut all = true;
     for route in routes.as_slice() {
         all &= is_leased(book, route);
     }
+    drop(routes);
     all
 }
 
@@ -271,25 +259,23 @@ fn are_leased(rt: &impl Abort, alloc: Global, book: &MemBook, kit: &LateKit) -> 
 /// stop frees the target.
 fn fails_so<R: Abort + Wait>(rt: &R, alloc: Global, failure: &Failure, number: u64) -> bool {
     let commit = number_of(failure.failing, Failing::Keeper, number);
-    let (desk, mut pass) = open_desk(rt, alloc, book_failing(rt, alloc, commit));
-    let mut kit = kit_of(rt, alloc, failure.failing, number, 0);
-    let replied = is_served(
-        rt,
-        alloc,
-        &desk,
-        &mut pass,
-        &mut kit,
-        SCRIPT,
-        failure.statuses,
-    );
-    let book = desk.close(rt, pass);
-    let leased = are_leased(rt, alloc, &book, &kit);
-    let (desk, mut pass) = open_desk(rt, alloc, book);
-    let mut calm = kit_of(rt, alloc, Failing::Spawner, NEVER, 1);
-    let freed = is_served(rt, alloc, &desk, &mut pass, &mut calm, AFTER, failure.after);
-    let book = desk.close(rt, pass);
+    let book = book_failing(rt, alloc, commit);
+    let mut kit = kit_of(rt, alloc, failure.failing, number);
+    let (replied, book) = is_served(rt, alloc, book, &mut kit, SCRIPT, failure.statuses);
+    let leased = are_leased_programs(&book, &kit.spawner)
+        & are_leased_routes(rt, alloc, &book, kit.routes.table());
+    drop(kit);
+    replied & leased & is_freed(rt, alloc, book, failure)
+}
+
+/// Whether two stops and the start of another server, over devices that work again, are answered as the row says.
+fn is_freed<R: Abort + Wait>(rt: &R, alloc: Global, book: MemBook, failure: &Failure) -> bool {
+    let routes = late_routes(rt, alloc, &[]);
+    let mut kit = kit(rt, alloc, routes, NEVER, NEVER, &DRAWS[3..]);
+    let (freed, book) = is_served(rt, alloc, book, &mut kit, AFTER, failure.after);
     drop(book);
-    replied & leased & freed
+    drop(kit);
+    freed
 }
 
 #[test]

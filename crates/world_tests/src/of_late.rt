@@ -1,9 +1,9 @@
 //! Connections over a route link whose messages are lost or late: what is written, and which routes are listed once all were delivered.
-use crate::hubs::{NEVER, NOW, book_failing, bytes, check, kit, late_routes, open_desk};
+use crate::connections::served_over;
+use crate::hubs::{DRAWS, NEVER, NOW, book_failing, bytes, check, kit, late_routes};
 use hub_devices::mem_bytes::{MemSink, MemSource};
-use hub_devices::mem_spawner::MemSpawner;
 use hub_kit::moment::Moment;
-use hub_run::{Served, serve_connection};
+use hub_run::Served;
 use late_routes::{LatePlan, LateRoutes};
 use std::alloc::Global;
 use std::process::Abort;
@@ -92,32 +92,19 @@ fn is_delivered(routes: &mut LateRoutes, lateness: &Lateness) -> bool {
 
 /// Whether the connection ends as it should, has written its output, and leaves these routes.
 fn ends_so<R: Abort + Wait>(rt: &R, alloc: Global, lateness: &Lateness) -> bool {
-    let (desk, mut pass) = open_desk(rt, alloc, book_failing(rt, alloc, NEVER));
-    let input = bytes(rt, alloc, lateness.input);
-    let mut source = MemSource::new(input, 100, Vec::new(alloc));
+    let routes = late_routes(rt, alloc, lateness.plans);
+    let mut kit = kit(rt, alloc, routes, NEVER, NEVER, &DRAWS);
+    let source = MemSource::new(bytes(rt, alloc, lateness.input), 100, Vec::new(alloc));
     let mut sink = MemSink::new(alloc, Vec::new(alloc));
-    let spawner = MemSpawner::new(alloc, Vec::new(alloc));
-    let mut kit = kit(
-        rt,
-        alloc,
-        spawner,
-        late_routes(rt, alloc, lateness.plans),
-        0,
-    );
-    let served = serve_connection(
-        rt,
-        alloc,
-        &desk,
-        &mut pass,
-        &mut source,
-        &mut sink,
-        &mut kit,
-    );
-    let book = desk.close(rt, pass);
+    let book = book_failing(rt, alloc, NEVER);
+    let (end, book) = served_over(rt, alloc, book, &mut kit, source, &mut sink);
     drop(book);
-    (served == Ok(Served::Ended(lateness.replies)))
+    let so = (end == Ok(Served::Ended(lateness.replies)))
         & (sink.as_slice() == lateness.output)
-        & is_delivered(&mut kit.routes, lateness)
+        & is_delivered(&mut kit.routes, lateness);
+    drop(sink);
+    drop(kit);
+    so
 }
 
 #[test]
