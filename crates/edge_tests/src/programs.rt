@@ -9,11 +9,13 @@ use hub_edge::programs::Programs;
 use hub_edge::random::SystemRandom;
 use hub_kit::list::List;
 use hub_kit::names::read_key;
+use hub_kit::target::Target;
 use hub_kit::targets::read_target;
 use hub_kit::text::Text;
 use std::alloc::{AllocError, Global};
 use std::sync::{Arc, Mutex, Wait};
-use std::thread::Threads;
+use std::thread::{self, Threads};
+use std::time::Duration;
 
 /// The words of a program that the shell runs.
 fn shell(alloc: Global, script: &str) -> Result<Vec<Text>, AllocError> {
@@ -46,6 +48,22 @@ enum Ender {
     NextByTarget,
 }
 
+/// Whether the program runs on, once it has had two seconds to end: what ends it from outside doesn't wait for it.
+fn runs_on<H: Threads + Wait + Copy>(
+    rt: HostRuntime,
+    programs: &mut Programs<H>,
+    target: &Target,
+) -> Option<bool> {
+    for _ in 0..100 {
+        match programs.poll(7, target) {
+            Ok(false) => return Some(false),
+            Ok(true) => thread::sleep(&rt, Duration::from_millis(20)),
+            Err(_) => return None,
+        }
+    }
+    Some(true)
+}
+
 /// Whether a start, a question, a stop and another question succeed, and what the questions tell.
 fn life<H: Threads + Wait + Copy>(
     rt: HostRuntime,
@@ -70,7 +88,7 @@ fn life<H: Threads + Wait + Copy>(
         Ender::Next => next.stop(7, &target).is_ok(),
         Ender::NextByTarget => next.end_left(&target).is_ok(),
     };
-    let after = programs.poll(7, &target).ok();
+    let after = runs_on(rt, &mut programs, &target);
     Ok([Some(begins), runs, Some(ends), after])
 }
 
