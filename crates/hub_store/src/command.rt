@@ -1,5 +1,6 @@
 //! Commands over the program's store.
-use crate::file_places::{self, FileError, FilePlaces};
+use crate::file_places::{FileError, FilePlaces};
+use crate::places::ProgramPlaces;
 use crate::store::Store;
 use keeper::keeper::Keeper;
 use keeper::mem_keeper::MemKeeper;
@@ -26,7 +27,7 @@ impl ProgramStore for MemKeeper {
     }
 }
 
-impl<S: Start> ProgramStore for Store<MemKeeper, FilePlaces<S>> {
+impl<K: Keeper, P: ProgramPlaces> ProgramStore for Store<K, P> {
     fn refusal(&self) -> Option<FileError> {
         self.places().refusal()
     }
@@ -34,7 +35,7 @@ impl<S: Start> ProgramStore for Store<MemKeeper, FilePlaces<S>> {
     // the log goes into the file
     fn close(self) {
         if let Some(kept) = self.into_placed() {
-            let _ = file_places::close(kept);
+            P::close(kept);
         }
     }
 }
@@ -45,20 +46,14 @@ pub trait StoreCommand {
     fn run<K: ProgramStore>(&self, rt: HostRuntime, store: K) -> ExitCode;
 }
 
-/// A store in memory, which takes a file where a place is chosen.
-fn new_store<S: Start>(
+/// Runs a command over a keeper that takes the store at a place once it is chosen.
+fn run_over<K: Keeper, P: ProgramPlaces, C: StoreCommand>(
     rt: HostRuntime,
-    start: S,
-) -> Result<Store<MemKeeper, FilePlaces<S>>, AllocError> {
-    let alloc = rt.alloc();
-    let places = FilePlaces::new(rt, start);
-    match MemKeeper::new(alloc, Vec::new(alloc), Vec::new(alloc)) {
-        Ok(own) => Ok(Store::new(own, places)),
-        Err(error) => {
-            drop(places);
-            Err(error)
-        }
-    }
+    own: K,
+    places: P,
+    command: &C,
+) -> ExitCode {
+    command.run(rt, Store::new(own, places))
 }
 
 /// Runs a command over a store in memory that takes a file of SQLite where a place is chosen. `S` names what is supposed of the first
@@ -68,6 +63,7 @@ pub fn run_over_file<S: Start, C: StoreCommand>(
     start: S,
     command: &C,
 ) -> Result<ExitCode, AllocError> {
-    let store = new_store(rt, start)?;
-    Ok(command.run(rt, store))
+    let alloc = rt.alloc();
+    let own = MemKeeper::new(alloc, Vec::new(alloc), Vec::new(alloc))?;
+    Ok(run_over(rt, own, FilePlaces::new(rt, start), command))
 }

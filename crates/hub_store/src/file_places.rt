@@ -3,7 +3,7 @@ ghost use Rattle.std.specs.Prelude.{◌≡◌, IfOk};
 ghost use Rattle.sqlite_wal.specs.Files.{image_at};
 ghost use Rattle.hub_store.specs.Files.{IsOver, IsResumed};
 
-use crate::places::Places;
+use crate::places::{Places, ProgramPlaces};
 use hub_kit::text::Text;
 use keeper::keeper::KeeperError;
 use keeper_sqlite::sqlite_keeper::SqliteKeeper;
@@ -101,6 +101,16 @@ impl<S: Start> Places for FilePlaces<S> {
                 Err(error.cause())
             }
         }
+    }
+}
+
+impl<S: Start> ProgramPlaces for FilePlaces<S> {
+    fn refusal(&self) -> Option<FileError> {
+        self.refusal
+    }
+
+    fn close(kept: FileKeeper<S>) {
+        let _ = close(kept);
     }
 }
 
