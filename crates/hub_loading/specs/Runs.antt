@@ -1,5 +1,5 @@
 -- How the command `load` ends.
-use Rattle.std.specs.Prelude.{◌≡◌, ◌++◌, ℕ, List, Option, Some, None}
+use Rattle.std.specs.Prelude.{◌≡◌, ◌++◌, ℕ, IsTrue, List, Option, Some, None}
 use Rattle.hub_core.specs.Visits.{Entry}
 use Rattle.hub_core.specs.declared.start.Start.{Start}
 use Rattle.hub_devices.specs.Faults.{Rises}
@@ -36,10 +36,11 @@ Writes text held held' writes writes' NoOutput =
 Writes text held held' writes writes' Memory = held' ≡ held
 Writes text held held' writes writes' (HashKept draw) = ⊥
 
--- a job was done, and its lines were written
+-- a job was done, over a keeper that told that it had no rows, and its lines were written
 pub record Says (words : LoadWords) (held held' : Option (List ℕ)) (writes writes' : ℕ) (end : End) : Type 0 where
   pub start : Start
   pub hub : IsJobHub start
+  pub none_kept : IsTrue start.has_rows
   pub entries : List Entry
   pub loaded : Loaded
   pub job : IsJob words.seed words.users start entries loaded

@@ -52,7 +52,10 @@ pub fn run<W: Wait, O: Sink>(rt: &W, alloc: Global, words: &[Text], output: &mut
     };
     match load_job(rt, alloc, seed, users) {
         Ok((book, loaded)) => {
-            drop(book);
+            // taken apart since its keeper tells then that it had no rows
+            let (keeper, trail) = book.into_parts();
+            drop(keeper);
+            drop(trail);
             write_lines(alloc, output, users, &loaded)
         }
         Err(fault) => end_of(fault),

@@ -12,7 +12,7 @@ load_job-requires-clause-users g c = (bounded c.args.words.now c.in-Ok.words c.i
 pub returns-in-Ok-load_job-clause-ends : goal.returns-in-Ok-load_job-clause-ends
 returns-in-Ok-load_job-clause-ends g c =
     said _ c.in-Ok.words c.in-Ok-load_job.book.start (entries_of c.in-Ok-load_job.book) c.in-Ok-load_job.loaded _ _ _ _ c.write_lines.result c.in-Ok.ensures
-    c.in-Ok-load_job.ensures.hub c.in-Ok-load_job.ensures.job c.write_lines.ensures.ends
+    c.in-Ok-load_job.ensures.hub (c.into_parts-keeper.ensures.had tt) c.in-Ok-load_job.ensures.job c.write_lines.ensures.ends
 
 pub returns-in-Err-clause-ends : goal.returns-in-Err-clause-ends
 returns-in-Err-clause-ends g c =
