@@ -52,28 +52,28 @@ same_text token k =
 
 -- ---- the bytes of a name
 
-visible : EachByte is_uri_byte
+pub visible : EachByte is_uri_byte
 visible b h = grind (arith, nat_tests)
 
-no_slash : EachByte (λ b. not (b == 47))
+pub no_slash : EachByte (λ b. not (b == 47))
 no_slash b h = grind (arith, nat_tests)
 
-no_mark : EachByte (λ b. not (b == 63))
+pub no_mark : EachByte (λ b. not (b == 63))
 no_mark b h = grind (arith, nat_tests)
 
-no_percent : EachByte (λ b. not (b == 37))
+pub no_percent : EachByte (λ b. not (b == 37))
 no_percent b h = grind (arith, nat_tests)
 
-abbrev is_ascii : ℕ → Bool
+abbrev pub is_ascii : ℕ → Bool
 is_ascii b = nat_lt b 128
 
-ascii : EachByte is_ascii
+pub ascii : EachByte is_ascii
 ascii b h = grind (arith, nat_tests)
 
-passes : (p : ℕ → Bool) (user : List ℕ) → EachByte p → IsName user → list_all p user ≡ true
+pub passes : (p : ℕ → Bool) (user : List ℕ) → EachByte p → IsName user → list_all p user ≡ true
 passes p user each is = name_passes p each user (server_of_name user is)
 
-some_bytes : (user : List ℕ) → IsName user → nat_lt 0 (length user) ≡ true
+pub some_bytes : (user : List ℕ) → IsName user → nat_lt 0 (length user) ≡ true
 some_bytes [] is = absurd (cc is)
 some_bytes (b ∷ bs) is = lt-ltb 0 (length (b ∷ bs)) (omega arith)
 
@@ -85,7 +85,7 @@ all_prefix p (b ∷ bs) is =
     let rest : prefix_len p bs ≡ length bs = all_prefix p bs (both_rest (p b) (list_all p bs) is) in
     ap (λ (t : Bool). cond t (1 + prefix_len p bs) 0) (both_first (p b) (list_all p bs) is) ∙ omega (arith, rest)
 
-whole_before : (p : ℕ → Bool) (bs : List ℕ) → list_all (λ b. not (p b)) bs ≡ true → before_first p bs ≡ bs
+pub whole_before : (p : ℕ → Bool) (bs : List ℕ) → list_all (λ b. not (p b)) bs ≡ true → before_first p bs ≡ bs
 whole_before p bs is = ap (λ (n : ℕ). take n bs) (all_prefix (λ b. not (p b)) bs is) ∙ take_all (length bs) bs (omega arith)
 
 not_percent : (b : ℕ) → not (b == 37) ≡ true → b ≢ 37
@@ -94,13 +94,13 @@ not_percent b test is = no (subst (λ (c : ℕ). not (c == 37) ≡ true) is test
     no : not (37 == 37) ≡ true → ⊥
     no e = cc e
 
-undecoded : (bs : List ℕ) → list_all (λ b. not (b == 37)) bs ≡ true → percent_decode bs ≡ bs
+pub undecoded : (bs : List ℕ) → list_all (λ b. not (b == 37)) bs ≡ true → percent_decode bs ≡ bs
 undecoded [] is = percent_decode-nil
 undecoded (b ∷ bs) is =
     percent_decode_not_percent b bs (not_percent b (both_first (not (b == 37)) (list_all (λ b. not (b == 37)) bs) is))
     ∙ ap (λ (t : List ℕ). b ∷ t) (undecoded bs (both_rest (not (b == 37)) (list_all (λ b. not (b == 37)) bs) is))
 
-no_cut : (p : ℕ → Bool) (bs : List ℕ) → list_all (λ b. not (p b)) bs ≡ true → All (λ b. p b ≡ false) bs
+pub no_cut : (p : ℕ → Bool) (bs : List ℕ) → list_all (λ b. not (p b)) bs ≡ true → All (λ b. p b ≡ false) bs
 no_cut p bs is = All-weaker (λ b. not (p b) ≡ true) (λ b. p b ≡ false) (λ b test. off (p b) test) bs (AllPass-from_list_all (λ b. not (p b)) bs is)
 
 -- ---- the target
@@ -115,7 +115,7 @@ target_is user is = record {
       (AllPass-from_list_all is_ascii (user_target user) (passes is_ascii user ascii is))));
 }
 
-path_is : (user : List ℕ) → IsName user → path_in (user_target user) ≡ user_target user
+pub path_is : (user : List ℕ) → IsName user → path_in (user_target user) ≡ user_target user
 path_is user is = whole_before (λ b. b == 63) (user_target user) (passes (λ b. not (b == 63)) user no_mark is)
 
 -- the path, by whether the name has a byte
@@ -126,7 +126,7 @@ fitting user t =
     ([] ∷ codes "hub" ∷ codes "api" ∷ codes "users" ∷ user ∷ []))
     every_path
 
-abbrev slash : ℕ → Bool
+abbrev pub slash : ℕ → Bool
 slash b = b == 47
 
 cut_is : (user : List ℕ) → IsName user → segments (user_target user) ≡ [] ∷ codes "hub" ∷ codes "api" ∷ codes "users" ∷ user ∷ []
@@ -134,13 +134,13 @@ cut_is user is =
     ap (λ (parts : List (List ℕ)). [] ∷ codes "hub" ∷ codes "api" ∷ codes "users" ∷ parts)
     (slice_split_none slash user (no_cut slash user (passes (λ b. not (b == 47)) user no_slash is)))
 
-named_is : (user : List ℕ) → IsName user → path_of (user_target user) ≡ Some User
+pub named_is : (user : List ℕ) → IsName user → path_of (user_target user) ≡ Some User
 unfolding path_of every_path
 named_is user is =
     ap (λ (parts : List (List ℕ)). find (λ path. pointwise fits_part (segments (text_of path)) parts) every_path) (cut_is user is)
     ∙ ap (fitting user) (some_bytes user is)
 
-read_is : (user : List ℕ) → IsName user → read_in_path name_of 4 (user_target user) ≡ Some user
+pub read_is : (user : List ℕ) → IsName user → read_in_path name_of 4 (user_target user) ≡ Some user
 unfolding segment
 read_is user is =
     sym (segment_is_text name_of 4 (user_target user) user
@@ -153,7 +153,7 @@ read_is user is =
 abbrev pub see : List ℕ → List ℕ → Asked
 see token user = record { token = Some token; seen = None; call = GetUser user }
 
-abbrev then_asked : Request → Result Call ApiRefusal → Result Asked ApiRefusal
+abbrev pub then_asked : Request → Result Call ApiRefusal → Result Asked ApiRefusal
 then_asked q r = r >>= (λ call. Ok (asked q call))
 
 abbrev then_get : Result (List ℕ) ApiRefusal → Result Call ApiRefusal

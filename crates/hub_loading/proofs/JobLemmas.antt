@@ -1,14 +1,18 @@
 -- A whole job, from its posts and its rounds.
-use Rattle.std.proofs.Common.{◌≡◌, ℕ, zero, suc, true, List, [], ◌∷◌, length, Option, Some, Result, sym, ap, ◌∙◌, subst}
+use Rattle.std.proofs.Common.{◌≡◌, ◌≤◌, ◌*◌, arith, ℕ, zero, suc, true, List, [], length, map, Option, Some, Result, sym, ap, ◌∙◌, subst}
 use Rattle.hub_core.specs.Visits.{Entry}
 use Rattle.hub_core.specs.declared.start.Start.{Start}
 use Rattle.hub_devices.specs.declared.link_error.LinkError.{LinkError}
-use Rattle.hub_link.specs.Links.{Exchange, Chain}
+use Rattle.hub_machine.specs.declared.change.Change.{Change}
 use Rattle.hub_run.specs.Turns.{View}
 use Rattle.direct_link.specs.Direct.{Direct, IsSame}
 use Rattle.direct_link.proofs.Chains.{chain_seen}
 use Rattle.load_asks.specs.Posts.{posts, Accepted}
+use Rattle.hub_loading.proofs.HistoryLemmas.{AllDecided, all_posted, all_decided, twice_long, long_as}
+use Rattle.hub_loading.proofs.PostedLemmas.{Stands}
+use Rattle.hub_loading.proofs.SameLemmas.{same_here, same_then, chain_same}
 use Rattle.hub_loading.specs.Jobs.{PostsAll, Runs, Begins, IsJob, loaded_of}
+use Rattle.hub_loading.specs.Posted.{history_of}
 use Rattle.hub_loading.specs.Rounds.{Rounds, AskedBy}
 use Rattle.hub_loading.specs.Setting.{IsJobHub, draws}
 use Rattle.hub_loading.specs.declared.job.Loaded.{Loaded}
@@ -16,16 +20,6 @@ use Rattle.hub_loading.specs.declared.rounds.Counts.{Counts}
 use Rattle.hub_loading.specs.declared.rounds.Round.{Round}
 
 -- ---- the pass stays what it was
-
-same_here : (x y : View) → y ≡ x → IsSame x y
-same_here x y is = record { of = ap (λ (v : View). v.pass.of) is; base = ap (λ (v : View). v.pass.base) is; alone = ap (λ (v : View). v.pass.alone) is }
-
-same_then : (x z y : View) → IsSame x z → IsSame z y → IsSame x y
-same_then x z y one two = record { of = two.of ∙ one.of; base = two.base ∙ one.base; alone = two.alone ∙ one.alone }
-
-chain_same : (asks : List Exchange) (x y : View) → Chain Direct x asks y → IsSame x y
-chain_same [] x y is = same_here x y is
-chain_same ((request, given) ∷ asks) x y (z, direct, more) = same_then x z y direct.same (chain_same asks z y more)
 
 asked_same : (x y : View) (token : List ℕ) (other : ℕ) (target : List ℕ) (round : Round) → AskedBy x token other target round y → IsSame x y
 asked_same x y token other target round asked =
@@ -69,24 +63,39 @@ pub job_began : (seed users : ℕ) (first last : View) (counts : Counts) (begun 
     → last.pass.base ≡ Some ended → IsJobHub begun → IsJobHub ended
 job_began seed users first last counts begun ended runs one two hub = subst IsJobHub (ended_as seed users first last counts begun ended runs one two) hub
 
+-- the draws of a job, its clock and its pass
+began : (users : ℕ) (start : Start) (first : View) (before : List Entry) → first.pass.base ≡ Some start → first.pass.seen ≡ before → before ≡ []
+    → first.pass.alone ≡ true → first.clock ≡ Some (λ k. 1700000000) → first.draws ≡ Some (draws users) → Begins start users first
+began users start first before base seen none alone clock drawn = record { base = base; seen = seen ∙ none; alone = alone; clock = clock; draws = drawn }
+
 job_done : (seed users : ℕ) (start : Start) (first last : View) (counts : Counts) (entries : List Entry) (revision : ℕ) (loaded : Loaded)
-    → Begins start users first → Runs seed users first counts last → (last.pass.alone ≡ true → entries ≡ last.pass.seen)
+    → start.tells ≡ true → users ≤ 1000000 → Begins start users first → Runs seed users first counts last → (last.pass.alone ≡ true → entries ≡ last.pass.seen)
     → revision ≡ length entries → loaded ≡ loaded_of counts revision → IsJob seed users start entries loaded
-job_done seed users start first last counts entries revision loaded begins runs whole long is = record {
-  first = first;
-  last = last;
-  begins = begins;
-  counts = counts;
-  runs = runs;
-  history = whole ((runs_same seed users first last counts runs).alone ∙ begins.alone);
-  is = is ∙ ap (loaded_of counts) long;
-}
+job_done seed users start first last counts entries revision loaded tells few begins runs whole long is =
+    let h : List Change = history_of start.machine users in
+    let stands : Stands start h runs.between = all_posted start users first runs.between tells few begins runs.posted in
+    let all : AllDecided start h seed users users runs.rounds last =
+    all_decided start h seed users users runs.target runs.between last runs.rounds tells stands runs.asked in
+    let seen : entries ≡ last.pass.seen = whole (all.stands).alone in
+    let are : entries ≡ map Some h = seen ∙ (all.stands).seen in
+    record {
+      first = first;
+      last = last;
+      begins = begins;
+      counts = counts;
+      runs = runs;
+      seen = seen;
+      history = are;
+      long = long_as h entries (2 * users) are (twice_long start.machine users);
+      decided = all.decided;
+      is = is ∙ ap (loaded_of counts) long;
+    }
 
 pub job_made : (seed users : ℕ) (first last : View) (counts : Counts) (begun ended : Start) (before entries : List Entry) (revision : ℕ) (loaded : Loaded)
-    → Runs seed users first counts last → first.pass.base ≡ Some begun → first.pass.seen ≡ before → before ≡ [] → first.pass.alone ≡ true
-    → first.clock ≡ Some (λ k. 1700000000) → first.draws ≡ Some (draws users) → last.pass.base ≡ Some ended → (last.pass.alone ≡ true → entries ≡ last.pass.seen)
-    → revision ≡ length entries → loaded ≡ loaded_of counts revision → IsJob seed users ended entries loaded
-job_made seed users first last counts begun ended before entries revision loaded runs base seen none alone clock drawn closed whole long is =
-    job_done seed users ended first last counts entries revision loaded
-    (record { base = base ∙ ap (λ (s : Start). Some s) (ended_as seed users first last counts begun ended runs base closed); seen = seen ∙ none; alone = alone; clock = clock; draws = drawn })
-    runs whole long is
+    → IsJobHub begun → users ≤ 20000 → Runs seed users first counts last → first.pass.base ≡ Some begun → first.pass.seen ≡ before → before ≡ []
+    → first.pass.alone ≡ true → first.clock ≡ Some (λ k. 1700000000) → first.draws ≡ Some (draws users) → last.pass.base ≡ Some ended
+    → (last.pass.alone ≡ true → entries ≡ last.pass.seen) → revision ≡ length entries → loaded ≡ loaded_of counts revision → IsJob seed users ended entries loaded
+job_made seed users first last counts begun ended before entries revision loaded hub few runs base seen none alone clock drawn closed whole long is =
+    let same : begun ≡ ended = ended_as seed users first last counts begun ended runs base closed in
+    job_done seed users ended first last counts entries revision loaded (subst IsJobHub same hub).tells (omega (arith, few))
+    (began users ended first before (base ∙ ap (λ (s : Start). Some s) same) seen none alone clock drawn) runs whole long is

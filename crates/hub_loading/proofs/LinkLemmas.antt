@@ -22,13 +22,14 @@ use Rattle.direct_link.specs.Verdicts.{Admits, HoldsAt}
 use Rattle.direct_link.proofs.Chains.{chain_seen, chain_keeps}
 use Rattle.access_laws.specs.Asks.{IsWord, OnlyReads, get_of}
 use Rattle.access_laws.proofs.Reading.{gets_read}
-use Rattle.hub_kit.specs.Names.{IsName}
+use Rattle.hub_kit.specs.Names.{IsName, IsServerName}
 use Rattle.load_asks.specs.Numbers.{name}
 use Rattle.load_asks.specs.Posts.{Reached}
 use Rattle.upstreams.specs.Upstream.{Told}
 use Rattle.load_asks.specs.Requests.{get_request, guarded_request}
 use Rattle.hub_loading.proofs.HeadLemmas.{head_for, printed, served, token_there}
 use Rattle.hub_loading.proofs.GetLemmas.{user_target, same_text, target_is}
+use Rattle.hub_loading.proofs.QuietLemmas.{quiet_guard}
 use Rattle.hub_loading.proofs.SeenLemmas.{finds_by}
 use Rattle.hub_loading.specs.Rounds.{Found, Finds, Guarded, found_status, guard_end}
 
@@ -77,7 +78,8 @@ found_by_view x y said token bytes body user found is word named chain reply =
       body = body;
       direct = direct;
       reply = reply;
-      verdict = λ start base. finds_by start x y token (name user) (get_request token user) bytes body found base named only direct reply;
+      verdict = λ start base. (finds_by start x y token (name user) (get_request token user) bytes body found base named only direct reply).0;
+      unnoted = λ start base. (finds_by start x y token (name user) (get_request token user) bytes body found base named only direct reply).1;
     }
 
 pub found_seen : {L : Type 0} (asked : L → Option (List (List ℕ × Option (List ℕ)))) (does : L → List ℕ → Result (List ℕ) LinkError → L → Type 0) (view : L → View)
@@ -96,12 +98,12 @@ verdict_of start x y token key told told' ended true decided is = decided.passed
 verdict_of start x y token key told told' ended false decided is = decided.refused is
 
 pub guarded : {E : Type 0} (r : Result Bool E) (x y : View) (token : List ℕ) (key : ServerKey) (target : List ℕ) (asks : List Exchange) (old new : Place)
-    (ended : Result Forwarded SessionFault) → IsWord token → length token ≤ 1000 → old.left ≡ Some (guarded_request token) → old.kept ≡ [] → Chain Direct x asks y
+    (ended : Result Forwarded SessionFault) → IsName key.user → IsServerName key.server → IsWord token → length token ≤ 1000 → old.left ≡ Some (guarded_request token) → old.kept ≡ [] → Chain Direct x asks y
     → GuardEnds key target asks 0 0 old new ended
     → ((start : Start) (head : RequestHead) (more : List ℕ) → x.pass.base ≡ Some start → IsServedHead head → old.left ≡ Some (print_request head ++ more)
     → Decided start x y key (token_of (head_of head).headers) old.told new.told ended)
     → IfOk r (λ admitted. ended ≡ guard_end admitted) → IfOk r (λ admitted. Guarded x token key target admitted y)
-guarded r x y token key target asks old new ended word short came kept chain ends decided known =
+guarded r x y token key target asks old new ended user server word short came kept chain ends decided known =
     IfOk-weaker r (λ admitted. ended ≡ guard_end admitted) (λ admitted. Guarded x token key target admitted y)
     (λ admitted is. record {
       asks = asks;
@@ -112,6 +114,9 @@ guarded r x y token key target asks old new ended word short came kept chain end
       chain = chain;
       ends = subst (λ (e : Result Forwarded SessionFault). GuardEnds key target asks 0 0 old new e) is ends;
       verdict = λ start base. verdict_of start x y token key old.told new.told ended admitted (here start base) is;
+      unnoted = λ start base alone.
+          quiet_guard start x y base alone key user server target asks chain old new admitted
+          (subst (λ (e : Result Forwarded SessionFault). GuardEnds key target asks 0 0 old new e) is ends);
     }) known
   where
     head : RequestHead

@@ -1,11 +1,8 @@
 -- Whom the hub's reply shows, by the rights in the state that it was answered in.
-use Rattle.std.proofs.Common.{◌≡◌, ◌↔◌, ◌<◌, arith, ◌&&◌, ◌++◌, inl, inr, ◌⊎◌, ℕ, Bool, true, false, not, IsTrue, List, [], ◌∷◌, length, codes, Option, Some, None, is_some, Ok, refl, sym, ap, ◌∙◌, subst}
+use Rattle.std.proofs.Common.{◌≡◌, ◌↔◌, ◌<◌, arith, ◌&&◌, inl, inr, ◌⊎◌, ℕ, Bool, true, false, not, IsTrue, List, [], ◌∷◌, length, Option, Some, None, is_some, Ok, refl, sym, ap, ◌∙◌, subst}
 use Rattle.std.specs.FinMap.{get, contains_key}
-use Rattle.httparse.specs.Grammar.{ResponseHead, print_response, print_blank, print_version, print_reason, print_end, print_section}
-use Rattle.http_wire.specs.declared.error.WireError.{WireError}
-use Rattle.http_wire.specs.declared.error.WireError.TheVariants as wire
+use Rattle.http_wire.specs.declared.request.Request.{Request}
 use Rattle.access_laws.specs.Asks.{OnlyReads, get_of}
-use Rattle.hub_api.specs.Refusals.{wire_refusal}
 use Rattle.hub_calls.specs.Facts.{user_at, body_of_user}
 use Rattle.hub_core.specs.Answer.{good_token, by_token, Judgement}
 use Rattle.hub_core.specs.History.{Answers, change_of}
@@ -13,7 +10,7 @@ use Rattle.hub_core.specs.Judged.{JudgesCaller, JudgesToken}
 use Rattle.hub_core.specs.declared.start.Start.{Start}
 use Rattle.hub_kit.specs.Names.{IsName}
 use Rattle.hub_link.specs.Replies.{IsReply}
-use Rattle.hub_machine.specs.Replies.{Answer, Reply, Outcome, refuses, gives, rules, if_so, good_reply, refusal_reply, refusal_body, status_of, answered, outcome_of}
+use Rattle.hub_machine.specs.Replies.{Answer, Reply, refuses, gives, rules, if_so, good_reply, refusal_reply, refusal_body, status_of, answered, outcome_of}
 use Rattle.hub_machine.specs.Replies as replies
 use Rattle.hub_machine.specs.State.{Hub}
 use Rattle.hub_machine.specs.Trails.{in_trail}
@@ -24,8 +21,8 @@ use Rattle.hub_rows.specs.declared.records.Token.{Token}
 use Rattle.hub_rows.specs.declared.records.User.{User}
 use Rattle.hub_run.specs.Turns.{View}
 use Rattle.hub_view.specs.Fields.{Rights}
-use Rattle.hub_view.specs.Json.{Json, message_body}
-use Rattle.reply_texts.specs.ReplyText.{reply_text, has_body, refused}
+use Rattle.hub_view.specs.Json.{Json}
+use Rattle.reply_texts.specs.ReplyText.{reply_text, has_body}
 use Rattle.roles.specs.Rights.{IsAllowed}
 use Rattle.scope_filters.specs.declared.object.Object.TheVariants as Ob
 use Rattle.scope_names.specs.declared.action.Action.TheVariants.{ReadUsersName}
@@ -33,12 +30,14 @@ use Rattle.direct_link.specs.Answered.{IsTurnOf, IsUnread}
 use Rattle.direct_link.specs.Direct.{Direct}
 use Rattle.direct_link.specs.Verdicts.{HoldsAt}
 use Rattle.direct_link.proofs.Judging.{ChangesNothing, Visited, visit_of, at_visit}
-use Rattle.direct_link.proofs.Replied.{IsStatus, read_as, is_200, is_400, is_403, is_404, is_413, is_501}
+use Rattle.direct_link.proofs.Replied.{IsStatus, read_as, is_200, is_403, is_404}
 use Rattle.direct_link.proofs.Turned.{its_turn}
 use Rattle.hub_loading.proofs.BoolLemmas.{both, both_first, both_rest}
 use Rattle.hub_loading.specs.Seeing.{IsSeen}
 use Rattle.hub_loading.specs.Rounds.{found_status}
 use Rattle.hub_loading.proofs.GetLemmas.{see, user_target, call_is}
+use Rattle.hub_loading.proofs.UnreadLemmas.{unread_status, IsWireStatus}
+use Rattle.hub_loading.proofs.VisitLemmas.{quiet_turn}
 
 -- ---- what is answered in a state
 
@@ -209,61 +208,33 @@ seen_so start x y token user bytes body found seen read = by had.0 had.1 had.2
 
 -- ---- bytes that were refused unread
 
-empty_front : (a b : List ℕ) → a ++ b ≡ [] → a ≡ []
-empty_front [] b is = refl
-empty_front (x ∷ a) b is = cc is
-
-empty_back : (a b : List ℕ) → a ++ b ≡ [] → b ≡ []
-empty_back [] b is = is
-empty_back (x ∷ a) b is = absurd (cc is)
-
-version_there : (minor : ℕ) → print_version minor ≡ [] → ⊥
-version_there minor is = cc is
-
-no_reply : (bytes : List ℕ) (status : ℕ) (body : List ℕ) → bytes ≡ [] → IsReply bytes status body → ⊥
-unfolding print_response
-no_reply bytes status body none reply =
-    let h : ResponseHead = reply.head in
-    let one : List ℕ = print_blank h.blank ++ print_version h.minor in
-    let two : List ℕ = one ++ 32 ∷ h.digits in
-    let three : List ℕ = two ++ print_reason h.reason in
-    let four : List ℕ = three ++ print_end h.line_end in
-    let five : List ℕ = four ++ print_section h.fields h.last in
-    version_there h.minor (empty_back (print_blank h.blank) (print_version h.minor)
-    (empty_front one (32 ∷ h.digits) (empty_front two (print_reason h.reason) (empty_front three (print_end h.line_end)
-    (empty_front four (print_section h.fields h.last) (empty_front five body (sym reply.whole ∙ none)))))))
-
-of_some : (a b : Reply) → Some a ≡ Some b → b ≡ a
-of_some a b e = cc
-
-refused_is : (status : ℕ) (word : List ℕ) (r : Reply) (bytes : List ℕ) (said : ℕ) (body : List ℕ) → IsStatus status → Some (refused status word) ≡ Some r
-    → bytes ≡ reply_text r true → IsReply bytes said body → said ≡ status
-refused_is status word r bytes said body known is same reply =
-    (read_as status (message_body status word) None bytes said body refl known (same ∙ ap (λ (o : Reply). reply_text o true) (of_some (refused status word) r is)) reply).0
-
-wire_not : (e : WireError) (r : Reply) (bytes body : List ℕ) (found : Bool) → wire_refusal e ≡ Some r → bytes ≡ reply_text r true → IsReply bytes (found_status found) body → ⊥
-wire_not wire.BadHead r bytes body found is same reply = not_400 found (refused_is 400 (codes "bad head") r bytes (found_status found) body is_400 is same reply)
-wire_not (wire.TooLarge n) r bytes body found is same reply = not_413 found (refused_is 413 (codes "too large") r bytes (found_status found) body is_413 is same reply)
-wire_not wire.Coding r bytes body found is same reply = not_501 found (refused_is 501 (codes "coding not supported") r bytes (found_status found) body is_501 is same reply)
-wire_not wire.Ended r bytes body found is same reply = cc is
-wire_not wire.Cut r bytes body found is same reply = cc is
-wire_not wire.ReadFault r bytes body found is same reply = cc is
-wire_not wire.Memory r bytes body found is same reply = cc is
-
 unread_not : (bytes body : List ℕ) (found : Bool) → IsUnread bytes → IsReply bytes (found_status found) body → ⊥
-unread_not bytes body found (inl none) reply = no_reply bytes (found_status found) body none reply
-unread_not bytes body found (inr (e, r, is, same)) reply = wire_not e r bytes body found is same reply
+unread_not bytes body found unread reply = by (unread_status bytes (found_status found) body unread reply)
+  where
+    by : IsWireStatus (found_status found) → ⊥
+    by (inl is) = not_400 found is
+    by (inr (inl is)) = not_413 found is
+    by (inr (inr is)) = not_501 found is
 
 -- ---- the ask
 
 pub finds_by : (start : Start) (x y : View) (token user request bytes body : List ℕ) (found : Bool) → x.pass.base ≡ Some start → IsName user
     → OnlyReads request (get_of (user_target user) token) → Direct x request (Ok bytes) y → IsReply bytes (found_status found) body
-    → HoldsAt start x y (IsSeen token user found)
+    → HoldsAt start x y (IsSeen token user found) × (x.pass.alone ≡ true → y.pass.seen ≡ x.pass.seen)
 finds_by start x y token user request bytes body found base named only direct reply =
     by (its_turn start x y request bytes (get_of (user_target user) token) base only refl direct)
   where
-    by : IsTurnOf start x (get_of (user_target user) token) bytes y ⊎ IsUnread bytes → HoldsAt start x y (IsSeen token user found)
-    by (inl turned) =
-        seen_so start x y token user bytes body found
-        (visit_of start x y (get_of (user_target user) token) bytes (see token user) (call_is user token named) refl (sees_nothing_done token user) refl turned) reply
+    q : Request
+    q = get_of (user_target user) token
+
+    nothing : ChangesNothing (see token user)
+    nothing = sees_nothing_done token user
+
+    by : IsTurnOf start x (get_of (user_target user) token) bytes y ⊎ IsUnread bytes
+        → HoldsAt start x y (IsSeen token user found) × (x.pass.alone ≡ true → y.pass.seen ≡ x.pass.seen)
+    by (inl turned) = (
+      seen_so start x y token user bytes body found
+          (visit_of start x y q bytes (see token user) (call_is user token named) refl nothing refl turned) reply,
+      λ alone. quiet_turn start x y q bytes (see token user) (call_is user token named) refl nothing refl turned alone,
+    )
     by (inr unread) = absurd (unread_not bytes body found unread reply)

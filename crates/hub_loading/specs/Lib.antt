@@ -1,6 +1,7 @@
 pub mod Setting
 pub mod Seeing
 pub mod Rounds
+pub mod Posted
 pub mod Jobs
 pub mod Lines
 pub mod Runs

@@ -32,20 +32,21 @@ pub record Finds {L : Type 0} (asked : L → Option (List (List ℕ × Option (L
   pub reply : IsReply bytes (found_status found) body
 
 -- the hub was asked so, by what is seen of it, and the user was found exactly where the token sees it at a place of the history and at the
--- moment of the clock
+-- moment of the clock; and nothing was noted of it
 pub record Found (x : View) (token : List ℕ) (user : ℕ) (found : Bool) (y : View) : Type 0 where
   pub bytes : List ℕ
   pub body : List ℕ
   pub direct : Direct x (get_request token user) (Ok bytes) y
   pub reply : IsReply bytes (found_status found) body
   pub verdict : (start : Start) → x.pass.base ≡ Some start → HoldsAt start x y (IsSeen token (name user) found)
+  pub unnoted : (start : Start) → x.pass.base ≡ Some start → x.pass.alone ≡ true → y.pass.seen ≡ x.pass.seen
 
 abbrev pub guard_end : Bool → Result Forwarded SessionFault
 guard_end true = Ok Passed
 guard_end false = Ok (Refused 403)
 
 -- one request with the token came to the guard of a server, and was passed on or refused, as the token may enter that server or not at a
--- place of the history and at the moment of the clock
+-- place of the history and at the moment of the clock; and nothing was noted of it
 pub record Guarded (x : View) (token : List ℕ) (key : ServerKey) (target : List ℕ) (admitted : Bool) (y : View) : Type 0 where
   pub asks : List Exchange
   pub old : Place
@@ -55,6 +56,7 @@ pub record Guarded (x : View) (token : List ℕ) (key : ServerKey) (target : Lis
   pub chain : Chain Direct x asks y
   pub ends : GuardEnds key target asks 0 0 old new (guard_end admitted)
   pub verdict : (start : Start) → x.pass.base ≡ Some start → HoldsAt start x y (Admits token key admitted)
+  pub unnoted : (start : Start) → x.pass.base ≡ Some start → x.pass.alone ≡ true → y.pass.seen ≡ x.pass.seen
 
 -- the owner of a token asks for a user, and then comes to the guard of that user's default server
 pub record AskedBy (x : View) (token : List ℕ) (other : ℕ) (target : List ℕ) (round : Round) (y : View) : Type 0 where

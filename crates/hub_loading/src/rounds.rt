@@ -1,7 +1,7 @@
 //! What each user of a job asks.
 ghost use Rattle.std.specs.Prelude.{◌≡◌, ◌≤◌, ◌<◌, ◌+◌, ◌^◌, List, [], length, IfOk};
 ghost use Rattle.access_laws.specs.Asks.{IsWord};
-ghost use Rattle.hub_kit.specs.Names.{IsName};
+ghost use Rattle.hub_kit.specs.Names.{IsName, IsServerName};
 ghost use Rattle.load_asks.specs.Numbers.{name, token};
 ghost use Rattle.load_asks.specs.Posts.{Reached};
 ghost use Rattle.hub_loading.specs.Rounds as spec;
@@ -132,6 +132,8 @@ fn ask_guard<'a, W: Wait>(
     target: &Target,
     token: &Text,
 ) -> Result<bool, JobFailed>
+    requires user { IsName key.now.user }
+    requires server { IsServerName key.now.server }
     requires word { IsWord token.now }
     requires short { length token.now ≤ 1000 }
     ensures same_pass { link.new.pass.ghost_name ≡ link.old.pass.ghost_name }

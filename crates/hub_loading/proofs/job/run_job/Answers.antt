@@ -17,7 +17,7 @@ returns-in-Ok-counts-clause-hub g c =
 pub returns-in-Ok-counts-clause-job : goal.returns-in-Ok-counts-clause-job
 returns-in-Ok-counts-clause-job g c =
     job_made c.args.seed c.args.users _ _ c.in-Ok-counts.counts c.in_ok-book.book.start c.close-book.result.start (entries_of c.in_ok-book.book)
-    (entries_of c.close-book.result) c.length.result c.loaded_of-loaded.result c.in-Ok-counts.ensures
+    (entries_of c.close-book.result) c.length.result c.loaded_of-loaded.result c.in_ok-book.ensures.hub c.requires.users.1 c.in-Ok-counts.ensures
     (ap (λ (p : PassState Entry Start). p.base) c.in-Ok-open.ensures.opened) (ap (λ (p : PassState Entry Start). p.seen) c.in-Ok-open.ensures.opened)
     c.in_ok-book.ensures.entries (ap (λ (p : PassState Entry Start). p.alone) c.in-Ok-open.ensures.opened) c.in-Ok.ensures.clock c.in-Ok.ensures.draws
     c.close-book.ensures.base c.close-book.ensures.whole c.length.ensures.entries c.loaded_of-loaded.ensures

@@ -1,9 +1,17 @@
 use Rattle.std.proofs.Common.{ℕ, List, length, ◌≤◌, sym, ◌∙◌, subst}
 use Rattle.access_laws.specs.Asks.{IsWord}
+use Rattle.hub_kit.specs.Names.{IsName, IsServerName}
+use Rattle.hub_kit.specs.declared.names.ServerKey.{ServerKey}
 use Rattle.hub_loading.specs.Setting.{job_view}
 use Rattle.hub_loading.proofs.TokenLemmas.{token_is, token_long}
 use Rattle.hub_loading.proofs.LinkLemmas.{found_seen, guarded_as, reached_keeps}
 use Rattle.hub_loading.proofs.rounds.ask_one.Goals as goal
+
+pub ask_guard-requires-clause-user : goal.ask_guard-requires-clause-user
+ask_guard-requires-clause-user g c = subst (λ (k : ServerKey). IsName k.user) (sym c.in_ok-key.ensures.key) c.in_ok-key.ensures.name
+
+pub ask_guard-requires-clause-server : goal.ask_guard-requires-clause-server
+ask_guard-requires-clause-server g c = subst (λ (k : ServerKey). IsServerName k.server) (sym c.in_ok-key.ensures.key) tt
 
 pub ask_guard-requires-clause-word : goal.ask_guard-requires-clause-word
 ask_guard-requires-clause-word g c = subst IsWord (sym c.in-Ok.ensures) (token_is c.args.user)
