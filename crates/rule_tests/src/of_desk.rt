@@ -1,6 +1,7 @@
 // A desk over a list of numbers.
 ghost use Rattle.std.specs.Prelude.{◌≡◌, ◌≤◌, ◌^◌, ◌++◌, ◌∷◌, [], length, MatchBool, true, false};
 
+use crate::check::check;
 use desk::{Booked, Desk, Job, Pass};
 use std::sync::Wait;
 use std::thread::join;
@@ -79,15 +80,22 @@ fn add_many<R: Wait>(
 }
 
 fn has_a_thousand(book: &Numbers, number: u64) -> bool {
-    book.all.iter().filter(|n| **n == number).count() == 1000
+    let mut count: u64 = 0;
+    for n in &book.all {
+        if *n == number {
+            count = count.saturating_add(1);
+        }
+    }
+    count == 1000
 }
 
 #[test]
 fn two_threads_share_one_book(rt: HostRuntime) {
+    let alloc = rt.alloc();
     let none = Numbers {
-        all: Vec::new(rt.alloc()),
+        all: Vec::new(alloc),
     };
-    let Ok((desk, mut first)) = Desk::open(rt.alloc(), none) else {
+    let Ok((desk, mut first)) = Desk::open(alloc, none) else {
         panic!(rt; "no memory")
     };
     let Ok(second) = desk.split(&mut first) else {
@@ -107,5 +115,7 @@ fn two_threads_share_one_book(rt: HostRuntime) {
     );
     desk.join(&mut first, second);
     let book = desk.close(&rt, first);
-    assert!(rt; sevens && eights && has_a_thousand(&book, 7) && has_a_thousand(&book, 8));
+    let holds = has_a_thousand(&book, 7) & has_a_thousand(&book, 8);
+    drop(book);
+    check(&rt, sevens & eights & holds, "a thousand each");
 }

@@ -1,18 +1,22 @@
 //! That calls of devices in memory succeed where there is memory, and that they are told, with those that failed.
+use crate::check::{check, text};
 use hub_devices::calls::{ListedRoute, Routing, Spawning, Told};
 use hub_devices::mem_routes::MemRouteLink;
 use hub_devices::mem_spawner::MemSpawner;
 use hub_devices::route_link::RouteLink;
 use hub_devices::spawner::Spawner;
-use hub_kit::names::{ServerKey, read_key};
+use hub_kit::names::read_key;
 use hub_kit::target::Target;
 use hub_kit::targets::read_target;
-use hub_kit::text::Text;
 use std::alloc::Global;
 use std::process::Abort;
 
-fn text(rt: &impl Abort, alloc: Global, text: &str) -> Text {
-    Text::from_str(alloc, text).expect(rt, "there is memory")
+fn target(rt: &impl Abort, alloc: Global) -> Target {
+    read_target(alloc, b"http://h:9001").expect(rt, "it is a target")
+}
+
+fn numbers(rt: &impl Abort, alloc: Global, numbers: &[u64]) -> Vec<u64> {
+    Vec::from_slice(alloc, numbers).expect(rt, "there is memory")
 }
 
 fn routes(rt: &impl Abort, alloc: Global, paths: &[&str]) -> Vec<ListedRoute> {
@@ -28,89 +32,49 @@ fn routes(rt: &impl Abort, alloc: Global, paths: &[&str]) -> Vec<ListedRoute> {
     list
 }
 
-/// Whether the routes are those of `/a` and `/b`, in order.
-fn are_in_order(routes: &[ListedRoute]) -> bool {
-    match routes {
-        [first, second] => first.path.as_str() == "/a" && second.path.as_str() == "/b",
-        _ => false,
-    }
-}
-
-/// Whether those of `/a` and `/b` are left once that of the path is deleted.
-fn are_left_without(link: &mut MemRouteLink, path: &Text) -> bool {
-    if link.delete(path, 3).is_err() {
-        return false;
-    }
+/// Whether the link lists the routes of `/a` and `/b`, in order.
+fn lists_two(link: &mut MemRouteLink) -> bool {
     match link.list() {
-        Ok(routes) => are_in_order(routes.as_slice()),
+        Ok(routes) => match routes.as_slice() {
+            [first, second] => (first.path.as_str() == "/a") & (second.path.as_str() == "/b"),
+            _ => false,
+        },
         Err(_) => false,
     }
 }
 
-#[test]
-fn routes_in_order(rt: HostRuntime) {
-    let list = routes(&rt, rt.alloc(), &["/b", "/c", "/a"]);
-    let mut link = MemRouteLink::beginning(rt.alloc(), list, Vec::new(rt.alloc()));
-    let path = text(&rt, rt.alloc(), "/c");
-    assert!(rt; are_left_without(&mut link, &path));
+/// Whether those of `/a` and `/b` are left once that of `/c` is deleted.
+fn are_left(rt: &impl Abort, alloc: Global) -> bool {
+    let list = routes(rt, alloc, &["/b", "/c", "/a"]);
+    let mut link = MemRouteLink::beginning(alloc, list, Vec::new(alloc));
+    let path = text(rt, alloc, "/c");
+    let holds = link.delete(&path, 3).is_ok() & lists_two(&mut link);
+    drop(path);
+    drop(link);
+    holds
 }
 
-fn target(rt: &impl Abort, alloc: Global) -> Target {
-    read_target(alloc, b"http://h:9001").expect(rt, "it is a target")
+#[test]
+fn routes_in_order(rt: HostRuntime) {
+    check(&rt, are_left(&rt, rt.alloc()), "two routes are left");
+}
+
+/// A link of which a route was asked, and whether that is added. The calls of these numbers fail.
+fn added(rt: &impl Abort, alloc: Global, failing: &[u64]) -> (MemRouteLink, bool) {
+    let target = target(rt, alloc);
+    let mut link = MemRouteLink::new(alloc, numbers(rt, alloc, failing));
+    let path = text(rt, alloc, "");
+    let is_added = link.add(&path, &target, Some(2)).is_ok();
+    drop(path);
+    drop(target);
+    (link, is_added)
 }
 
 #[test]
 fn a_route_is_added(rt: HostRuntime) {
-    let target = target(&rt, rt.alloc());
-    let mut link = MemRouteLink::new(rt.alloc(), Vec::new(rt.alloc()));
-    assert!(rt; link.add(&Text::new(rt.alloc()), &target, Some(2)).is_ok());
-}
-
-/// Whether a server is up once it is started, and not any more once it is stopped.
-fn starts_and_stops(
-    spawner: &mut MemSpawner,
-    key: &ServerKey,
-    target: &Target,
-    secret: &Text,
-) -> bool {
-    spawner.start(1, key, target, secret).is_ok()
-        && matches!(spawner.poll(1, target), Ok(true))
-        && spawner.stop(1, target).is_ok()
-        && matches!(spawner.poll(1, target), Ok(false))
-}
-
-#[test]
-fn a_server_starts_and_stops(rt: HostRuntime) {
-    let key = read_key(b"ann/").expect(&rt, "it is a key");
-    let target = target(&rt, rt.alloc());
-    let mut spawner = MemSpawner::new(rt.alloc(), Vec::new(rt.alloc()));
-    assert!(rt; starts_and_stops(&mut spawner, &key, &target, &Text::new(rt.alloc())));
-}
-
-/// Whether the calls of a spawner are a start that failed, and a look at what never ran.
-fn are_of_a_failed_start(calls: &[(Spawning, Told)]) -> bool {
-    match calls {
-        [
-            (Spawning::Start(1, _, _, _), Told::Failed),
-            (Spawning::Poll(1, _), Told::Runs(false)),
-        ] => { true }
-        _ => false,
-    }
-}
-
-#[test]
-fn a_failed_start_is_told(rt: HostRuntime) {
-    let key = read_key(b"ann/").expect(&rt, "it is a key");
-    let target = target(&rt, rt.alloc());
-    let failing = Vec::from_slice(rt.alloc(), &[0]).expect(&rt, "there is memory");
-    let mut spawner = MemSpawner::new(rt.alloc(), failing);
-    assert!(rt;
-        spawner
-            .start(1, &key, &target, &Text::new(rt.alloc()))
-            .is_err()
-    );
-    assert!(rt; matches!(spawner.poll(1, &target), Ok(false)));
-    assert!(rt; are_of_a_failed_start(spawner.calls().expect(&rt, "they are told")));
+    let (link, is_added) = added(&rt, rt.alloc(), &[]);
+    drop(link);
+    check(&rt, is_added, "it is added");
 }
 
 /// Whether the calls of a link are a route that wasn't added, and a list of none.
@@ -126,10 +90,62 @@ fn are_of_a_failed_add(calls: &[(Routing, Told)]) -> bool {
 
 #[test]
 fn a_failed_route_is_told(rt: HostRuntime) {
-    let target = target(&rt, rt.alloc());
-    let failing = Vec::from_slice(rt.alloc(), &[0]).expect(&rt, "there is memory");
-    let mut link = MemRouteLink::new(rt.alloc(), failing);
-    assert!(rt; link.add(&Text::new(rt.alloc()), &target, Some(2)).is_err());
-    assert!(rt; link.list().is_ok());
-    assert!(rt; are_of_a_failed_add(link.calls().expect(&rt, "they are told")));
+    let (mut link, is_added) = added(&rt, rt.alloc(), &[0]);
+    let is_listed = link.list().is_ok();
+    let is_told = are_of_a_failed_add(link.calls().expect(&rt, "they are told"));
+    drop(link);
+    check(&rt, !is_added & is_listed & is_told, "it is told");
+}
+
+/// A spawner that is asked for a server's start and then whether that runs, and whether it was started and runs. The calls of these
+/// numbers fail.
+fn started(rt: &impl Abort, alloc: Global, failing: &[u64]) -> (MemSpawner, bool, bool) {
+    let key = read_key(b"ann/").expect(rt, "it is a key");
+    let target = target(rt, alloc);
+    let secret = text(rt, alloc, "");
+    let mut spawner = MemSpawner::new(alloc, numbers(rt, alloc, failing));
+    let is_started = spawner.start(1, &key, &target, &secret).is_ok();
+    let runs = matches!(spawner.poll(1, &target), Ok(true));
+    drop(secret);
+    drop(target);
+    (spawner, is_started, runs)
+}
+
+/// Whether the server's stop succeeds, and it doesn't run any more.
+fn is_stopped(rt: &impl Abort, alloc: Global, spawner: &mut MemSpawner) -> bool {
+    let target = target(rt, alloc);
+    let stopped = spawner.stop(1, &target).is_ok() & matches!(spawner.poll(1, &target), Ok(false));
+    drop(target);
+    stopped
+}
+
+#[test]
+fn a_server_starts_and_stops(rt: HostRuntime) {
+    let (mut spawner, is_started, runs) = started(&rt, rt.alloc(), &[]);
+    let is_stopped = is_stopped(&rt, rt.alloc(), &mut spawner);
+    drop(spawner);
+    check(
+        &rt,
+        is_started & runs & is_stopped,
+        "it runs until its stop",
+    );
+}
+
+/// Whether the calls of a spawner are a start that failed, and a look at what never ran.
+fn are_of_a_failed_start(calls: &[(Spawning, Told)]) -> bool {
+    match calls {
+        [
+            (Spawning::Start(1, _, _, _), Told::Failed),
+            (Spawning::Poll(1, _), Told::Runs(false)),
+        ] => { true }
+        _ => false,
+    }
+}
+
+#[test]
+fn a_failed_start_is_told(rt: HostRuntime) {
+    let (spawner, is_started, runs) = started(&rt, rt.alloc(), &[0]);
+    let is_told = are_of_a_failed_start(spawner.calls().expect(&rt, "they are told"));
+    drop(spawner);
+    check(&rt, !is_started & !runs & is_told, "it is told");
 }

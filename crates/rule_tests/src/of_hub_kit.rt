@@ -1,5 +1,5 @@
 //! What no clause says: values from outside, and that each public call succeeds where there is memory.
-use crate::check::check;
+use crate::check::{check, text};
 use hub_kit::hashes::{hash_of, token_text};
 use hub_kit::moment::Moment;
 use hub_kit::moments::{MomentError, moment_text, read_moment};
@@ -7,6 +7,7 @@ use hub_kit::names::{NameError, read_key, read_user};
 use hub_kit::targets::read_target;
 use hub_kit::text::Text;
 use std::alloc::{AllocError, Global};
+use std::process::Abort;
 
 const USERS: [(&str, Option<NameError>); 6] = [
     ("ann", None),
@@ -41,18 +42,18 @@ fn names_and_keys(rt: HostRuntime) {
 }
 
 /// Whether it is a text, and this one.
-fn is_text(text: Result<Text, AllocError>, wanted: &str) -> bool {
-    match text {
-        Ok(text) => text.as_str() == wanted,
-        Err(_) => false,
-    }
+fn is_text(rt: &impl Abort, text: Result<Text, AllocError>, wanted: &str) -> bool {
+    let text = text.expect(rt, "there is memory");
+    let holds = text.as_str() == wanted;
+    drop(text);
+    holds
 }
 
-fn is_target(alloc: Global, text: &str, wanted: &str) -> bool {
-    match read_target(alloc, text.as_bytes()) {
-        Ok(target) => target.as_text().as_str() == wanted,
-        Err(_) => wanted.is_empty(),
-    }
+fn is_target(rt: &impl Abort, alloc: Global, text: &str, wanted: &str) -> bool {
+    let target = read_target(alloc, text.as_bytes()).expect(rt, text);
+    let holds = target.as_text().as_str() == wanted;
+    drop(target);
+    holds
 }
 
 #[test]
@@ -60,19 +61,25 @@ fn printed_texts(rt: HostRuntime) {
     let alloc = rt.alloc();
     let hash = "ba7816bf8f01cfea414140de5dae2223b00361a396177a9cb410ff61f20015ad";
     let draw = [0, 1, 2, 3, 4, 5, 6, 7, 8, 9, 10, 11, 12, 13, 254, 255];
-    check(&rt, is_text(hash_of(alloc, b"abc"), hash), "a hash");
+    let token = "000102030405060708090a0b0c0dfeff";
+    let moment = "1970-01-01T00:00:00Z";
+    check(&rt, is_text(&rt, hash_of(alloc, b"abc"), hash), hash);
+    check(&rt, is_text(&rt, token_text(alloc, draw), token), token);
     check(
         &rt,
-        is_text(token_text(alloc, draw), "000102030405060708090a0b0c0dfeff"),
-        "a token",
+        is_text(&rt, moment_text(alloc, Moment::zero()), moment),
+        moment,
     );
     check(
         &rt,
-        is_text(moment_text(alloc, Moment::zero()), "1970-01-01T00:00:00Z"),
-        "a moment",
+        is_target(&rt, alloc, "http://h", "http://h:80"),
+        "a target",
     );
-    check(&rt, is_target(alloc, "http://h", "http://h:80"), "a target");
-    check(&rt, is_target(alloc, "http://h:0", ""), "a port of 0");
+    check(
+        &rt,
+        read_target(alloc, b"http://h:0").is_err(),
+        "a port of 0",
+    );
 }
 
 /// Texts, and their seconds where they are those of moments.
@@ -83,19 +90,20 @@ const MOMENTS: [(&str, Option<u64>); 4] = [
     ("2023-11-14T22:13:20", None),
 ];
 
-fn is_moment(alloc: Global, text: &str, seconds: Option<u64>) -> bool {
-    let Ok(text) = Text::from_str(alloc, text) else {
-        return false;
-    };
-    match read_moment(&text) {
+fn is_moment(rt: &impl Abort, alloc: Global, line: &str, seconds: Option<u64>) -> bool {
+    let text = text(rt, alloc, line);
+    let moment = read_moment(&text);
+    drop(text);
+    match moment {
         Ok(moment) => seconds == Some(moment.seconds()),
-        Err(error) => seconds.is_none() && error == MomentError::BadText,
+        Err(error) => seconds.is_none() & (error == MomentError::BadText),
     }
 }
 
 #[test]
 fn moments(rt: HostRuntime) {
+    let alloc = rt.alloc();
     for (text, seconds) in &MOMENTS {
-        check(&rt, is_moment(rt.alloc(), text, *seconds), text);
+        check(&rt, is_moment(&rt, alloc, text, *seconds), text);
     }
 }

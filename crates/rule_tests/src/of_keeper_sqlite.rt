@@ -1,6 +1,6 @@
 //! That a keeper over a database succeeds where there is memory, finds the stores of this program, and refuses those of another number.
+use crate::check::{check, text};
 use hub_kit::list::List;
-use hub_kit::text::Text;
 use keeper::keeper::{Batch, Item, Keeper, KeeperError, Row};
 use keeper_sqlite::sqlite_keeper::SqliteKeeper;
 use sqlite::MemStore;
@@ -26,10 +26,6 @@ const ROWS: [(u8, &str, &str); 4] = [
     (1, "zed", "new"),
     (10, "a", "ten"),
 ];
-
-fn text(rt: &impl Abort, alloc: Global, text: &str) -> Text {
-    Text::from_str(alloc, text).expect(rt, "there is memory")
-}
 
 fn item(rt: &impl Abort, alloc: Global, row: &(u8, &str, &str)) -> Item {
     let kind = row.0;
@@ -59,8 +55,7 @@ fn is_row(row: &Row, wanted: &(u8, &str, &str)) -> bool {
     row.kind == kind && row.key.as_str() == key && row.text.as_str() == text
 }
 
-fn are_rows(rows: &[Row]) -> bool {
-    let wanted = &ROWS;
+fn are_rows(rows: &[Row], wanted: &[(u8, &str, &str)]) -> bool {
     if rows.len() != wanted.len() {
         return false;
     }
@@ -78,12 +73,21 @@ fn in_memory(rt: &impl Abort, alloc: Global) -> SqliteKeeper<MemStore> {
 
 /// Commits the script.
 fn commit(rt: &impl Abort, alloc: Global, keeper: &mut SqliteKeeper<MemStore>) {
-    keeper.commit(&script(rt, alloc)).expect(rt, "a commit");
+    let script = script(rt, alloc);
+    keeper.commit(&script).expect(rt, "a commit");
+    drop(script);
 }
 
-/// Whether the keeper's rows are those that the script leaves.
-fn has_rows(rt: &impl Abort, keeper: &mut SqliteKeeper<MemStore>) -> bool {
-    are_rows(keeper.load().expect(rt, "a load").as_slice())
+/// Whether these are the keeper's rows.
+fn has_rows(
+    rt: &impl Abort,
+    keeper: &mut SqliteKeeper<MemStore>,
+    wanted: &[(u8, &str, &str)],
+) -> bool {
+    let rows = keeper.load().expect(rt, "a load");
+    let holds = are_rows(rows.as_slice(), wanted);
+    drop(rows);
+    holds
 }
 
 /// A keeper over what another one left, after the statement was run there.
@@ -100,30 +104,36 @@ fn run_below(
 
 #[test]
 fn a_batch_of_puts_and_deletes(rt: HostRuntime) {
-    let mut keeper = in_memory(&rt, rt.alloc());
-    let none = keeper.load().expect(&rt, "an empty store");
-    assert!(rt; none.is_empty());
-    commit(&rt, rt.alloc(), &mut keeper);
-    commit(&rt, rt.alloc(), &mut keeper);
-    assert!(rt; has_rows(&rt, &mut keeper));
+    let alloc = rt.alloc();
+    let mut keeper = in_memory(&rt, alloc);
+    check(&rt, has_rows(&rt, &mut keeper, &[]), "an empty store");
+    commit(&rt, alloc, &mut keeper);
+    commit(&rt, alloc, &mut keeper);
+    check(&rt, has_rows(&rt, &mut keeper, &ROWS), "what is left");
+    drop(keeper);
 }
 
 /// Whether the keeper refuses to load and to commit.
 fn refuses(rt: &impl Abort, alloc: Global, keeper: &mut SqliteKeeper<MemStore>) -> bool {
-    matches!(keeper.load(), Err(KeeperError::Failed))
-        && matches!(keeper.commit(&script(rt, alloc)), Err(KeeperError::Failed))
+    let script = script(rt, alloc);
+    let refused = matches!(keeper.load().err(), Some(KeeperError::Failed))
+        & matches!(keeper.commit(&script), Err(KeeperError::Failed));
+    drop(script);
+    refused
 }
 
 #[test]
 fn a_store_with_another_number(rt: HostRuntime) {
-    let mut keeper = in_memory(&rt, rt.alloc());
-    commit(&rt, rt.alloc(), &mut keeper);
+    let alloc = rt.alloc();
+    let mut keeper = in_memory(&rt, alloc);
+    commit(&rt, alloc, &mut keeper);
     let first = "UPDATE meta SET value = 1";
-    let mut keeper = run_below(&rt, rt.alloc(), keeper, first);
-    commit(&rt, rt.alloc(), &mut keeper);
+    let mut keeper = run_below(&rt, alloc, keeper, first);
+    commit(&rt, alloc, &mut keeper);
     let third = "UPDATE meta SET value = 3 WHERE value = 2";
-    let mut keeper = run_below(&rt, rt.alloc(), keeper, third);
-    assert!(rt; refuses(&rt, rt.alloc(), &mut keeper));
+    let mut keeper = run_below(&rt, alloc, keeper, third);
+    check(&rt, refuses(&rt, alloc, &mut keeper), "a third number");
+    drop(keeper);
 }
 
 /// A keeper that finds the store of another one.
@@ -139,13 +149,17 @@ fn resumed(
 
 #[test]
 fn a_store_is_resumed(rt: HostRuntime) {
-    let mut keeper = in_memory(&rt, rt.alloc());
-    assert!(rt; keeper.is_own());
-    commit(&rt, rt.alloc(), &mut keeper);
-    let mut again = resumed(&rt, rt.alloc(), keeper);
-    assert!(rt; again.is_own() && has_rows(&rt, &mut again));
+    let alloc = rt.alloc();
+    let mut keeper = in_memory(&rt, alloc);
+    check(&rt, keeper.is_own(), "a new store");
+    commit(&rt, alloc, &mut keeper);
+    let mut again = resumed(&rt, alloc, keeper);
+    let has_rows = again.is_own() & has_rows(&rt, &mut again, &ROWS);
+    check(&rt, has_rows, "its rows");
     let other = "INSERT INTO row (kind, key, text) VALUES (-1, 'x', 'y')";
-    let other = run_below(&rt, rt.alloc(), again, other);
-    assert!(rt; !other.is_own());
-    assert!(rt; !resumed(&rt, rt.alloc(), other).is_own());
+    let other = run_below(&rt, alloc, again, other);
+    check(&rt, !other.is_own(), "a row of another program");
+    let other = resumed(&rt, alloc, other);
+    check(&rt, !other.is_own(), "the same once it is resumed");
+    drop(other);
 }

@@ -3,8 +3,7 @@
 //! none. Refused are another kind, a key out of the grammar, a blank, another order, a float, a moment past the greatest, null for a
 //! number, a member too few and one too many, names out of order, twice and out of the grammar, and numbers with a leading zero; also a
 //! share's scopes out of order and twice, a client that is no server's and no service's, and another next number.
-use crate::check::check;
-use hub_kit::text::Text;
+use crate::check::{check, text};
 use hub_rows::records::{
     Group, Lease, Next, OAuthClient, OAuthCode, Role, ServerRow, Service, Share, ShareCode, Token,
     User,
@@ -227,23 +226,22 @@ const NEXTS: [(u8, &str, &str, bool); 4] = [
     (12, "user", r#"{"next":1}"#, false),
 ];
 
-fn is_read<R: Record>(rt: &impl Abort, alloc: Global, kind: u8, key: &str, text: &str) -> bool {
+fn is_read<R: Record>(rt: &impl Abort, alloc: Global, kind: u8, key: &str, said: &str) -> bool {
     let row = Row {
         kind,
-        key: Text::from_str(alloc, key).expect(rt, "there is memory"),
-        text: Text::from_str(alloc, text).expect(rt, "there is memory"),
+        key: text(rt, alloc, key),
+        text: text(rt, alloc, said),
     };
-    of_row::<R>(alloc, &row).is_ok()
+    let is_read = of_row::<R>(alloc, &row).is_ok();
+    drop(row);
+    is_read
 }
 
 /// Exactly those rows are read that stand with `true`.
 fn check_rows<R: Record>(rt: &impl Abort, alloc: Global, rows: &[(u8, &str, &str, bool)]) {
     for (kind, key, text, is_record) in rows {
-        check(
-            rt,
-            is_read::<R>(rt, alloc, *kind, key, text) == *is_record,
-            text,
-        );
+        let is_read = is_read::<R>(rt, alloc, *kind, key, text);
+        check(rt, is_read == *is_record, text);
     }
 }
 

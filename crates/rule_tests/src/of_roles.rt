@@ -17,7 +17,7 @@ use roles::grants::caller_grant;
 use scope_filters::grant::Grant;
 use scope_filters::holder::Owner;
 use scope_filters::object::Object;
-use scope_filters::scope::read_scope;
+use scope_filters::scope::{RawScope, read_scope};
 use scope_meet::asks::{admits, holds_any};
 use scope_names::action::{Action, read_action};
 use std::alloc::Global;
@@ -160,16 +160,19 @@ fn put_group(rt: &impl Abort, alloc: Global, tables: &mut Tables, name: &[u8], u
     tables.put_group(group, Some(0)).expect(rt, "there is room");
 }
 
+/// The scope alone.
+fn scopes(rt: &impl Abort, alloc: Global, scope: &str) -> List<RawScope> {
+    let scope = read_scope(scope).expect(rt, "it is made");
+    List::from_vec(Vec::from_slice(alloc, &[scope]).expect(rt, "it is made"))
+}
+
 fn role(rt: &impl Abort, alloc: Global, scope: &str) -> Role {
     let cat = read_user(b"cat").expect(rt, "it is made");
     let bot = read_service(b"bot").expect(rt, "it is made");
     Role {
         name: read_role(b"readers").expect(rt, "it is made"),
         groups: Sorted::new(alloc),
-        scopes: List::from_vec(Vec::from_slice(
-            alloc,
-            &[read_scope(scope).expect(rt, "it is made")],
-        ).expect(rt, "it is made")),
+        scopes: scopes(rt, alloc, scope),
         services: Sorted::from_vec(Vec::from_slice(alloc, &[bot]).expect(rt, "it is made")),
         users: Sorted::from_vec(Vec::from_slice(alloc, &[cat]).expect(rt, "it is made")),
     }
@@ -190,10 +193,7 @@ fn token(rt: &impl Abort, alloc: Global, user: &str, scope: &str) -> Token {
         issued_for: None,
         note: Text::new(alloc),
         owner,
-        scopes: List::from_vec(Vec::from_slice(
-            alloc,
-            &[read_scope(scope).expect(rt, "it is made")],
-        ).expect(rt, "it is made")),
+        scopes: scopes(rt, alloc, scope),
     }
 }
 
@@ -218,13 +218,20 @@ fn is_shown(
         servers: List::new(alloc),
     };
     let body = user_body(alloc, tables, grant, &facts).expect(rt, "it is made");
-    body_text(alloc, &body).expect(rt, "it is made").as_slice() == text.as_bytes()
+    drop(facts);
+    let shown = body_text(alloc, &body).expect(rt, "it is made");
+    drop(body);
+    let holds = shown.as_slice() == text.as_bytes();
+    drop(shown);
+    holds
 }
 
 /// What the token of the row gives.
 fn grant(rt: &impl Abort, alloc: Global, tables: &Tables, rights: &Rights) -> Grant {
     let token = token(rt, alloc, rights.user, rights.token);
-    caller_grant(alloc, tables, &token).expect(rt, "it is made")
+    let grant = caller_grant(alloc, tables, &token).expect(rt, "it is made");
+    drop(token);
+    grant
 }
 
 fn is_admitted(grant: &Grant, action: &Action, user: UserName, tables: &Tables) -> bool {
@@ -247,6 +254,7 @@ fn check_rights(rt: &impl Abort, alloc: Global, rights: &Rights) {
     let tables = tables(rt, alloc, rights.role);
     let grant = grant(rt, alloc, &tables, rights);
     check(rt, is_so(rt, alloc, &tables, &grant, rights), rights.token);
+    drop(grant);
     drop(tables);
 }
 
@@ -254,8 +262,9 @@ fn check_rights(rt: &impl Abort, alloc: Global, rights: &Rights) {
 /// `self` means nothing for a service.
 #[test]
 fn a_token_stays_within_the_roles(rt: HostRuntime) {
+    let alloc = rt.alloc();
     for rights in &RIGHTS {
-        check_rights(&rt, rt.alloc(), rights);
+        check_rights(&rt, alloc, rights);
     }
 }
 
@@ -278,16 +287,19 @@ fn look_often(
 }
 
 /// How many of ten looks were hits.
-fn hits(rt: &impl Abort, alloc: Global, tables: &Tables, token: &Token) -> u64 {
+fn hits(rt: &impl Abort, alloc: Global) -> u64 {
+    let tables = tables(rt, alloc, "self");
+    let token = token(rt, alloc, "ann", "inherit");
     let mut cache = RightsCache::new(alloc, 2).expect(rt, "it is made");
-    look_often(rt, alloc, &mut cache, tables, token, 10);
-    cache.hits()
+    look_often(rt, alloc, &mut cache, &tables, &token, 10);
+    let hits = cache.hits();
+    drop(cache);
+    drop(token);
+    drop(tables);
+    hits
 }
 
 #[test]
 fn ten_looks_have_nine_hits(rt: HostRuntime) {
-    let tables = tables(&rt, rt.alloc(), "self");
-    let token = token(&rt, rt.alloc(), "ann", "inherit");
-    assert!(rt; hits(&rt, rt.alloc(), &tables, &token) == 9);
-    drop(tables);
+    check(&rt, hits(&rt, rt.alloc()) == 9, "nine hits");
 }

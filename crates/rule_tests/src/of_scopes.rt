@@ -28,8 +28,12 @@ const REFUSED: [(&str, ScopeError); 5] = [
 
 #[test]
 fn texts_of_scopes(rt: HostRuntime) {
-    assert!(rt; read_scope("servers!server=ann/").is_ok());
-    assert!(rt; read_scope("servers!server").is_ok());
+    check(
+        &rt,
+        read_scope("servers!server=ann/").is_ok(),
+        "of a server",
+    );
+    check(&rt, read_scope("servers!server").is_ok(), "of servers");
     for (text, error) in &REFUSED {
         check(&rt, read_scope(text) == Err(*error), text);
     }
@@ -44,7 +48,9 @@ fn what_servers_cover(rt: HostRuntime) {
         Action::ReadUsersName,
         Action::Servers,
     ];
-    assert!(rt; table.covered(Action::Servers) == covered.as_slice());
+    let holds = table.covered(Action::Servers) == covered.as_slice();
+    drop(table);
+    check(&rt, holds, "servers");
 }
 
 /// What the scope is for cat.
@@ -63,7 +69,10 @@ fn expanded(rt: &impl Abort, alloc: Global, tables: &Tables, scope: &str) -> Gra
 fn outside(rt: &impl Abort, alloc: Global, tables: &Tables, first: &str, second: &str) -> Inside {
     let first = expanded(rt, alloc, tables, first);
     let second = expanded(rt, alloc, tables, second);
-    contained(&first, &second, tables)
+    let inside = contained(&first, &second, tables);
+    drop(first);
+    drop(second);
+    inside
 }
 
 /// ann is the one user of b.
@@ -92,8 +101,9 @@ fn is_more_than_its_users(rt: &impl Abort, alloc: Global, tables: &Tables) -> bo
 
 #[test]
 fn a_group_is_more_than_its_users(rt: HostRuntime) {
-    let tables = tables(&rt, rt.alloc(), "list:users!group=b");
-    assert!(rt; is_more_than_its_users(&rt, rt.alloc(), &tables));
+    let alloc = rt.alloc();
+    let tables = tables(&rt, alloc, "list:users!group=b");
+    check(&rt, is_more_than_its_users(&rt, alloc, &tables), "a group");
     drop(tables);
 }
 
@@ -102,13 +112,17 @@ fn number_joined(rt: &impl Abort, alloc: Global, tables: &Tables) -> usize {
     let mut grant = expanded(rt, alloc, tables, "shutdown");
     let other = expanded(rt, alloc, tables, "proxy");
     join(&mut grant, &other).expect(rt, "there is memory");
-    grant.iter().count()
+    let number = grant.iter().count();
+    drop(grant);
+    drop(other);
+    number
 }
 
 #[test]
 fn two_scopes_are_joined(rt: HostRuntime) {
-    let tables = tables(&rt, rt.alloc(), "self");
-    assert!(rt; number_joined(&rt, rt.alloc(), &tables) == 2);
+    let alloc = rt.alloc();
+    let tables = tables(&rt, alloc, "self");
+    check(&rt, number_joined(&rt, alloc, &tables) == 2, "two actions");
     drop(tables);
 }
 
@@ -124,23 +138,22 @@ fn custom_row(rt: &impl Abort, alloc: Global, name: &str, subscopes: &[&str]) ->
     }
 }
 
-/// The table of `custom:a`, which covers `custom:b`, and of `custom:b`, which covers these.
-fn table_of_two(
-    rt: &impl Abort,
-    alloc: Global,
-    subscopes: &[&str],
-) -> Result<ScopeTable, TableError> {
+/// Why `custom:a`, which covers `custom:b`, and `custom:b`, which covers these, make no table.
+fn refusal_of_two(rt: &impl Abort, alloc: Global, subscopes: &[&str]) -> Option<TableError> {
     let mut rows = Vec::new(alloc);
     let first = custom_row(rt, alloc, "custom:a", &["custom:b"]);
     rows.push(first).expect(rt, "there is memory");
     let second = custom_row(rt, alloc, "custom:b", subscopes);
     rows.push(second).expect(rt, "there is memory");
-    ScopeTable::new(alloc, rows.as_slice())
+    let refusal = ScopeTable::new(alloc, rows.as_slice()).err();
+    drop(rows);
+    refusal
 }
 
 #[test]
 fn custom_scopes_make_a_table(rt: HostRuntime) {
-    assert!(rt; table_of_two(&rt, rt.alloc(), &[]).is_ok());
-    let cycle = table_of_two(&rt, rt.alloc(), &["custom:a"]);
-    assert!(rt; matches!(cycle, Err(TableError::Cycle(0))));
+    let alloc = rt.alloc();
+    check(&rt, refusal_of_two(&rt, alloc, &[]).is_none(), "no cycle");
+    let cycle = refusal_of_two(&rt, alloc, &["custom:a"]);
+    check(&rt, matches!(cycle, Some(TableError::Cycle(0))), "a cycle");
 }

@@ -1,4 +1,5 @@
 //! Lives of servers as docs/LIFE.md has them, and a pool of one.
+use crate::check::check;
 use hub_kit::list::List;
 use hub_kit::names::{ServerKey, read_key};
 use hub_kit::targets::read_target;
@@ -55,7 +56,7 @@ fn is_a_life() -> bool {
 
 #[test]
 fn three_starts(rt: HostRuntime) {
-    assert!(rt; is_a_life());
+    check(&rt, is_a_life(), "three starts");
 }
 
 /// Takes what is next, unless nothing is free, the server has a lease, or no generation is left.
@@ -97,5 +98,7 @@ fn is_shared(leases: &mut Leases, first: &ServerKey, second: &ServerKey) -> bool
 fn pool_of_one(rt: HostRuntime) {
     let ann = read_key(b"ann/").expect(&rt, "it is a key");
     let bob = read_key(b"bob/").expect(&rt, "it is a key");
-    assert!(rt; is_shared(&mut leases_of_one(&rt, rt.alloc()), &ann, &bob));
+    let mut leases = leases_of_one(&rt, rt.alloc());
+    check(&rt, is_shared(&mut leases, &ann, &bob), "a pool of one");
+    drop(leases);
 }
