@@ -1,10 +1,9 @@
 //! Requests of the API, one after the other on one table, by hand.
-use crate::check::check;
+use crate::check::{bytes, check, text};
 use hub_devices::mem_bytes::{MemSink, MemSource};
 use hub_kit::bytes::Bytes;
 use hub_kit::moment::Moment;
 use hub_kit::moments::moment;
-use hub_kit::text::Text;
 use proxy_api::api::api_one;
 use route_table::routes::Routes;
 use std::alloc::Global;
@@ -434,7 +433,9 @@ fn request(rt: &impl Abort, alloc: Global, line: &str, body: &str) -> Bytes {
         "{line} HTTP/1.1\r\nAuthorization: token secret-token\r\nContent-Length: {count}\r\n\r\n{body}"
     );
     let text = text.expect(rt, "there is memory");
-    Bytes::from_slice(alloc, text.as_bytes()).expect(rt, "there is memory")
+    let request = bytes(rt, alloc, text.as_bytes());
+    drop(text);
+    request
 }
 
 /// Whether a request is answered so, and that status given.
@@ -446,11 +447,15 @@ fn answers(
     status: u16,
     reply: &[u8],
 ) -> bool {
-    let secret = Text::from_str(alloc, "secret-token").expect(rt, "there is memory");
+    let secret = text(rt, alloc, "secret-token");
     let mut source = MemSource::new(input, 7, Vec::new(alloc));
     let mut sink = MemSink::new(alloc, Vec::new(alloc));
     let answered = api_one(alloc, routes, &secret, now(rt), &mut source, &mut sink);
-    (answered == Ok(status)) & (sink.as_slice() == reply)
+    drop(secret);
+    drop(source);
+    let holds = (answered == Ok(status)) & (sink.as_slice() == reply);
+    drop(sink);
+    holds
 }
 
 #[test]
@@ -469,6 +474,7 @@ fn asked_in_order(rt: HostRuntime) {
         );
         check(&rt, holds, row.name);
     }
+    drop(routes);
 }
 
 #[test]
@@ -476,10 +482,11 @@ fn sent_to_no_routes(rt: HostRuntime) {
     let alloc = rt.alloc();
     let mut routes = Routes::new(alloc, 5);
     for row in &SENT {
-        let input = Bytes::from_slice(alloc, row.input).expect(&rt, "there is memory");
+        let input = bytes(&rt, alloc, row.input);
         let holds = answers(&rt, alloc, &mut routes, input, row.status, row.reply);
         check(&rt, holds, row.name);
     }
+    drop(routes);
 }
 
 /// A request whose body has so many bytes, the last of them spaces.
@@ -490,7 +497,9 @@ fn long_request(rt: &impl Abort, alloc: Global, count: usize) -> Bytes {
     for _ in 34..count {
         body.push(' ').expect(rt, "there is memory");
     }
-    request(rt, alloc, "POST /api/routes", body.as_str())
+    let request = request(rt, alloc, "POST /api/routes", body.as_str());
+    drop(body);
+    request
 }
 
 #[test]
@@ -510,4 +519,5 @@ fn the_longest_body(rt: HostRuntime) {
         answers(&rt, alloc, &mut routes, input, 201, added),
         "4096 bytes",
     );
+    drop(routes);
 }

@@ -1,7 +1,7 @@
 //! One request carried: a tunnel behind a head of status 101, what is none, and two ends that wait for one another.
 ghost use Rattle.std.specs.Prelude.{◌<◌, ◌≤◌, None, false, ℕ, length};
 
-use crate::check::check;
+use crate::check::{bytes, check, table};
 use crate::mem_carrier::MemCarrier;
 use carries::{Carried, Carrier, carry_head, carry_one};
 use http_wire::buffer::WireBuffer;
@@ -10,15 +10,10 @@ use http_wire::head::Head;
 use hub_devices::mem_bytes::{MemSink, MemSource};
 use hub_devices::sink::Sink;
 use hub_devices::source::{Failed, Source};
-use hub_kit::bytes::Bytes;
 use hub_kit::moment::Moment;
 use hub_kit::target::Target;
-use hub_kit::targets::read_target;
-use hub_kit::text::Text;
 use proxy_core::refusals::Forwarded;
 use proxy_wire::framing::Framing;
-use route_table::route::RouteEntry;
-use route_table::routes::Routes;
 use std::alloc::Global;
 use std::process::Abort;
 use std::sync::atomic::{AtomicU64, Ordering};
@@ -140,18 +135,6 @@ const CARRIAGES: [Carriage; 6] = [
     },
 ];
 
-fn table(rt: &impl Abort, alloc: Global) -> Routes {
-    let mut routes = Routes::new(alloc, 10);
-    let entry = RouteEntry {
-        target: read_target(alloc, b"http://127.0.0.1:9001").expect(rt, "it is a target"),
-        serial: None,
-        extra: Text::from_str(alloc, "{}").expect(rt, "there is memory"),
-    };
-    let added = routes.add(b"/user/ann", entry, Moment::zero());
-    added.expect(rt, "there is memory");
-    routes
-}
-
 /// Whether a request ended so.
 fn ended_so(ended: Result<Carried<MemSource, Gate<MemSink>>, SessionFault>, end: Seen) -> bool {
     match ended {
@@ -175,14 +158,12 @@ fn ended_so(ended: Result<Carried<MemSource, Gate<MemSink>>, SessionFault>, end:
 
 fn ends_so<R: Threads + Abort>(rt: &R, alloc: Global, cut: usize, row: &Carriage) -> bool {
     let mut routes = table(rt, alloc);
-    let input = Bytes::from_slice(alloc, row.input).expect(rt, "there is memory");
-    let given = Bytes::from_slice(alloc, row.given).expect(rt, "there is memory");
-    let failing = Vec::from_slice(alloc, &[row.failing]).expect(rt, "there is memory");
-    let mut source = MemSource::new(input, cut, Vec::new(alloc));
+    let mut source = MemSource::new(bytes(rt, alloc, row.input), cut, Vec::new(alloc));
     let mut sink = Gate::new(MemSink::new(alloc, Vec::new(alloc)));
+    let failing = Vec::from_slice(alloc, &[row.failing]).expect(rt, "there is memory");
     let mut up = MemCarrier {
         threads: rt,
-        up: MemUpstream::new(alloc, given, cut, failing),
+        up: MemUpstream::new(alloc, bytes(rt, alloc, row.given), cut, failing),
     };
     let ended = carry_one(
         alloc,
@@ -192,22 +173,30 @@ fn ends_so<R: Threads + Abort>(rt: &R, alloc: Global, cut: usize, row: &Carriage
         &mut sink,
         &mut up,
     );
-    ended_so(ended, row.end) & (up.up.sent() == row.sent) & (sink.inner().as_slice() == row.output)
+    drop(routes);
+    drop(source);
+    let sent = up.up.sent() == row.sent;
+    drop(up);
+    let written = sink.inner().as_slice() == row.output;
+    drop(sink);
+    ended_so(ended, row.end) & sent & written
 }
 
 #[test]
 fn carriages(rt: HostRuntime) {
+    let alloc = rt.alloc();
     for row in &CARRIAGES {
-        check(&rt, ends_so(&rt, rt.alloc(), 1000, row), row.name);
+        check(&rt, ends_so(&rt, alloc, 1000, row), row.name);
     }
 }
 
 /// Where calls of the upstream fail, their numbers depend on the pieces.
 #[test]
 fn byte_by_byte(rt: HostRuntime) {
+    let alloc = rt.alloc();
     for row in &CARRIAGES {
         if row.failing == NEVER {
-            check(&rt, ends_so(&rt, rt.alloc(), 1, row), row.name);
+            check(&rt, ends_so(&rt, alloc, 1, row), row.name);
         }
     }
 }

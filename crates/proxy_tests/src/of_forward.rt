@@ -1,15 +1,11 @@
 //! One request forwarded, from its bytes to what was sent and what was written, by hand.
-use crate::check::check;
+use crate::check::{bytes, check, table};
 use http_wire::error::SessionFault;
 use hub_devices::mem_bytes::{MemSink, MemSource};
 use hub_kit::bytes::Bytes;
 use hub_kit::moment::Moment;
-use hub_kit::targets::read_target;
-use hub_kit::text::Text;
 use proxy_core::forward::forward_one;
 use proxy_core::refusals::Forwarded;
-use route_table::route::RouteEntry;
-use route_table::routes::Routes;
 use std::alloc::Global;
 use std::process::Abort;
 use upstreams::mem_upstream::MemUpstream;
@@ -245,19 +241,6 @@ const FORWARDINGS: [Forwarding; 22] = [
     },
 ];
 
-/// A table with one route.
-fn table(rt: &impl Abort, alloc: Global) -> Routes {
-    let mut routes = Routes::new(alloc, 10);
-    let entry = RouteEntry {
-        target: read_target(alloc, b"http://127.0.0.1:9001").expect(rt, "it is a target"),
-        serial: None,
-        extra: Text::from_str(alloc, "{}").expect(rt, "there is memory"),
-    };
-    let added = routes.add(b"/user/ann", entry, Moment::zero());
-    added.expect(rt, "there is memory");
-    routes
-}
-
 /// What came of a request: how it ended, and whether the upstream and the output hold what they are to hold.
 fn forwards(
     rt: &impl Abort,
@@ -283,12 +266,17 @@ fn forwards(
         &mut sink,
         &mut up,
     );
-    (ended == end) & (up.sent() == sent) & (sink.as_slice() == output)
+    drop(routes);
+    drop(source);
+    let holds = (ended == end) & (up.sent() == sent) & (sink.as_slice() == output);
+    drop(up);
+    drop(sink);
+    holds
 }
 
 fn ends_so(rt: &impl Abort, alloc: Global, cut: usize, row: &Forwarding) -> bool {
-    let input = Bytes::from_slice(alloc, row.input).expect(rt, "there is memory");
-    let given = Bytes::from_slice(alloc, row.given).expect(rt, "there is memory");
+    let input = bytes(rt, alloc, row.input);
+    let given = bytes(rt, alloc, row.given);
     forwards(
         rt,
         alloc,
@@ -304,24 +292,26 @@ fn ends_so(rt: &impl Abort, alloc: Global, cut: usize, row: &Forwarding) -> bool
 
 #[test]
 fn forwardings(rt: HostRuntime) {
+    let alloc = rt.alloc();
     for row in &FORWARDINGS {
-        check(&rt, ends_so(&rt, rt.alloc(), 1000, row), row.name);
+        check(&rt, ends_so(&rt, alloc, 1000, row), row.name);
     }
 }
 
 /// Where calls of the upstream fail, their numbers depend on the pieces.
 #[test]
 fn byte_by_byte(rt: HostRuntime) {
+    let alloc = rt.alloc();
     for row in &FORWARDINGS {
         if row.failing == NEVER {
-            check(&rt, ends_so(&rt, rt.alloc(), 1, row), row.name);
+            check(&rt, ends_so(&rt, alloc, 1, row), row.name);
         }
     }
 }
 
 /// A head and a body of so many bytes.
 fn long(rt: &impl Abort, alloc: Global, head: &[u8], size: usize) -> Bytes {
-    let mut all = Bytes::from_slice(alloc, head).expect(rt, "there is memory");
+    let mut all = bytes(rt, alloc, head);
     for _ in 0..size / 10 {
         all.push_all(b"0123456789").expect(rt, "there is memory");
     }
@@ -366,5 +356,7 @@ fn three_million_bytes_both_ways(rt: HostRuntime) {
         output.as_slice(),
         Ok(Forwarded::Passed),
     );
+    drop(sent);
+    drop(output);
     check(&rt, holds, "three million bytes both ways");
 }

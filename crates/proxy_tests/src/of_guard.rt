@@ -1,11 +1,9 @@
 //! One request at a guard, from its bytes to what the hub was asked, what was sent and what was written, by hand.
-use crate::check::check;
+use crate::check::{bytes, check, hub, is_asked, target};
 use guard::guards::guard_one;
 use http_wire::error::SessionFault;
 use hub_devices::mem_bytes::{MemSink, MemSource};
-use hub_kit::bytes::Bytes;
 use hub_kit::names::read_key;
-use hub_kit::targets::read_target;
 use hub_link::mem_link::MemHubLink;
 use proxy_core::refusals::Forwarded;
 use std::alloc::Global;
@@ -212,34 +210,6 @@ const GUARDINGS: [Guarding; 14] = [
     },
 ];
 
-fn bytes(rt: &impl Abort, alloc: Global, from: &[u8]) -> Bytes {
-    Bytes::from_slice(alloc, from).expect(rt, "there is memory")
-}
-
-/// A hub that gives these two replies and fails at the call of that number.
-fn hub(rt: &impl Abort, alloc: Global, first: &[u8], second: &[u8], failing: u64) -> MemHubLink {
-    let mut replies = Vec::new(alloc);
-    replies
-        .push(bytes(rt, alloc, first))
-        .expect(rt, "there is memory");
-    replies
-        .push(bytes(rt, alloc, second))
-        .expect(rt, "there is memory");
-    let failing = Vec::from_slice(alloc, &[failing]).expect(rt, "there is memory");
-    MemHubLink::new(alloc, replies, failing)
-}
-
-/// Whether the hub was asked this and no more, or nothing where these are no bytes.
-fn is_asked(link: &MemHubLink, asked: &[u8]) -> bool {
-    let Some(asks) = link.asked() else {
-        return false;
-    };
-    if asks.is_empty() {
-        return asked.is_empty();
-    }
-    asks.len() == 1 && asks[0].0.as_slice() == asked
-}
-
 /// Whether one request at the guard of ann's server lab ends so.
 fn guards(
     rt: &impl Abort,
@@ -252,12 +222,17 @@ fn guards(
     end: Result<Forwarded, SessionFault>,
 ) -> bool {
     let key = read_key(b"ann/lab").expect(rt, "it is a key");
-    let target = read_target(alloc, b"http://127.0.0.1:9001").expect(rt, "it is a target");
+    let target = target(rt, alloc, b"http://127.0.0.1:9001");
     let mut source = MemSource::new(bytes(rt, alloc, input), cut, Vec::new(alloc));
     let mut sink = MemSink::new(alloc, Vec::new(alloc));
     let mut up = MemUpstream::new(alloc, bytes(rt, alloc, GIVEN), cut, Vec::new(alloc));
     let ended = guard_one(alloc, &key, &target, link, &mut source, &mut sink, &mut up);
-    (ended == end) & (up.sent() == sent) & (sink.as_slice() == output)
+    drop(target);
+    drop(source);
+    let holds = (ended == end) & (up.sent() == sent) & (sink.as_slice() == output);
+    drop(up);
+    drop(sink);
+    holds
 }
 
 fn ends_so(rt: &impl Abort, alloc: Global, cut: usize, row: &Guarding) -> bool {
@@ -265,20 +240,24 @@ fn ends_so(rt: &impl Abort, alloc: Global, cut: usize, row: &Guarding) -> bool {
     let holds = guards(
         rt, alloc, cut, &mut link, row.input, row.sent, row.output, row.end,
     );
-    holds & is_asked(&link, row.asked)
+    let asked = is_asked(&link, row.asked);
+    drop(link);
+    holds & asked
 }
 
 #[test]
 fn guardings(rt: HostRuntime) {
+    let alloc = rt.alloc();
     for row in &GUARDINGS {
-        check(&rt, ends_so(&rt, rt.alloc(), 1000, row), row.name);
+        check(&rt, ends_so(&rt, alloc, 1000, row), row.name);
     }
 }
 
 #[test]
 fn guardings_byte_by_byte(rt: HostRuntime) {
+    let alloc = rt.alloc();
     for row in &GUARDINGS {
-        check(&rt, ends_so(&rt, rt.alloc(), 1, row), row.name);
+        check(&rt, ends_so(&rt, alloc, 1, row), row.name);
     }
 }
 
@@ -309,4 +288,5 @@ fn nothing_is_kept(rt: HostRuntime) {
         Ok(Forwarded::Refused(403)),
     );
     check(&rt, second, "refused once the token is deleted");
+    drop(link);
 }

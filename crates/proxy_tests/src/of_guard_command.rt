@@ -2,7 +2,7 @@
 ghost use Rattle.std.specs.Prelude.{◌<◌, length};
 
 use crate::caller::Caller;
-use crate::check::check;
+use crate::check::{bytes, check, text};
 use crate::mem_carrier::MemCarrier;
 use guard_serving::{GuardKit, run};
 use hub_devices::mem_bytes::{MemSink, MemSource};
@@ -119,14 +119,6 @@ const COMMANDS: [Command; 5] = [
     },
 ];
 
-fn bytes(rt: &impl Abort, alloc: Global, bytes: &[u8]) -> Bytes {
-    Bytes::from_slice(alloc, bytes).expect(rt, "there is memory")
-}
-
-fn text(rt: &impl Abort, alloc: Global, text: &str) -> Text {
-    Text::from_str(alloc, text).expect(rt, "there is memory")
-}
-
 fn words_of(rt: &impl Abort, alloc: Global, line: &str) -> Vec<Text> {
     let mut words = Vec::new(alloc);
     for word in line.split(' ') {
@@ -220,17 +212,21 @@ fn ends_so<W: Threads + Wait + Abort + Sync>(rt: &W, alloc: Global, command: &Co
         kits(rt, alloc),
         &mut output,
     );
+    drop(words);
+    drop(files);
     drop(doors);
+    let written = output.as_slice() == command.output;
+    drop(output);
     let answers = all.into_inner();
-    (end.fault.status() == command.status)
-        & (end.served == command.served)
-        & (output.as_slice() == command.output)
-        & (answers.as_slice() == command.answers)
+    let answered = answers.as_slice() == command.answers;
+    drop(answers);
+    (end.fault.status() == command.status) & (end.served == command.served) & written & answered
 }
 
 #[test]
 fn guard_commands(rt: HostRuntime) {
+    let alloc = rt.alloc();
     for command in &COMMANDS {
-        check(&rt, ends_so(&rt, rt.alloc(), command), command.words);
+        check(&rt, ends_so(&rt, alloc, command), command.words);
     }
 }

@@ -1,15 +1,12 @@
 //! Browsers that sign in at a guard, from a request's bytes to what the hub was asked and what was written, by hand.
-use crate::check::check;
+use crate::check::{bytes, check, hub, is_asked, target, text};
 use guard_login::answers::Signed;
 use guard_login::door::Door;
 use guard_login::logins::login_one;
 use http_wire::error::SessionFault;
 use hub_devices::mem_bytes::{MemSink, MemSource};
 use hub_devices::mem_random::ListRandom;
-use hub_kit::bytes::Bytes;
 use hub_kit::names::read_key;
-use hub_kit::targets::read_target;
-use hub_kit::text::Text;
 use hub_link::mem_link::MemHubLink;
 use proxy_core::refusals::Forwarded;
 use std::alloc::Global;
@@ -218,31 +215,14 @@ const LOGINS: [Login; 13] = [
     },
 ];
 
-fn bytes(rt: &impl Abort, alloc: Global, from: &[u8]) -> Bytes {
-    Bytes::from_slice(alloc, from).expect(rt, "there is memory")
-}
-
 /// The guard of ann's default server.
 fn door(rt: &impl Abort, alloc: Global) -> Door {
     Door {
         key: read_key(b"ann/").expect(rt, "it is a key"),
-        target: read_target(alloc, b"http://127.0.0.1:9001").expect(rt, "it is a target"),
-        hub: read_target(alloc, b"http://127.0.0.1:8081").expect(rt, "it is a target"),
-        secret: Text::from_str(alloc, "secret-of-ann").expect(rt, "there is memory"),
+        target: target(rt, alloc, b"http://127.0.0.1:9001"),
+        hub: target(rt, alloc, b"http://127.0.0.1:8081"),
+        secret: text(rt, alloc, "secret-of-ann"),
     }
-}
-
-/// A hub that gives these two replies and fails at the call of that number.
-fn hub(rt: &impl Abort, alloc: Global, first: &[u8], second: &[u8], failing: u64) -> MemHubLink {
-    let mut replies = Vec::new(alloc);
-    replies
-        .push(bytes(rt, alloc, first))
-        .expect(rt, "there is memory");
-    replies
-        .push(bytes(rt, alloc, second))
-        .expect(rt, "there is memory");
-    let failing = Vec::from_slice(alloc, &[failing]).expect(rt, "there is memory");
-    MemHubLink::new(alloc, replies, failing)
 }
 
 /// One draw, which is 1.
@@ -251,17 +231,6 @@ fn draws(rt: &impl Abort, alloc: Global) -> ListRandom {
     let one: [u8; 16] = [0, 0, 0, 0, 0, 0, 0, 0, 0, 0, 0, 0, 0, 0, 0, 1];
     draws.push(one).expect(rt, "there is memory");
     ListRandom::new(draws, Vec::new(alloc))
-}
-
-/// Whether the hub was asked this and no more, or nothing where these are no bytes.
-fn is_asked(link: &MemHubLink, asked: &[u8]) -> bool {
-    let Some(asks) = link.asked() else {
-        return false;
-    };
-    if asks.is_empty() {
-        return asked.is_empty();
-    }
-    asks.len() == 1 && asks[0].0.as_slice() == asked
 }
 
 /// Whether one request ends so, with this sent to the server and this written.
@@ -289,7 +258,13 @@ fn signs(
         &mut sink,
         &mut up,
     );
-    (ended == end) & (up.sent() == sent) & (sink.as_slice() == output)
+    drop(door);
+    drop(random);
+    drop(source);
+    let holds = (ended == end) & (up.sent() == sent) & (sink.as_slice() == output);
+    drop(up);
+    drop(sink);
+    holds
 }
 
 fn ends_so(rt: &impl Abort, alloc: Global, cut: usize, row: &Login) -> bool {
@@ -297,13 +272,16 @@ fn ends_so(rt: &impl Abort, alloc: Global, cut: usize, row: &Login) -> bool {
     let holds = signs(
         rt, alloc, cut, &mut link, row.input, row.sent, row.output, row.end,
     );
-    holds & is_asked(&link, row.asked)
+    let asked = is_asked(&link, row.asked);
+    drop(link);
+    holds & asked
 }
 
 #[test]
 fn logins(rt: HostRuntime) {
+    let alloc = rt.alloc();
     for row in &LOGINS {
-        check(&rt, ends_so(&rt, rt.alloc(), 1000, row), row.name);
+        check(&rt, ends_so(&rt, alloc, 1000, row), row.name);
     }
 }
 
@@ -334,4 +312,5 @@ fn a_code_traded_twice(rt: HostRuntime) {
         Ok(Signed::Refused(403)),
     );
     check(&rt, second, "the second trade is refused");
+    drop(link);
 }

@@ -2,7 +2,7 @@
 ghost use Rattle.std.specs.Prelude.{◌<◌, length};
 
 use crate::caller::Caller;
-use crate::check::check;
+use crate::check::{bytes, check, text};
 use crate::mem_carrier::MemCarrier;
 use hub_devices::listener::Listener;
 use hub_devices::mem_bytes::{MemSink, MemSource};
@@ -11,7 +11,6 @@ use hub_devices::mem_listener::MemListener;
 use hub_devices::source::Failed;
 use hub_kit::bytes::Bytes;
 use hub_kit::moment::Moment;
-use hub_kit::text::Text;
 use proxy_serving::{ProxyFault, ProxyKit, serve_proxy};
 use std::alloc::Global;
 use std::process::Abort;
@@ -66,10 +65,6 @@ impl<'a, W: Wait> Listener for Later<'a, W> {
     }
 }
 
-fn bytes(rt: &impl Abort, alloc: Global, bytes: &[u8]) -> Bytes {
-    Bytes::from_slice(alloc, bytes).expect(rt, "there is memory")
-}
-
 /// One caller, who sends this.
 fn doors<'a, W: Wait + Abort>(
     rt: &'a W,
@@ -118,7 +113,7 @@ fn tunnels<W: Threads + Wait + Abort + Sync>(rt: &W, alloc: Global) -> bool {
         least: 0,
         doors: doors(rt, alloc, &added, ADDITION),
     };
-    let secret = Text::from_str(alloc, "secret-of-proxy").expect(rt, "there is memory");
+    let secret = text(rt, alloc, "secret-of-proxy");
     let mut output = MemSink::new(alloc, Vec::new(alloc));
     let end = serve_proxy(
         rt,
@@ -132,12 +127,20 @@ fn tunnels<W: Threads + Wait + Abort + Sync>(rt: &W, alloc: Global) -> bool {
     );
     drop(browsers);
     drop(api);
+    let is_ready = output.as_slice() == b"ready\n".as_slice();
+    drop(output);
+    let added = added.into_inner();
+    let is_added = added.as_slice() == ADDED;
+    drop(added);
+    let asked = asked.into_inner();
+    let is_tunnelled = asked.as_slice() == TUNNELLED;
+    drop(asked);
     (end.forwarded == 1)
         & (end.answered == 1)
         & (end.fault == ProxyFault::Listener)
-        & (output.as_slice() == b"ready\n".as_slice())
-        & (added.into_inner().as_slice() == ADDED)
-        & (asked.into_inner().as_slice() == TUNNELLED)
+        & is_ready
+        & is_added
+        & is_tunnelled
 }
 
 #[test]

@@ -1,8 +1,7 @@
 //! A table of 2,000 routes, each of which is found.
-use crate::check::check;
+use crate::check::{check, target};
 use hub_kit::moment::Moment;
 use hub_kit::target::Target;
-use hub_kit::targets::read_target;
 use hub_kit::text::Text;
 use route_table::route::RouteEntry;
 use route_table::routes::Routes;
@@ -28,8 +27,8 @@ impl Targets {
 
 fn both_targets(rt: &impl Abort, alloc: Global) -> Targets {
     Targets {
-        even: read_target(alloc, b"http://127.0.0.1:9002").expect(rt, "it is a target"),
-        odd: read_target(alloc, b"http://127.0.0.1:9001").expect(rt, "it is a target"),
+        even: target(rt, alloc, b"http://127.0.0.1:9002"),
+        odd: target(rt, alloc, b"http://127.0.0.1:9001"),
     }
 }
 
@@ -42,15 +41,18 @@ fn add(rt: &impl Abort, alloc: Global, routes: &mut Routes, number: u32, target:
     };
     let added = routes.add(path.as_bytes(), entry, Moment::zero());
     added.expect(rt, "there is room and memory");
+    drop(path);
 }
 
 /// Whether the best route for a path behind that of a number has the target.
 fn leads_to(rt: &impl Abort, alloc: Global, routes: &Routes, number: u32, target: &Target) -> bool {
     let path = format!(in alloc; "/user/{number}/lab").expect(rt, "there is memory");
-    match routes.find(path.as_bytes()) {
+    let leads = match routes.find(path.as_bytes()) {
         Ok(route) => route.entry.target.as_text().as_str() == target.as_text().as_str(),
         Err(_) => false,
-    }
+    };
+    drop(path);
+    leads
 }
 
 #[test]
@@ -66,4 +68,6 @@ fn each_of_2_000_is_found(rt: HostRuntime) {
         check(&rt, found, "a route is found");
     }
     check(&rt, routes.find(b"/user/200").is_err(), "no other");
+    drop(routes);
+    drop(targets);
 }

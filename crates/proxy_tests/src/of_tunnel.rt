@@ -150,7 +150,12 @@ fn relays_so(
     );
     let up = up_out.inner().as_slice() == sent;
     let down = client_out.inner().as_slice() == b"xy".as_slice();
-    (done == ended) & up & down & up_out.write(b"z").is_err()
+    let refused = up_out.write(b"z").is_err();
+    drop(client_in);
+    drop(client_out);
+    drop(up_in);
+    drop(up_out);
+    (done == ended) & up & down & refused
 }
 
 const DOWN: Pump = Pump {
@@ -182,7 +187,10 @@ fn one_way_fails(rt: HostRuntime) {
 fn passed_on(alloc: Global, most: u64) -> Pump {
     let mut input = source(alloc, b"cd");
     let mut output = sink(alloc, &[]);
-    pump(b"ab", &mut input, &mut output, most)
+    let pumped = pump(b"ab", &mut input, &mut output, most);
+    drop(input);
+    drop(output);
+    pumped
 }
 
 /// The most that may be passed on, and what is.
@@ -226,7 +234,8 @@ const BUDGETS: [(u64, Pump); 5] = [
 
 #[test]
 fn budget(rt: HostRuntime) {
+    let alloc = rt.alloc();
     for (most, pump) in &BUDGETS {
-        check(&rt, passed_on(rt.alloc(), *most) == *pump, "a budget");
+        check(&rt, passed_on(alloc, *most) == *pump, "a budget");
     }
 }
