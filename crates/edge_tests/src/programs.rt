@@ -1,4 +1,5 @@
 //! What programs of servers do, and the clock, the random source and the files of the system.
+use crate::check::{check, text};
 use hub_devices::clock::Clock;
 use hub_devices::files::Files;
 use hub_devices::random::Random;
@@ -12,29 +13,34 @@ use hub_kit::names::read_key;
 use hub_kit::target::Target;
 use hub_kit::targets::read_target;
 use hub_kit::text::Text;
-use std::alloc::{AllocError, Global};
+use std::alloc::Global;
+use std::process::Abort;
 use std::sync::{Arc, Mutex, Wait};
 use std::thread::{self, Threads};
 use std::time::Duration;
 
 /// The words of a program that the shell runs.
-fn shell(alloc: Global, script: &str) -> Result<Vec<Text>, AllocError> {
+fn shell(rt: &impl Abort, alloc: Global, script: &str) -> Vec<Text> {
     let mut words = Vec::new(alloc);
     for word in ["/bin/sh", "-c", script] {
-        words.push(Text::from_str(alloc, word)?)?;
+        words
+            .push(text(rt, alloc, word))
+            .expect(rt, "there is memory");
     }
-    Ok(words)
+    words
 }
 
 /// Programs of these words, none of which was started by them yet.
-fn programs_of<H: Threads + Wait + Copy>(
+fn programs_of<H: Threads + Wait + Abort + Copy>(
     rt: HostRuntime,
     handle: H,
     script: &str,
-) -> Result<Programs<H>, AllocError> {
-    let started = Arc::new(rt.alloc(), Mutex::new(Vec::new(rt.alloc())))?;
-    let words = Arc::new(rt.alloc(), List::from_vec(shell(rt.alloc(), script)?))?;
-    Ok(Programs::new(rt, handle, started, words))
+) -> Programs<H> {
+    let alloc = rt.alloc();
+    let started = Arc::new(alloc, Mutex::new(Vec::new(alloc))).expect(&handle, "there is memory");
+    let words = List::from_vec(shell(&handle, alloc, script));
+    let words = Arc::new(alloc, words).expect(&handle, "there is memory");
+    Programs::new(rt, handle, started, words)
 }
 
 /// Who ends a program.
@@ -46,6 +52,20 @@ enum Ender {
     Next,
     /// A hub that was started later, and knows its target alone.
     NextByTarget,
+}
+
+/// Whether the stop succeeds.
+fn ends<H: Threads + Wait + Copy>(
+    own: &mut Programs<H>,
+    next: &mut Programs<H>,
+    target: &Target,
+    ender: Ender,
+) -> bool {
+    match ender {
+        Ender::Own => own.stop(7, target).is_ok(),
+        Ender::Next => next.stop(7, target).is_ok(),
+        Ender::NextByTarget => next.end_left(target).is_ok(),
+    }
 }
 
 /// Whether the program runs on, once it has had two seconds to end: what ends it from outside doesn't wait for it.
@@ -65,66 +85,77 @@ fn runs_on<H: Threads + Wait + Copy>(
 }
 
 /// Whether a start, a question, a stop and another question succeed, and what the questions tell.
-fn life<H: Threads + Wait + Copy>(
+fn life<H: Threads + Wait + Abort + Copy>(
     rt: HostRuntime,
     handle: H,
     script: &str,
     ender: Ender,
-) -> Result<[Option<bool>; 4], AllocError> {
-    let mut programs = programs_of(rt, handle, script)?;
-    let mut next = programs_of(rt, handle, script)?;
-    let secret = Text::from_str(rt.alloc(), "secret-word")?;
+) -> [Option<bool>; 4] {
+    let mut programs = programs_of(rt, handle, script);
+    let mut next = programs_of(rt, handle, script);
+    let secret = text(&handle, rt.alloc(), "secret-word");
+    let key = read_key(b"ann/lab").expect(&handle, "it is a key");
     // nobody listens there
-    let (Ok(key), Ok(target)) = (
-        read_key(b"ann/lab"),
-        read_target(rt.alloc(), b"http://127.0.0.1:1"),
-    ) else {
-        return Err(AllocError);
-    };
+    let target = read_target(rt.alloc(), b"http://127.0.0.1:1").expect(&handle, "it is a target");
     let begins = programs.start(7, &key, &target, &secret).is_ok();
+    drop(secret);
     let runs = programs.poll(7, &target).ok();
-    let ends = match ender {
-        Ender::Own => programs.stop(7, &target).is_ok(),
-        Ender::Next => next.stop(7, &target).is_ok(),
-        Ender::NextByTarget => next.end_left(&target).is_ok(),
-    };
+    let ends = ends(&mut programs, &mut next, &target, ender);
     let after = runs_on(rt, &mut programs, &target);
-    Ok([Some(begins), runs, Some(ends), after])
+    drop(programs);
+    drop(next);
+    drop(target);
+    [Some(begins), runs, Some(ends), after]
 }
 
+const ENDERS: [Ender; 3] = [Ender::Own, Ender::Next, Ender::NextByTarget];
+
 #[test]
-fn a_program_starts_and_ends(rt: HostRuntime) -> Result<(), AllocError> {
-    for ender in [Ender::Own, Ender::Next, Ender::NextByTarget] {
+fn a_program_starts_and_ends(rt: HostRuntime) {
+    for ender in &ENDERS {
         let script = "read s; test \"$s\" = secret-word && echo ready; sleep 100";
-        let told = life(rt, rt, script, ender)?;
-        assert_eq!(rt; told, [Some(true), Some(true), Some(true), Some(false)]);
+        let told = life(rt, rt, script, *ender);
+        let wanted = [Some(true), Some(true), Some(true), Some(false)];
+        check(&rt, told == wanted, script);
     }
-    Ok(())
 }
 
-#[test]
-fn a_program_is_never_ready(rt: HostRuntime) -> Result<(), AllocError> {
-    for script in ["echo steady; sleep 100", "exit 3", "read s"] {
-        let told = life(rt, rt, script, Ender::Own)?;
-        assert_eq!(rt;
-            told,
-            [Some(false), Some(false), Some(true), Some(false)],
-            "{script}"
-        );
-    }
-    Ok(())
-}
+const NEVER_READY: [&str; 3] = ["echo steady; sleep 100", "exit 3", "read s"];
 
 #[test]
-fn clock_random_and_files(rt: HostRuntime) -> Result<(), AllocError> {
-    assert!(rt; SystemClock::new(rt).now().seconds() > 1577836800);
+fn a_program_is_never_ready(rt: HostRuntime) {
+    for script in &NEVER_READY {
+        let told = life(rt, rt, script, Ender::Own);
+        let wanted = [Some(false), Some(false), Some(true), Some(false)];
+        check(&rt, told == wanted, script);
+    }
+}
+
+fn draws_differ(rt: HostRuntime) -> bool {
     let mut random = SystemRandom::new(rt);
-    let (first, second) = (random.draw().ok(), random.draw().ok());
-    assert!(rt; first.is_some() && first != second);
+    let first = random.draw().ok();
+    first.is_some() & (first != random.draw().ok())
+}
+
+/// Whether a file's first bytes are read, one more than the limit, and an empty one at which there is nothing to read is refused.
+fn are_read(handle: &impl Abort, rt: HostRuntime) -> bool {
     let mut files = SystemFiles::new(rt);
-    let stat = Text::from_str(rt.alloc(), "/proc/self/stat")?;
-    let none = Text::from_str(rt.alloc(), "/dev/null")?;
-    assert!(rt; files.text(&stat, 10).is_ok_and(|bytes| bytes.len() == 11));
-    assert!(rt; files.text(&none, 10).is_err() && files.cause().is_some());
-    Ok(())
+    let stat = text(handle, rt.alloc(), "/proc/self/stat");
+    let none = text(handle, rt.alloc(), "/dev/null");
+    let read = files.text(&stat, 10).is_ok_and(|bytes| bytes.len() == 11);
+    let refused = files.text(&none, 10).is_err() & files.cause().is_some();
+    drop(stat);
+    drop(none);
+    read & refused
+}
+
+#[test]
+fn clock_random_and_files(rt: HostRuntime) {
+    check(
+        &rt,
+        SystemClock::new(rt).now().seconds() > 1577836800,
+        "now",
+    );
+    check(&rt, draws_differ(rt), "two draws");
+    check(&rt, are_read(&rt, rt), "two files");
 }

@@ -1,4 +1,5 @@
 //! Which words each command takes.
+use crate::check::{check, words_of};
 use hub_kit::text::Text;
 use hub_words::cull::read_cull;
 use hub_words::guard::read_guard;
@@ -6,21 +7,40 @@ use hub_words::load::read_load;
 use hub_words::proxy::read_proxy;
 use hub_words::serve::read_serve;
 use hub_words::session::read_session;
-use std::alloc::{AllocError, Global};
+use std::alloc::Global;
 use std::process::Abort;
 
-/// The words of a line, which stand between single spaces.
-fn words_of(alloc: Global, line: &str) -> Result<Vec<Text>, AllocError> {
-    let mut words = Vec::new(alloc);
-    for word in line.split(' ') {
-        words.push(Text::from_str(alloc, word)?)?;
-    }
-    Ok(words)
+/// The commands.
+#[derive(Clone, Copy)]
+enum Command {
+    Session,
+    Serve,
+    Proxy,
+    Guard,
+    Cull,
+    Load,
 }
 
-/// Stops the test unless the words of the line are taken or refused as its row says.
-fn check(rt: &impl Abort, is_taken: bool, row: &(&str, bool)) {
-    assert!(rt; is_taken == row.1, "{}", row.0);
+/// Whether the command takes these words.
+fn takes(alloc: Global, command: Command, words: &[Text]) -> bool {
+    match command {
+        Command::Session => read_session(alloc, words).is_ok(),
+        Command::Serve => read_serve(alloc, words).is_ok(),
+        Command::Proxy => read_proxy(alloc, words).is_ok(),
+        Command::Guard => read_guard(alloc, words).is_ok(),
+        Command::Cull => read_cull(alloc, words).is_ok(),
+        Command::Load => read_load(alloc, words).is_ok(),
+    }
+}
+
+/// Exactly those lines are taken that stand with `true`.
+fn check_lines(rt: &impl Abort, alloc: Global, command: Command, rows: &[(&str, bool)]) {
+    for (line, is_taken) in rows {
+        let words = words_of(rt, alloc, line);
+        let holds = takes(alloc, command, words.as_slice()) == *is_taken;
+        drop(words);
+        check(rt, holds, line);
+    }
 }
 
 const SESSION: [(&str, bool); 19] = [
@@ -49,12 +69,8 @@ const SESSION: [(&str, bool); 19] = [
 ];
 
 #[test]
-fn session(rt: HostRuntime) -> Result<(), AllocError> {
-    for row in &SESSION {
-        let words = words_of(rt.alloc(), row.0)?;
-        check(&rt, read_session(rt.alloc(), words.as_slice()).is_ok(), row);
-    }
-    Ok(())
+fn session(rt: HostRuntime) {
+    check_lines(&rt, rt.alloc(), Command::Session, &SESSION);
 }
 
 const SERVE: [(&str, bool); 10] = [
@@ -77,12 +93,8 @@ const SERVE: [(&str, bool); 10] = [
 ];
 
 #[test]
-fn serve(rt: HostRuntime) -> Result<(), AllocError> {
-    for row in &SERVE {
-        let words = words_of(rt.alloc(), row.0)?;
-        check(&rt, read_serve(rt.alloc(), words.as_slice()).is_ok(), row);
-    }
-    Ok(())
+fn serve(rt: HostRuntime) {
+    check_lines(&rt, rt.alloc(), Command::Serve, &SERVE);
 }
 
 const PROXY: [(&str, bool); 12] = [
@@ -113,12 +125,8 @@ const PROXY: [(&str, bool); 12] = [
 ];
 
 #[test]
-fn proxy(rt: HostRuntime) -> Result<(), AllocError> {
-    for row in &PROXY {
-        let words = words_of(rt.alloc(), row.0)?;
-        check(&rt, read_proxy(rt.alloc(), words.as_slice()).is_ok(), row);
-    }
-    Ok(())
+fn proxy(rt: HostRuntime) {
+    check_lines(&rt, rt.alloc(), Command::Proxy, &PROXY);
 }
 
 const GUARD: [(&str, bool); 7] = [
@@ -153,12 +161,8 @@ const GUARD: [(&str, bool); 7] = [
 ];
 
 #[test]
-fn guard(rt: HostRuntime) -> Result<(), AllocError> {
-    for row in &GUARD {
-        let words = words_of(rt.alloc(), row.0)?;
-        check(&rt, read_guard(rt.alloc(), words.as_slice()).is_ok(), row);
-    }
-    Ok(())
+fn guard(rt: HostRuntime) {
+    check_lines(&rt, rt.alloc(), Command::Guard, &GUARD);
 }
 
 const CULL: [(&str, bool); 6] = [
@@ -177,12 +181,8 @@ const CULL: [(&str, bool); 6] = [
 ];
 
 #[test]
-fn cull(rt: HostRuntime) -> Result<(), AllocError> {
-    for row in &CULL {
-        let words = words_of(rt.alloc(), row.0)?;
-        check(&rt, read_cull(rt.alloc(), words.as_slice()).is_ok(), row);
-    }
-    Ok(())
+fn cull(rt: HostRuntime) {
+    check_lines(&rt, rt.alloc(), Command::Cull, &CULL);
 }
 
 const LOAD: [(&str, bool); 6] = [
@@ -195,10 +195,6 @@ const LOAD: [(&str, bool); 6] = [
 ];
 
 #[test]
-fn load(rt: HostRuntime) -> Result<(), AllocError> {
-    for row in &LOAD {
-        let words = words_of(rt.alloc(), row.0)?;
-        check(&rt, read_load(rt.alloc(), words.as_slice()).is_ok(), row);
-    }
-    Ok(())
+fn load(rt: HostRuntime) {
+    check_lines(&rt, rt.alloc(), Command::Load, &LOAD);
 }

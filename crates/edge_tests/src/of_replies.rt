@@ -1,6 +1,6 @@
 //! Which bytes are one reply.
+use crate::check::check;
 use hub_link::replies::read_reply;
-use std::process::Abort;
 
 /// Bytes, and the status and the body that they have, or 0 where they are no reply.
 const REPLIES: [(&[u8], u16, &[u8]); 9] = [
@@ -37,6 +37,6 @@ fn is_so(bytes: &[u8], status: u16, body: &[u8]) -> bool {
 #[test]
 fn replies(rt: HostRuntime) {
     for (bytes, status, body) in &REPLIES {
-        assert!(rt; is_so(bytes, *status, body), "{status}");
+        check(&rt, is_so(bytes, *status, body), "a reply");
     }
 }

@@ -1,12 +1,12 @@
 //! Whole rounds of the culler: what it asks, what it is told, and its numbers.
+use crate::check::{bytes, check, link_of, text};
 use hub_kit::bytes::Bytes;
 use hub_kit::moment::Moment;
-use hub_kit::text::Text;
 use hub_link::mem_link::MemHubLink;
 use idle_culler::pages::CullFault;
 use idle_culler::rounds::{Round, cull_round};
 use idle_culler::rules::CullOptions;
-use std::alloc::{AllocError, Global};
+use std::alloc::Global;
 use std::process::Abort;
 
 /// 2023-11-14T22:13:20Z.
@@ -324,56 +324,61 @@ const CASES: [Case; 15] = [
     },
 ];
 
-fn text(rt: &impl Abort, alloc: Global, text: &str) -> Text {
-    Text::from_str(alloc, text).expect(rt, "there is memory")
-}
-
-/// A link that gives these replies, and fails at the call of a number.
-fn link_of(rt: &impl Abort, alloc: Global, replies: &[&[u8]], failing: u64) -> MemHubLink {
-    let mut list = Vec::new(alloc);
-    for reply in replies {
-        let reply = Bytes::from_slice(alloc, reply).expect(rt, "there is memory");
-        list.push(reply).expect(rt, "there is memory");
-    }
-    let mut numbers = Vec::new(alloc);
-    numbers.push(failing).expect(rt, "there is memory");
-    MemHubLink::new(alloc, list, numbers)
-}
-
 /// All that a link was asked, one request behind the other.
-fn asked(alloc: Global, link: &MemHubLink) -> Result<Bytes, AllocError> {
+fn asked(rt: &impl Abort, alloc: Global, link: &MemHubLink) -> Bytes {
     let mut all = Bytes::new(alloc);
-    if let Some(asks) = link.asked() {
-        for (request, _) in asks {
-            all.push_all(request.as_slice())?;
-        }
+    for (request, _) in link.asked().expect(rt, "it is told") {
+        all.push_all(request.as_slice())
+            .expect(rt, "there is memory");
     }
-    Ok(all)
+    all
 }
 
-fn is_asked(rt: &impl Abort, alloc: Global, link: &MemHubLink, requests: &[u8]) -> bool {
-    asked(alloc, link).expect(rt, "there is memory").as_slice() == requests
+/// Stops the test unless a round comes to this, and the link was asked so.
+fn check_round(
+    rt: &impl Abort,
+    alloc: Global,
+    link: MemHubLink,
+    options: &CullOptions,
+    outcome: Result<Round, CullFault>,
+    requests: &[u8],
+    row: &str,
+) {
+    let mut link = link;
+    let token = text(rt, alloc, "culler-token");
+    let found = cull_round(alloc, &mut link, &token, options, Moment::up_to(NOW));
+    drop(token);
+    check(rt, found == outcome, row);
+    let asked = asked(rt, alloc, &link);
+    check(rt, asked.as_slice() == requests, row);
+    drop(asked);
+    drop(link);
 }
 
-fn check(rt: &impl Abort, alloc: Global, case: &Case) {
-    let mut link = link_of(rt, alloc, case.replies, case.failing);
+fn check_case(rt: &impl Abort, alloc: Global, case: &Case) {
+    let link = link_of(rt, alloc, case.replies, case.failing);
     let options = CullOptions {
         timeout: 600,
         max_age: case.max_age,
         cull_users: case.cull_users,
         remove_named: case.remove_named,
     };
-    let token = text(rt, alloc, "culler-token");
-    let outcome = cull_round(alloc, &mut link, &token, &options, Moment::up_to(NOW));
-    assert!(rt; outcome == case.outcome, "{}", case.name);
-    assert!(rt; is_asked(rt, alloc, &link, case.asked), "{}", case.name);
-    drop(link);
+    check_round(
+        rt,
+        alloc,
+        link,
+        &options,
+        case.outcome,
+        case.asked,
+        case.name,
+    );
 }
 
 #[test]
 fn rounds(rt: HostRuntime) {
+    let alloc = rt.alloc();
     for case in &CASES {
-        check(&rt, rt.alloc(), case);
+        check_case(&rt, alloc, case);
     }
 }
 
@@ -388,45 +393,43 @@ const SERVERS: &str =
                            }";
 
 /// The page of the users of these numbers, of whom the first has the servers.
-fn push_users(alloc: Global, body: &mut String, from: u64, to: u64) -> Result<(), AllocError> {
+fn push_users(rt: &impl Abort, alloc: Global, body: &mut String, from: u64, to: u64) {
     for n in from..to {
-        if n > from {
-            body.push_str(",")?;
-        }
-        let name = format!(in alloc; "{{\"name\":\"u{n}\",\"servers\":{{")?;
-        body.push_str(&name)?;
-        if n == 100 {
-            body.push_str(SERVERS)?;
-        }
-        body.push_str("}}")?;
+        let comma = if n > from { "," } else { "" };
+        let servers = if n == 100 { SERVERS } else { "" };
+        let user = format!(in alloc; "{comma}{{\"name\":\"u{n}\",\"servers\":{{{servers}}}}}");
+        let user = user.expect(rt, "there is memory");
+        body.push_str(&user).expect(rt, "there is memory");
+        drop(user);
     }
-    Ok(())
 }
 
 /// The reply with the page of the users of these numbers; `next` is what stands there.
-fn page(alloc: Global, next: &str, from: u64, to: u64) -> Result<Bytes, AllocError> {
-    let mut body = String::new(alloc);
-    body.push_str("{\"items\":[")?;
-    push_users(alloc, &mut body, from, to)?;
-    body.push_str("],\"_pagination\":{\"next\":")?;
-    body.push_str(next)?;
-    body.push_str("}}")?;
+fn page(rt: &impl Abort, alloc: Global, next: &str, from: u64, to: u64) -> Bytes {
+    let mut users = String::new(alloc);
+    push_users(rt, alloc, &mut users, from, to);
+    let body = format!(in alloc; "{{\"items\":[{users}],\"_pagination\":{{\"next\":{next}}}}}");
+    drop(users);
+    let body = body.expect(rt, "there is memory");
     let length = body.len();
-    let head = format!(in alloc; "HTTP/1.1 200 OK\r\nContent-Length: {length}\r\n\r\n")?;
-    let mut reply = Bytes::from_slice(alloc, head.as_bytes())?;
-    reply.push_all(body.as_bytes())?;
-    Ok(reply)
+    let reply = format!(in alloc; "HTTP/1.1 200 OK\r\nContent-Length: {length}\r\n\r\n{body}");
+    drop(body);
+    let reply = reply.expect(rt, "there is memory");
+    let page = bytes(rt, alloc, reply.as_bytes());
+    drop(reply);
+    page
 }
 
 /// 120 users in pages of 50, 50 and 20, and then a reply to each of two deletions.
-fn replies(alloc: Global) -> Result<Vec<Bytes>, AllocError> {
-    let mut list = Vec::new(alloc);
-    list.push(page(alloc, "{\"offset\":50}", 100, 150)?)?;
-    list.push(page(alloc, "{\"offset\":100}", 150, 200)?)?;
-    list.push(page(alloc, "null", 200, 220)?)?;
-    list.push(Bytes::from_slice(alloc, b"HTTP/1.1 204 No Content\r\n\r\n")?)?;
-    list.push(Bytes::from_slice(alloc, b"HTTP/1.1 202 Accepted\r\n\r\n")?)?;
-    Ok(list)
+fn replies(rt: &impl Abort, alloc: Global) -> Vec<Bytes> {
+    let list = vec![in alloc;
+        page(rt, alloc, "{\"offset\":50}", 100, 150),
+        page(rt, alloc, "{\"offset\":100}", 150, 200),
+        page(rt, alloc, "null", 200, 220),
+        bytes(rt, alloc, b"HTTP/1.1 204 No Content\r\n\r\n"),
+        bytes(rt, alloc, b"HTTP/1.1 202 Accepted\r\n\r\n"),
+    ];
+    list.expect(rt, "there is memory")
 }
 
 const ASKED: &[u8] =
@@ -442,22 +445,17 @@ const ASKED: &[u8] =
 #[test]
 fn three_pages(rt: HostRuntime) {
     let alloc = rt.alloc();
-    let list = replies(alloc).expect(&rt, "there is memory");
-    let mut link = MemHubLink::new(alloc, list, Vec::new(alloc));
+    let link = MemHubLink::new(alloc, replies(&rt, alloc), Vec::new(alloc));
     let options = CullOptions {
         timeout: 600,
         max_age: 0,
         cull_users: false,
         remove_named: false,
     };
-    let token = text(&rt, alloc, "culler-token");
-    let outcome = cull_round(alloc, &mut link, &token, &options, Moment::up_to(NOW));
     let all = Round {
         users: 120,
         culled: 2,
         refused: 0,
     };
-    assert!(rt; outcome == Ok(all));
-    assert!(rt; is_asked(&rt, alloc, &link, ASKED));
-    drop(link);
+    check_round(&rt, alloc, link, &options, Ok(all), ASKED, "three pages");
 }

@@ -1,4 +1,5 @@
 //! The whole command over devices in memory: its lines, its waits, and how it ends.
+use crate::check::{bytes, check, link_of, text, words_of};
 use hub_culling::cause::{Cause, End, status_of};
 use hub_culling::pause::ListPause;
 use hub_culling::run::run;
@@ -6,11 +7,9 @@ use hub_culling::world::{Outside, World};
 use hub_devices::mem_bytes::MemSink;
 use hub_devices::mem_clock::FixedClock;
 use hub_devices::mem_files::MemFiles;
-use hub_kit::bytes::Bytes;
 use hub_kit::moment::Moment;
-use hub_kit::text::Text;
 use hub_link::mem_link::MemHubLink;
-use std::alloc::{AllocError, Global};
+use std::alloc::Global;
 use std::process::Abort;
 
 /// Devices in memory.
@@ -171,59 +170,39 @@ const CASES: [Case; 10] = [
     },
 ];
 
-/// The words of a line, which stand between single spaces.
-fn words_of(alloc: Global, line: &str) -> Result<Vec<Text>, AllocError> {
-    let mut words = Vec::new(alloc);
-    for word in line.split(' ') {
-        words.push(Text::from_str(alloc, word)?)?;
-    }
-    Ok(words)
+fn files_of(rt: &impl Abort, alloc: Global, token: &[u8]) -> MemFiles {
+    let file = (text(rt, alloc, "token"), bytes(rt, alloc, token));
+    let files = vec![in alloc; file].expect(rt, "there is memory");
+    MemFiles::new(alloc, files, Vec::new(alloc))
 }
 
-fn files_of(alloc: Global, token: &[u8]) -> Result<MemFiles, AllocError> {
-    let mut files = Vec::new(alloc);
-    let name = Text::from_str(alloc, "token")?;
-    files.push((name, Bytes::from_slice(alloc, token)?))?;
-    Ok(MemFiles::new(alloc, files, Vec::new(alloc)))
-}
-
-fn link_of(alloc: Global, replies: &[&[u8]], failing: u64) -> Result<MemHubLink, AllocError> {
-    let mut list = Vec::new(alloc);
-    for reply in replies {
-        list.push(Bytes::from_slice(alloc, reply)?)?;
-    }
-    let numbers = vec![in alloc; failing]?;
-    Ok(MemHubLink::new(alloc, list, numbers))
-}
-
-fn outside_of(alloc: Global, case: &Case) -> Result<Outside<InMemory>, AllocError> {
-    let failing_write = vec![in alloc; case.failing_write]?;
-    Ok(Outside {
-        output: MemSink::new(alloc, failing_write),
-        files: files_of(alloc, case.token)?,
+fn outside_of(rt: &impl Abort, alloc: Global, case: &Case) -> Outside<InMemory> {
+    let failing = Vec::from_slice(alloc, &[case.failing_write]).expect(rt, "there is memory");
+    Outside {
+        output: MemSink::new(alloc, failing),
+        files: files_of(rt, alloc, case.token),
         clock: FixedClock(Moment::up_to(1_700_000_000)),
-        link: link_of(alloc, case.replies, case.failing_ask)?,
+        link: link_of(rt, alloc, case.replies, case.failing_ask),
         rest: ListPause::new(alloc),
-    })
+    }
 }
 
-fn check(rt: &impl Abort, alloc: Global, case: &Case) {
-    let words = words_of(alloc, case.words).expect(rt, "there is memory");
-    let mut outside = outside_of(alloc, case).expect(rt, "there is memory");
+fn check_case(rt: &impl Abort, alloc: Global, case: &Case) {
+    let words = words_of(rt, alloc, case.words);
+    let mut outside = outside_of(rt, alloc, case);
     let end = run(alloc, words.as_slice(), &mut outside);
-    assert!(rt;
-        end == case.end && status_of(end) == case.status,
-        "{}",
-        case.words
-    );
-    assert!(rt; outside.output.as_slice() == case.lines, "{}", case.words);
-    assert!(rt; outside.rest.waits() == Some(case.waits), "{}", case.words);
+    drop(words);
+    let holds = (end == case.end) & (status_of(end) == case.status);
+    check(rt, holds, case.words);
+    check(rt, outside.output.as_slice() == case.lines, case.words);
+    check(rt, outside.rest.waits() == Some(case.waits), case.words);
     drop(outside);
 }
 
 #[test]
 fn commands(rt: HostRuntime) {
+    let alloc = rt.alloc();
     for case in &CASES {
-        check(&rt, rt.alloc(), case);
+        check_case(&rt, alloc, case);
     }
 }

@@ -1,0 +1,41 @@
+//! What the tests share.
+use hub_kit::bytes::Bytes;
+use hub_kit::text::Text;
+use hub_link::mem_link::MemHubLink;
+use std::alloc::Global;
+use std::process::Abort;
+
+/// Stops the test unless what its row says holds.
+pub fn check(rt: &impl Abort, holds: bool, row: &str) {
+    assert!(rt; holds, "{row}");
+}
+
+pub fn text(rt: &impl Abort, alloc: Global, text: &str) -> Text {
+    Text::from_str(alloc, text).expect(rt, "there is memory")
+}
+
+pub fn bytes(rt: &impl Abort, alloc: Global, bytes: &[u8]) -> Bytes {
+    Bytes::from_slice(alloc, bytes).expect(rt, "there is memory")
+}
+
+/// A link that gives these replies, and fails at the call of a number.
+pub fn link_of(rt: &impl Abort, alloc: Global, replies: &[&[u8]], failing: u64) -> MemHubLink {
+    let mut list = Vec::new(alloc);
+    for reply in replies {
+        list.push(bytes(rt, alloc, reply))
+            .expect(rt, "there is memory");
+    }
+    let failing = Vec::from_slice(alloc, &[failing]).expect(rt, "there is memory");
+    MemHubLink::new(alloc, list, failing)
+}
+
+/// The words of a line, which stand between single spaces.
+pub fn words_of(rt: &impl Abort, alloc: Global, line: &str) -> Vec<Text> {
+    let mut words = Vec::new(alloc);
+    for word in line.split(' ') {
+        words
+            .push(text(rt, alloc, word))
+            .expect(rt, "there is memory");
+    }
+    words
+}
