@@ -1,6 +1,7 @@
-//! Tests of whole connections to one hub, with requests and replies written by hand as they stand on the wire: servers that start and stop,
-//! two passes that meet, adoptions, the routes of a proxy, tokens and shares. A crate of their own, since a crate that has tests is proved
-//! twice. Nothing stands above it.
+//! Tests of hubs over devices in memory, with requests and replies written by hand as they stand on the wire: files of configuration that
+//! are read or explained, kept rows that keep their rules or break one, whole connections, servers that start and stop, two passes that
+//! meet, adoptions, the routes of a proxy, tokens and shares. A crate of their own, since a crate that has tests is proved twice. Nothing
+//! stands above it.
 #![tactic(auto)]
 
 #[cfg(test)]
@@ -12,9 +13,15 @@ mod hubs;
 #[cfg(test)]
 mod of_adopt;
 #[cfg(test)]
+mod of_config;
+#[cfg(test)]
 mod of_grants;
 #[cfg(test)]
+mod of_hub_run;
+#[cfg(test)]
 mod of_routes;
+#[cfg(test)]
+mod of_row_rules;
 #[cfg(test)]
 mod of_servers;
 #[cfg(test)]

@@ -7,9 +7,9 @@ ghost use Rattle.server_life.specs.Owed.{owed};
 ghost use Rattle.server_work.specs.LifeSteps.{left_of};
 ghost use Rattle.server_work.specs.Outcomes.{KeptAs, is_end, noted};
 
-use crate::check::check;
+use crate::check::{check, failing, text};
 use crate::hubs::{NEVER, open_desk};
-use crate::of_servers::{Routed, Spawned, are_routed, are_spawned, failing};
+use crate::of_servers::{Routed, Spawned, are_called};
 use desk::{Booked, Desk, Pass};
 use hub_devices::calls::ListedRoute;
 use hub_devices::mem_routes::MemRouteLink;
@@ -17,7 +17,6 @@ use hub_devices::mem_spawner::MemSpawner;
 use hub_devices::route_link::RouteLink;
 use hub_kit::names::read_key;
 use hub_kit::targets::read_target;
-use hub_kit::text::Text;
 use server_life::{Life, LifeEvent, LifeRefusal, ParkedAt, Phase, Todo, life_laws, life_step};
 use server_work::adopt::{Adopted, adopt};
 use server_work::book::{LifeBook, Lived};
@@ -333,7 +332,7 @@ fn work(rt: &impl Abort, alloc: Global, generation: u64) -> Work
     Work {
         generation,
         server: read_key(b"ann/").expect(rt, "it is a key"),
-        path: Text::from_str(alloc, "/user/ann").expect(rt, "there is memory"),
+        path: text(rt, alloc, "/user/ann"),
         target: read_target(alloc, b"http://127.0.0.1:9001").expect(rt, "it is a target"),
         secret: None,
     }
@@ -360,8 +359,8 @@ fn routes(rt: &impl Abort, alloc: Global, adoption: &Adoption) -> MemRouteLink {
     let mut listed = Vec::new(alloc);
     if adoption.listed {
         let route = ListedRoute {
-            path: Text::from_str(alloc, "/user/ann").expect(rt, "there is memory"),
-            target: Text::from_str(alloc, "http://127.0.0.1:9001").expect(rt, "there is memory"),
+            path: text(rt, alloc, "/user/ann"),
+            target: text(rt, alloc, "http://127.0.0.1:9001"),
             serial: Some(10),
         };
         listed.push(route).expect(rt, "there is memory");
@@ -373,16 +372,6 @@ fn is_adopted(adopted: Adopted, adoption: &Adoption) -> bool {
     (adopted.ready == adoption.adopted.ready)
         & (adopted.stopped == adoption.adopted.stopped)
         & (adopted.parked == adoption.adopted.parked)
-}
-
-/// Whether the devices were called so.
-fn is_called(spawner: &MemSpawner, routes: &MemRouteLink, adoption: &Adoption) -> bool {
-    match (spawner.calls(), routes.calls()) {
-        (Some(spawned), Some(routed)) => {
-            are_spawned(spawned, adoption.spawned) & are_routed(routed, adoption.routed)
-        }
-        _ => false,
-    }
 }
 
 /// Whether the proxy lists the server's route, or none, as it should.
@@ -417,17 +406,21 @@ fn adopts_so<R: Abort + Wait>(rt: &R, alloc: Global, adoption: &Adoption) -> boo
         &mut routes,
         works.as_slice(),
     );
+    drop(works);
     let book = desk.close(rt, pass);
-    is_adopted(adopted, adoption)
-        & (book.life.phase == adoption.phase)
-        & (book.events == adoption.entries)
-        & is_called(&spawner, &routes, adoption)
-        & is_listed(&mut routes, adoption)
+    let stands = (book.life.phase == adoption.phase) & (book.events == adoption.entries);
+    drop(book);
+    let called = are_called(&spawner, &routes, adoption.spawned, adoption.routed);
+    let listed = is_listed(&mut routes, adoption);
+    drop(spawner);
+    drop(routes);
+    is_adopted(adopted, adoption) & stands & called & listed
 }
 
 #[test]
 fn adoptions(rt: HostRuntime) {
+    let alloc = rt.alloc();
     for adoption in &ADOPTIONS {
-        check(&rt, adopts_so(&rt, rt.alloc(), adoption), adoption.name);
+        check(&rt, adopts_so(&rt, alloc, adoption), adoption.name);
     }
 }

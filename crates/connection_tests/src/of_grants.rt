@@ -1,21 +1,7 @@
 //! Sessions of several connections that authorize a client and trade its codes: what is written on each.
-ghost use Rattle.std.specs.Prelude.{◌≤◌, ◌^◌};
-ghost use Rattle.hub_opening.specs.Kept.{MakeTable};
-
 use crate::check::check;
 use crate::connections::{Connection, all_end_so};
-use crate::hubs::{NEVER, no_scopes};
-use hub_kit::list::List;
-use hub_kit::names::{ServiceName, UserName, read_role, read_service, read_user};
-use hub_kit::text::Text;
-use hub_opening::config::{ConfigService, ConfigToken, ConfigUser, HubConfig, greatest_limits};
-use hub_rows::records::Role;
-use keyed_rows::sorted::Sorted;
-use scope_filters::holder::Owner;
-use scope_filters::scope::{RawScope, read_scope};
-use server_life::Pool;
-use std::alloc::Global;
-use std::process::Abort;
+use crate::hubs::NEVER;
 
 /// Connections, one after the other, to a hub of ann and the service bot, who may reach the service web, and bob, who may not.
 struct Session {
@@ -240,110 +226,21 @@ const SESSIONS: [Session; 5] = [
     },
 ];
 
-fn user(rt: &impl Abort, name: &str) -> UserName {
-    read_user(name.as_bytes()).expect(rt, "it is a name")
-}
-
-fn service(rt: &impl Abort, name: &str) -> ServiceName {
-    read_service(name.as_bytes()).expect(rt, "it is a name")
-}
-
-fn text(rt: &impl Abort, alloc: Global, text: &'static str) -> Text {
-    Text::from_str(alloc, text).expect(rt, "there is memory")
-}
-
-fn scopes(rt: &impl Abort, alloc: Global, text: &str) -> List<RawScope> {
-    let scope = read_scope(text).expect(rt, "it is a scope");
-    List::from_vec(vec![in alloc; scope].expect(rt, "there is memory"))
-}
-
-fn token(rt: &impl Abort, alloc: Global, owner: Owner, token: &'static str) -> ConfigToken {
-    ConfigToken {
-        text: text(rt, alloc, token),
-        owner,
-        scopes: scopes(rt, alloc, "inherit"),
-    }
-}
-
-/// A role of ann and bot.
-fn visitor(rt: &impl Abort, alloc: Global) -> Role {
-    let users = vec![in alloc; user(rt, "ann")].expect(rt, "there is memory");
-    let services = vec![in alloc; service(rt, "bot")].expect(rt, "there is memory");
-    Role {
-        name: read_role(b"visitor").expect(rt, "it is a name"),
-        groups: Sorted::from_vec(Vec::new(alloc)),
-        scopes: scopes(rt, alloc, "access:services!service=web"),
-        services: Sorted::from_vec(services),
-        users: Sorted::from_vec(users),
-    }
-}
-
-/// The service web, which is a client, and bot, which is none.
-fn services(rt: &impl Abort, alloc: Global) -> List<ConfigService> {
-    let services = vec![in alloc;
-        ConfigService {
-            name: service(rt, "bot"),
-            redirect_uri: None,
-            secret: None,
-        },
-        ConfigService {
-            name: service(rt, "web"),
-            redirect_uri: Some(text(rt, alloc, "/services/web/cb")),
-            secret: Some(text(rt, alloc, "service-secret-web")),
-        },
-    ];
-    List::from_vec(services.expect(rt, "there is memory"))
-}
-
-/// A configuration of ann, bob and bot, each with a token.
-fn config(rt: &impl Abort, alloc: Global) -> HubConfig
-    ensures trail { result.limits.trail_bytes ≤ 2 ^ 62 }
-    ensures scopes { MakeTable result.custom_scopes }
-{
-    let users = vec![in alloc;
-        ConfigUser {
-            name: user(rt, "ann"),
-            admin: false
-        },
-        ConfigUser {
-            name: user(rt, "bob"),
-            admin: false
-        },
-    ];
-    let roles = vec![in alloc; visitor(rt, alloc)];
-    let tokens = vec![in alloc;
-        token(rt, alloc, Owner::User(user(rt, "ann")), "secret-token-ann"),
-        token(rt, alloc, Owner::User(user(rt, "bob")), "secret-token-bob"),
-        token(
-            rt,
-            alloc,
-            Owner::Service(service(rt, "bot")),
-            "secret-token-bot"
-        ),
-    ];
-    HubConfig {
-        pool: Pool::new(List::new(alloc)).expect(rt, "it is a pool"),
-        hub_url: None,
-        limits: greatest_limits(),
-        no_trail: false,
-        users: List::from_vec(users.expect(rt, "there is memory")),
-        groups: List::new(alloc),
-        services: services(rt, alloc),
-        roles: List::from_vec(roles.expect(rt, "there is memory")),
-        tokens: List::from_vec(tokens.expect(rt, "there is memory")),
-        custom_scopes: no_scopes(alloc),
-    }
-}
+/// ann and bot may reach the service web, which is a client; bot is none.
+const FILE: &str = "users = [{name = 'ann'}, {name = 'bob'}]
+services = [{name = 'bot'}, {name = 'web', redirect_uri = '/services/web/cb', secret = 'service-secret-web'}]
+roles = [{name = 'visitor', scopes = ['access:services!service=web'], users = ['ann'], services = ['bot']}]
+tokens = [
+    {token = 'secret-token-ann', user = 'ann', scopes = ['inherit']},
+    {token = 'secret-token-bob', user = 'bob', scopes = ['inherit']},
+    {token = 'secret-token-bot', service = 'bot', scopes = ['inherit']},
+]";
 
 #[test]
 fn grants(rt: HostRuntime) {
+    let alloc = rt.alloc();
     for session in &SESSIONS {
-        let holds = all_end_so(
-            &rt,
-            rt.alloc(),
-            config(&rt, rt.alloc()),
-            session.connections,
-        );
+        let holds = all_end_so(&rt, alloc, FILE, session.connections);
         check(&rt, holds, session.name);
     }
 }

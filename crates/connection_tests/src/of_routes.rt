@@ -1,26 +1,12 @@
 //! Connections that ask for the routes of a proxy, or bring them into step: what is written, and what the route link is asked.
-ghost use Rattle.std.specs.Prelude.{◌≡◌, ◌≤◌, ◌^◌};
-ghost use Rattle.hub_opening.specs.Kept.{MakeTable};
+ghost use Rattle.std.specs.Prelude.{◌≡◌};
 
-use crate::check::{check, repeated};
-use crate::hubs::{MemBook, MemKit, NOW, no_scopes, open_desk};
-use crate::of_servers::{draws, pool, token, user};
+use crate::check::{check, text};
+use crate::hubs::{GREATEST_TRAIL, MemBook, MemKit, NEVER, answers, close_hub, kit, open_hub};
 use desk::{Desk, Pass};
-use hub_core::book::Book;
 use hub_devices::calls::{ListedRoute, Routing};
-use hub_devices::mem_bytes::{MemSink, MemSource};
-use hub_devices::mem_clock::FixedClock;
-use hub_devices::mem_random::ListRandom;
 use hub_devices::mem_routes::MemRouteLink;
 use hub_devices::mem_spawner::MemSpawner;
-use hub_kit::list::List;
-use hub_kit::moment::Moment;
-use hub_kit::targets::read_target;
-use hub_kit::text::Text;
-use hub_opening::config::{ConfigUser, HubConfig, greatest_limits};
-use hub_run::{HubKit, Served, serve_connection};
-use keeper::mem_keeper::MemKeeper;
-use keeper::trail::ListTrail;
 use std::alloc::Global;
 use std::process::Abort;
 use std::sync::Wait;
@@ -46,7 +32,7 @@ struct Connection {
     asked: &'static [Asked],
 }
 
-/// A hub with a target of its own, the admin ann and the user bob.
+/// Connections, one after the other, to the hub of the file.
 const CONNECTIONS: [Connection; 3] = [
     Connection {
         name: "a list",
@@ -108,61 +94,22 @@ const CONNECTIONS: [Connection; 3] = [
     },
 ];
 
-fn config(rt: &impl Abort, alloc: Global) -> HubConfig
-    ensures trail { result.limits.trail_bytes ≤ 2 ^ 62 }
-    ensures scopes { MakeTable result.custom_scopes }
-{
-    let users = vec![in alloc;
-        ConfigUser {
-            name: user(rt, b"ann"),
-            admin: true
-        },
-        ConfigUser {
-            name: user(rt, b"bob"),
-            admin: false
-        },
-    ];
-    let tokens = vec![in alloc;
-        token(rt, alloc, "secret-token-ann", b"ann"),
-        token(rt, alloc, "secret-token-bob", b"bob"),
-    ];
-    let own = read_target(alloc, b"http://127.0.0.1:8081").expect(rt, "it is a target");
-    HubConfig {
-        pool: pool(rt, alloc),
-        hub_url: Some(own),
-        limits: greatest_limits(),
-        no_trail: false,
-        users: List::from_vec(users.expect(rt, "there is memory")),
-        groups: List::new(alloc),
-        services: List::new(alloc),
-        roles: List::new(alloc),
-        tokens: List::from_vec(tokens.expect(rt, "there is memory")),
-        custom_scopes: no_scopes(alloc),
-    }
-}
-
-fn book(rt: &impl Abort, alloc: Global) -> MemBook {
-    let keeper = MemKeeper::new(alloc, Vec::new(alloc), Vec::new(alloc)).expect(
-        rt,
-        "there is memory",
-    );
-    let config = config(rt, alloc);
-    let now = Moment::up_to(NOW);
-    let book = Book::open(alloc, keeper, ListTrail::new(alloc), &config, now);
-    drop(config);
-    match book {
-        Ok(book) => book,
-        Err(_) => panic!(rt; "no book"),
-    }
-}
+/// A hub with a target of its own, the admin ann and the user bob.
+const FILE: &str = "pool = ['http://127.0.0.1:9001']
+hub_url = 'http://127.0.0.1:8081'
+users = [{name = 'ann', admin = true}, {name = 'bob'}]
+tokens = [
+    {token = 'secret-token-ann', user = 'ann', scopes = ['inherit']},
+    {token = 'secret-token-bob', user = 'bob', scopes = ['inherit']},
+]";
 
 /// The routes that the link of a connection begins with.
 fn routes(rt: &impl Abort, alloc: Global, connection: &Connection) -> Vec<ListedRoute> {
     let mut listed = Vec::new(alloc);
     for (path, serial) in connection.routes {
         let route = ListedRoute {
-            path: Text::from_str(alloc, path).expect(rt, "there is memory"),
-            target: Text::from_str(alloc, "http://127.0.0.1:9003").expect(rt, "there is memory"),
+            path: text(rt, alloc, path),
+            target: text(rt, alloc, "http://127.0.0.1:9003"),
             serial: Some(*serial),
         };
         listed.push(route).expect(rt, "there is memory");
@@ -170,14 +117,18 @@ fn routes(rt: &impl Abort, alloc: Global, connection: &Connection) -> Vec<Listed
     listed
 }
 
-fn kit(rt: &impl Abort, alloc: Global, connection: &Connection) -> MemKit {
+fn kit_of(rt: &impl Abort, alloc: Global, connection: &Connection) -> MemKit {
     let failing = Vec::from_slice(alloc, connection.failing).expect(rt, "there is memory");
-    HubKit {
-        spawner: MemSpawner::new(alloc, Vec::new(alloc)),
-        routes: MemRouteLink::beginning(alloc, routes(rt, alloc, connection), failing),
-        clock: FixedClock(Moment::up_to(NOW)),
-        random: ListRandom::new(draws(rt, alloc), Vec::new(alloc)),
-    }
+    let listed = routes(rt, alloc, connection);
+    let link = MemRouteLink::beginning(alloc, listed, failing);
+    kit(
+        rt,
+        alloc,
+        0,
+        MemSpawner::new(alloc, Vec::new(alloc)),
+        link,
+        NEVER,
+    )
 }
 
 fn is_asked(call: &Routing, asked: Asked) -> bool {
@@ -220,26 +171,29 @@ fn ends_so<R: Abort + Wait>(
     requires { pass.old.of ≡ desk.now }
     ensures { pass.new.of ≡ desk.now }
 {
-    let input = repeated(rt, alloc, connection.input, 1);
-    let mut source = MemSource::new(input, 100, Vec::new(alloc));
-    let mut sink = MemSink::new(alloc, Vec::new(alloc));
-    let mut kit = kit(rt, alloc, connection);
-    let served = serve_connection(rt, alloc, desk, pass, &mut source, &mut sink, &mut kit);
-    (served == Ok(Served::Ended(connection.replies)))
-        & (sink.as_slice() == connection.output)
-        & are_asked(&kit, connection.asked)
+    let mut kit = kit_of(rt, alloc, connection);
+    let served = answers(
+        rt,
+        alloc,
+        desk,
+        pass,
+        &mut kit,
+        connection.input,
+        connection.replies,
+        connection.output,
+    );
+    let asked = are_asked(&kit, connection.asked);
+    drop(kit);
+    served & asked
 }
 
 #[test]
 fn routes_of_a_proxy(rt: HostRuntime) {
-    let (desk, mut pass) = open_desk(&rt, rt.alloc(), book(&rt, rt.alloc()));
+    let alloc = rt.alloc();
+    let (desk, mut pass) = open_hub(&rt, alloc, FILE, NEVER, GREATEST_TRAIL);
     for connection in &CONNECTIONS {
-        check(
-            &rt,
-            ends_so(&rt, rt.alloc(), &desk, &mut pass, connection),
-            connection.name,
-        );
+        let holds = ends_so(&rt, alloc, &desk, &mut pass, connection);
+        check(&rt, holds, connection.name);
     }
-    let book = desk.close(&rt, pass);
-    drop(book);
+    close_hub(&rt, desk, pass);
 }

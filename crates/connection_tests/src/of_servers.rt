@@ -1,29 +1,9 @@
 //! Connections that start and stop servers, over devices in memory: what is written, and which calls are made.
-ghost use Rattle.std.specs.Prelude.{◌≡◌, ◌≤◌, ◌^◌};
-ghost use Rattle.hub_opening.specs.Kept.{MakeTable};
-
-use crate::check::{check, repeated};
-use crate::hubs::{MemBook, MemKit, NEVER, NOW, no_scopes, open_desk};
-use desk::{Desk, Pass};
-use hub_core::book::Book;
+use crate::check::{check, failing};
+use crate::hubs::{GREATEST_TRAIL, MemKit, NEVER, answers, close_hub, kit, open_hub};
 use hub_devices::calls::{Routing, Spawning, Told};
-use hub_devices::mem_bytes::{MemSink, MemSource};
-use hub_devices::mem_clock::FixedClock;
-use hub_devices::mem_random::ListRandom;
 use hub_devices::mem_routes::MemRouteLink;
 use hub_devices::mem_spawner::MemSpawner;
-use hub_kit::list::List;
-use hub_kit::moment::Moment;
-use hub_kit::names::{UserName, read_user};
-use hub_kit::targets::read_target;
-use hub_kit::text::Text;
-use hub_opening::config::{ConfigToken, ConfigUser, HubConfig, greatest_limits};
-use hub_run::{HubKit, Served, serve_connection};
-use keeper::mem_keeper::MemKeeper;
-use keeper::trail::ListTrail;
-use scope_filters::holder::Owner;
-use scope_filters::scope::RawScope;
-use server_life::Pool;
 use std::alloc::Global;
 use std::process::Abort;
 use std::sync::Wait;
@@ -227,99 +207,13 @@ const CONNECTIONS: [Connection; 8] = [
     },
 ];
 
-pub fn user(rt: &impl Abort, name: &[u8]) -> UserName {
-    read_user(name).expect(rt, "it is a name")
-}
-
-/// A token of this user that holds all that the user holds.
-pub fn token(rt: &impl Abort, alloc: Global, text: &str, name: &[u8]) -> ConfigToken {
-    let scopes = vec![in alloc; RawScope::Inherit];
-    ConfigToken {
-        text: Text::from_str(alloc, text).expect(rt, "there is memory"),
-        owner: Owner::User(user(rt, name)),
-        scopes: List::from_vec(scopes.expect(rt, "there is memory")),
-    }
-}
-
-/// The pool of one target.
-pub fn pool(rt: &impl Abort, alloc: Global) -> Pool {
-    let target = read_target(alloc, b"http://127.0.0.1:9001").expect(rt, "it is a target");
-    let targets = vec![in alloc; target].expect(rt, "there is memory");
-    Pool::new(List::from_vec(targets)).expect(rt, "it is a pool")
-}
-
-/// A configuration of the users ann and bob with a token each.
-pub fn config(rt: &impl Abort, alloc: Global) -> HubConfig
-    ensures trail { result.limits.trail_bytes ≤ 2 ^ 62 }
-    ensures scopes { MakeTable result.custom_scopes }
-{
-    let users = vec![in alloc;
-        ConfigUser {
-            name: user(rt, b"ann"),
-            admin: false
-        },
-        ConfigUser {
-            name: user(rt, b"bob"),
-            admin: false
-        },
-    ];
-    let tokens = vec![in alloc;
-        token(rt, alloc, "secret-token-ann", b"ann"),
-        token(rt, alloc, "secret-token-bob", b"bob"),
-    ];
-    HubConfig {
-        pool: pool(rt, alloc),
-        hub_url: None,
-        limits: greatest_limits(),
-        no_trail: false,
-        users: List::from_vec(users.expect(rt, "there is memory")),
-        groups: List::new(alloc),
-        services: List::new(alloc),
-        roles: List::new(alloc),
-        tokens: List::from_vec(tokens.expect(rt, "there is memory")),
-        custom_scopes: no_scopes(alloc),
-    }
-}
-
-/// The numbers of the calls that fail: this one.
-pub fn failing(rt: &impl Abort, alloc: Global, call: u64) -> Vec<u64> {
-    Vec::from_slice(alloc, &[call]).expect(rt, "there is memory")
-}
-
-fn book(rt: &impl Abort, alloc: Global, connection: &Connection) -> MemBook {
-    let failing = failing(rt, alloc, connection.failing_commit);
-    let keeper = MemKeeper::new(alloc, Vec::new(alloc), failing).expect(rt, "there is memory");
-    let config = config(rt, alloc);
-    let now = Moment::up_to(NOW);
-    let book = Book::open(alloc, keeper, ListTrail::new(alloc), &config, now);
-    drop(config);
-    match book {
-        Ok(book) => book,
-        Err(_) => panic!(rt; "no book"),
-    }
-}
-
-/// Three draws: fifteen zeros, and a byte that counts from 1.
-pub fn draws(rt: &impl Abort, alloc: Global) -> Vec<[u8; 16]> {
-    let draws = vec![in alloc;
-        [0, 0, 0, 0, 0, 0, 0, 0, 0, 0, 0, 0, 0, 0, 0, 1],
-        [0, 0, 0, 0, 0, 0, 0, 0, 0, 0, 0, 0, 0, 0, 0, 2],
-        [0, 0, 0, 0, 0, 0, 0, 0, 0, 0, 0, 0, 0, 0, 0, 3],
-    ];
-    draws.expect(rt, "there is memory")
-}
-
-fn kit(rt: &impl Abort, alloc: Global, connection: &Connection) -> MemKit {
-    HubKit {
-        spawner: MemSpawner::new(alloc, failing(rt, alloc, connection.failing_spawn)),
-        routes: MemRouteLink::new(alloc, failing(rt, alloc, connection.failing_route)),
-        clock: FixedClock(Moment::up_to(NOW)),
-        random: ListRandom::new(
-            draws(rt, alloc),
-            failing(rt, alloc, connection.failing_draw),
-        ),
-    }
-}
+/// The users ann and bob with a token each, and one target.
+pub const FILE: &str = "pool = ['http://127.0.0.1:9001']
+users = [{name = 'ann'}, {name = 'bob'}]
+tokens = [
+    {token = 'secret-token-ann', user = 'ann', scopes = ['inherit']},
+    {token = 'secret-token-bob', user = 'bob', scopes = ['inherit']},
+]";
 
 fn is_spawned(call: &Spawning, spawned: Spawned) -> bool {
     match (call, spawned) {
@@ -343,7 +237,7 @@ fn is_routed(call: &Routing, routed: Routed) -> bool {
 }
 
 /// Whether the spawner was called so.
-pub fn are_spawned(calls: &[(Spawning, Told)], all: &[Spawned]) -> bool {
+fn are_spawned(calls: &[(Spawning, Told)], all: &[Spawned]) -> bool {
     if calls.len() != all.len() {
         return false;
     }
@@ -356,7 +250,7 @@ pub fn are_spawned(calls: &[(Spawning, Told)], all: &[Spawned]) -> bool {
 }
 
 /// Whether the route link was called so.
-pub fn are_routed(calls: &[(Routing, Told)], all: &[Routed]) -> bool {
+fn are_routed(calls: &[(Routing, Told)], all: &[Routed]) -> bool {
     if calls.len() != all.len() {
         return false;
     }
@@ -368,42 +262,54 @@ pub fn are_routed(calls: &[(Routing, Told)], all: &[Routed]) -> bool {
     true
 }
 
-/// Whether the devices of the kit were called so.
-fn is_called(kit: &MemKit, connection: &Connection) -> bool {
-    match (kit.spawner.calls(), kit.routes.calls()) {
-        (Some(spawned), Some(routed)) => {
-            are_spawned(spawned, connection.spawned) & are_routed(routed, connection.routed)
-        }
+/// Whether the devices were called so.
+pub fn are_called(
+    spawner: &MemSpawner,
+    routes: &MemRouteLink,
+    spawned: &[Spawned],
+    routed: &[Routed],
+) -> bool {
+    match (spawner.calls(), routes.calls()) {
+        (Some(starts), Some(paths)) => are_spawned(starts, spawned) & are_routed(paths, routed),
         _ => false,
     }
 }
 
+fn kit_of(rt: &impl Abort, alloc: Global, connection: &Connection) -> MemKit {
+    let spawner = MemSpawner::new(alloc, failing(rt, alloc, connection.failing_spawn));
+    let routes = MemRouteLink::new(alloc, failing(rt, alloc, connection.failing_route));
+    kit(rt, alloc, 0, spawner, routes, connection.failing_draw)
+}
+
 /// Whether the connection ends as it should, has written its output, and made these calls.
 fn ends_so<R: Abort + Wait>(rt: &R, alloc: Global, connection: &Connection) -> bool {
-    let (desk, mut pass) = open_desk(rt, alloc, book(rt, alloc, connection));
-    let input = repeated(rt, alloc, connection.input, 1);
-    let mut source = MemSource::new(input, 100, Vec::new(alloc));
-    let mut sink = MemSink::new(alloc, Vec::new(alloc));
-    let mut kit = kit(rt, alloc, connection);
-    let served = serve_connection(
+    let (desk, mut pass) = open_hub(rt, alloc, FILE, connection.failing_commit, GREATEST_TRAIL);
+    let mut kit = kit_of(rt, alloc, connection);
+    let served = answers(
         rt,
         alloc,
         &desk,
         &mut pass,
-        &mut source,
-        &mut sink,
         &mut kit,
+        connection.input,
+        connection.replies,
+        connection.output,
     );
-    let book = desk.close(rt, pass);
-    drop(book);
-    (served == Ok(Served::Ended(connection.replies)))
-        & (sink.as_slice() == connection.output)
-        & is_called(&kit, connection)
+    close_hub(rt, desk, pass);
+    let called = are_called(
+        &kit.spawner,
+        &kit.routes,
+        connection.spawned,
+        connection.routed,
+    );
+    drop(kit);
+    served & called
 }
 
 #[test]
 fn servers(rt: HostRuntime) {
+    let alloc = rt.alloc();
     for connection in &CONNECTIONS {
-        check(&rt, ends_so(&rt, rt.alloc(), connection), connection.name);
+        check(&rt, ends_so(&rt, alloc, connection), connection.name);
     }
 }

@@ -1,21 +1,7 @@
 //! Sessions of several connections that share servers, by names and by codes: what is written on each.
-ghost use Rattle.std.specs.Prelude.{◌≤◌, ◌^◌};
-ghost use Rattle.hub_opening.specs.Kept.{MakeTable};
-
 use crate::check::check;
 use crate::connections::{Connection, all_end_so};
-use crate::hubs::{NEVER, no_scopes};
-use hub_kit::list::List;
-use hub_kit::names::{UserName, read_group, read_role, read_user};
-use hub_kit::text::Text;
-use hub_opening::config::{ConfigToken, ConfigUser, HubConfig, greatest_limits};
-use hub_rows::records::{Group, Role};
-use keyed_rows::sorted::Sorted;
-use scope_filters::holder::Owner;
-use scope_filters::scope::{RawScope, read_scope};
-use server_life::Pool;
-use std::alloc::Global;
-use std::process::Abort;
+use crate::hubs::NEVER;
 
 /// Connections, one after the other, to a hub of ann, whose role has `shares!user` and `delete:users`, and bob, who is in the group `class`.
 struct Session {
@@ -236,88 +222,19 @@ const SESSIONS: [Session; 5] = [
     },
 ];
 
-fn user(rt: &impl Abort, name: &str) -> UserName {
-    read_user(name.as_bytes()).expect(rt, "it is a name")
-}
-
-fn users(rt: &impl Abort, alloc: Global, name: &str) -> Sorted<UserName> {
-    Sorted::from_vec(vec![in alloc; user(rt, name)].expect(rt, "there is memory"))
-}
-
-fn scopes(rt: &impl Abort, alloc: Global, texts: &[&'static str]) -> List<RawScope> {
-    let mut scopes = Vec::new(alloc);
-    for text in texts {
-        let scope = read_scope(text).expect(rt, "it is a scope");
-        scopes.push(scope).expect(rt, "there is memory");
-    }
-    List::from_vec(scopes)
-}
-
-fn token(rt: &impl Abort, alloc: Global, name: &str, text: &'static str) -> ConfigToken {
-    ConfigToken {
-        text: Text::from_str(alloc, text).expect(rt, "there is memory"),
-        owner: Owner::User(user(rt, name)),
-        scopes: scopes(rt, alloc, &["inherit"]),
-    }
-}
-
-/// A configuration of ann and bob, each with a token.
-fn config(rt: &impl Abort, alloc: Global) -> HubConfig
-    ensures trail { result.limits.trail_bytes ≤ 2 ^ 62 }
-    ensures scopes { MakeTable result.custom_scopes }
-{
-    let users_of_hub = vec![in alloc;
-        ConfigUser {
-            name: user(rt, "ann"),
-            admin: false
-        },
-        ConfigUser {
-            name: user(rt, "bob"),
-            admin: false
-        },
-    ];
-    let groups = vec![in alloc;
-        Group {
-            name: read_group(b"class").expect(rt, "it is a name"),
-            users: users(rt, alloc, "bob"),
-        },
-    ];
-    let roles = vec![in alloc;
-        Role {
-            name: read_role(b"sharer").expect(rt, "it is a name"),
-            groups: Sorted::from_vec(Vec::new(alloc)),
-            scopes: scopes(rt, alloc, &["shares!user", "delete:users"]),
-            services: Sorted::from_vec(Vec::new(alloc)),
-            users: users(rt, alloc, "ann"),
-        },
-    ];
-    let tokens = vec![in alloc;
-        token(rt, alloc, "ann", "secret-token-ann"),
-        token(rt, alloc, "bob", "secret-token-bob"),
-    ];
-    HubConfig {
-        pool: Pool::new(List::new(alloc)).expect(rt, "it is a pool"),
-        hub_url: None,
-        limits: greatest_limits(),
-        no_trail: false,
-        users: List::from_vec(users_of_hub.expect(rt, "there is memory")),
-        groups: List::from_vec(groups.expect(rt, "there is memory")),
-        services: List::new(alloc),
-        roles: List::from_vec(roles.expect(rt, "there is memory")),
-        tokens: List::from_vec(tokens.expect(rt, "there is memory")),
-        custom_scopes: no_scopes(alloc),
-    }
-}
+const FILE: &str = "users = [{name = 'ann'}, {name = 'bob'}]
+groups = [{name = 'class', users = ['bob']}]
+roles = [{name = 'sharer', scopes = ['shares!user', 'delete:users'], users = ['ann']}]
+tokens = [
+    {token = 'secret-token-ann', user = 'ann', scopes = ['inherit']},
+    {token = 'secret-token-bob', user = 'bob', scopes = ['inherit']},
+]";
 
 #[test]
 fn shares(rt: HostRuntime) {
+    let alloc = rt.alloc();
     for session in &SESSIONS {
-        let holds = all_end_so(
-            &rt,
-            rt.alloc(),
-            config(&rt, rt.alloc()),
-            session.connections,
-        );
+        let holds = all_end_so(&rt, alloc, FILE, session.connections);
         check(&rt, holds, session.name);
     }
 }

@@ -1,39 +1,32 @@
 //! Sessions of several connections that make, show and delete tokens: what is written on each.
-ghost use Rattle.std.specs.Prelude.{◌≤◌, ◌^◌};
-ghost use Rattle.hub_opening.specs.Kept.{MakeTable};
-
 use crate::check::check;
 use crate::connections::{Connection, all_end_so};
-use crate::hubs::{NEVER, no_scopes};
-use hub_kit::list::List;
-use hub_kit::names::{UserName, read_role, read_user};
-use hub_kit::text::Text;
-use hub_opening::config::{ConfigToken, ConfigUser, HubConfig, greatest_limits};
-use hub_rows::records::Role;
-use keyed_rows::sorted::Sorted;
-use scope_filters::holder::Owner;
-use scope_filters::scope::{RawScope, read_scope};
-use server_life::Pool;
-use std::alloc::Global;
-use std::process::Abort;
+use crate::hubs::NEVER;
 
-/// Connections, one after the other, to a hub of ann, who has tokens with these texts, and a role with `read:users`.
+/// Connections, one after the other, to the hub of a file: of ann, who has a role with `read:users`.
 struct Session {
     name: &'static str,
-    tokens: &'static [&'static str],
+    file: &'static str,
     connections: &'static [Connection],
 }
 
-/// The tokens of most sessions.
-const ONE: [&str; 1] = ["secret-token-ann"];
+/// The file of most sessions, in which ann has one token.
+const ONE: &str = "users = [{name = 'ann'}]
+roles = [{name = 'reader', scopes = ['read:users'], users = ['ann']}]
+tokens = [{token = 'secret-token-ann', user = 'ann', scopes = ['inherit']}]";
 
-/// Those of a session that needs a token after the first has gone.
-const TWO: [&str; 2] = ["secret-token-ann", "second-token-ann"];
+/// That of a session that needs a token after the first has gone.
+const TWO: &str = "users = [{name = 'ann'}]
+roles = [{name = 'reader', scopes = ['read:users'], users = ['ann']}]
+tokens = [
+    {token = 'secret-token-ann', user = 'ann', scopes = ['inherit']},
+    {token = 'second-token-ann', user = 'ann', scopes = ['inherit']},
+]";
 
 const SESSIONS: [Session; 5] = [
     Session {
         name: "what isn't held is refused, and what is held is made",
-        tokens: &ONE,
+        file: ONE,
         connections: &[Connection {
             after: 0,
             failing_draw: NEVER,
@@ -59,7 +52,7 @@ const SESSIONS: [Session; 5] = [
     },
     Session {
         name: "a token ends at its moment, and goes with the next that is made",
-        tokens: &ONE,
+        file: ONE,
         connections: &[
             Connection {
                 after: 0,
@@ -106,7 +99,7 @@ const SESSIONS: [Session; 5] = [
     },
     Session {
         name: "a token deletes itself",
-        tokens: &TWO,
+        file: TWO,
         connections: &[
             Connection {
                 after: 0,
@@ -136,7 +129,7 @@ const SESSIONS: [Session; 5] = [
     },
     Session {
         name: "a draw fails, and one comes again",
-        tokens: &ONE,
+        file: ONE,
         connections: &[
             Connection {
                 after: 0,
@@ -168,7 +161,7 @@ const SESSIONS: [Session; 5] = [
     },
     Session {
         name: "forms of the path and of the body",
-        tokens: &ONE,
+        file: ONE,
         connections: &[Connection {
             after: 0,
             failing_draw: NEVER,
@@ -200,69 +193,11 @@ const SESSIONS: [Session; 5] = [
     },
 ];
 
-fn ann(rt: &impl Abort) -> UserName {
-    read_user(b"ann").expect(rt, "it is a name")
-}
-
-fn scopes(rt: &impl Abort, alloc: Global, text: &str) -> List<RawScope> {
-    let scope = read_scope(text).expect(rt, "it is a scope");
-    List::from_vec(vec![in alloc; scope].expect(rt, "there is memory"))
-}
-
-/// Tokens of ann with these texts.
-fn tokens_of_ann(rt: &impl Abort, alloc: Global, texts: &[&'static str]) -> List<ConfigToken> {
-    let mut tokens = Vec::new(alloc);
-    for text in texts {
-        let token = ConfigToken {
-            text: Text::from_str(alloc, text).expect(rt, "there is memory"),
-            owner: Owner::User(ann(rt)),
-            scopes: scopes(rt, alloc, "inherit"),
-        };
-        tokens.push(token).expect(rt, "there is memory");
-    }
-    List::from_vec(tokens)
-}
-
-/// A configuration of ann, with tokens of these texts and a role.
-fn config(rt: &impl Abort, alloc: Global, texts: &[&'static str]) -> HubConfig
-    ensures trail { result.limits.trail_bytes ≤ 2 ^ 62 }
-    ensures scopes { MakeTable result.custom_scopes }
-{
-    let users = vec![in alloc;
-        ConfigUser {
-            name: ann(rt),
-            admin: false
-        },
-    ];
-    let holders = vec![in alloc; ann(rt)].expect(rt, "there is memory");
-    let roles = vec![in alloc;
-        Role {
-            name: read_role(b"reader").expect(rt, "it is a name"),
-            groups: Sorted::from_vec(Vec::new(alloc)),
-            scopes: scopes(rt, alloc, "read:users"),
-            services: Sorted::from_vec(Vec::new(alloc)),
-            users: Sorted::from_vec(holders),
-        },
-    ];
-    HubConfig {
-        pool: Pool::new(List::new(alloc)).expect(rt, "it is a pool"),
-        hub_url: None,
-        limits: greatest_limits(),
-        no_trail: false,
-        users: List::from_vec(users.expect(rt, "there is memory")),
-        groups: List::new(alloc),
-        services: List::new(alloc),
-        roles: List::from_vec(roles.expect(rt, "there is memory")),
-        tokens: tokens_of_ann(rt, alloc, texts),
-        custom_scopes: no_scopes(alloc),
-    }
-}
-
 #[test]
 fn tokens(rt: HostRuntime) {
+    let alloc = rt.alloc();
     for session in &SESSIONS {
-        let config = config(&rt, rt.alloc(), session.tokens);
-        let holds = all_end_so(&rt, rt.alloc(), config, session.connections);
+        let holds = all_end_so(&rt, alloc, session.file, session.connections);
         check(&rt, holds, session.name);
     }
 }

@@ -3,26 +3,18 @@
 ghost use Rattle.std.specs.Prelude.{◌≡◌};
 ghost use Rattle.hub_core.specs.Works.{IsSound};
 
-use crate::check::{check, repeated};
-use crate::hubs::{MemBook, MemKit, NEVER, NOW, open_desk};
-use crate::of_servers::{Routed, Spawned, are_routed, are_spawned, config, draws, failing};
+use crate::check::{check, failing, text};
+use crate::hubs::{GREATEST_TRAIL, MemBook, MemKit, NEVER, NOW, answers, close_hub, kit, open_hub};
+use crate::of_servers::{FILE, Routed, Spawned, are_called};
 use desk::{Desk, Pass};
 use hub_core::ask::Ask;
-use hub_core::book::Book;
-use hub_devices::mem_bytes::{MemSink, MemSource};
-use hub_devices::mem_clock::FixedClock;
-use hub_devices::mem_random::ListRandom;
 use hub_devices::mem_routes::MemRouteLink;
 use hub_devices::mem_spawner::MemSpawner;
 use hub_kit::moment::Moment;
 use hub_kit::names::read_key;
-use hub_kit::text::Text;
 use hub_machine::call::{Asked, Call};
 use hub_machine::reply::Outcome;
 use hub_machine::work::Work;
-use hub_run::{HubKit, Served, serve_connection};
-use keeper::mem_keeper::MemKeeper;
-use keeper::trail::ListTrail;
 use server_work::chain::drive;
 use server_work::tale::Tale;
 use server_work::work::{Device, Kept};
@@ -219,30 +211,10 @@ const MEETINGS: [Meeting; 6] = [
 /// The draw of the start that is asked for first. The other connection has those of its own.
 const DRAW: [u8; 16] = [0, 0, 0, 0, 0, 0, 0, 0, 0, 0, 0, 0, 0, 0, 0, 9];
 
-fn book(rt: &impl Abort, alloc: Global) -> MemBook {
-    let keeper = MemKeeper::new(alloc, Vec::new(alloc), Vec::new(alloc));
-    let config = config(rt, alloc);
-    let book = Book::open(
-        alloc,
-        keeper.expect(rt, "there is memory"),
-        ListTrail::new(alloc),
-        &config,
-        Moment::up_to(NOW),
-    );
-    drop(config);
-    match book {
-        Ok(book) => book,
-        Err(_) => panic!(rt; "no book"),
-    }
-}
-
-fn kit(rt: &impl Abort, alloc: Global, meeting: &Meeting) -> MemKit {
-    HubKit {
-        spawner: MemSpawner::new(alloc, failing(rt, alloc, meeting.failing_spawn)),
-        routes: MemRouteLink::new(alloc, failing(rt, alloc, meeting.failing_route)),
-        clock: FixedClock(Moment::up_to(NOW)),
-        random: ListRandom::new(draws(rt, alloc), Vec::new(alloc)),
-    }
+fn kit_of(rt: &impl Abort, alloc: Global, meeting: &Meeting) -> MemKit {
+    let spawner = MemSpawner::new(alloc, failing(rt, alloc, meeting.failing_spawn));
+    let routes = MemRouteLink::new(alloc, failing(rt, alloc, meeting.failing_route));
+    kit(rt, alloc, 0, spawner, routes, NEVER)
 }
 
 /// A further pass of the desk.
@@ -268,9 +240,8 @@ fn begun<R: Abort + Wait>(
     ensures of { pass.new.of ≡ pass.old.of }
     ensures sound { IsSound result }
 {
-    let token = Text::from_str(alloc, "secret-token-ann").expect(rt, "there is memory");
     let asked = Asked {
-        token: Some(token),
+        token: Some(text(rt, alloc, "secret-token-ann")),
         seen: None,
         call: Call::PostServer {
             server: read_key(b"ann/").expect(rt, "it is a key"),
@@ -298,7 +269,7 @@ fn done<R: Abort + Wait>(
     requires sound { IsSound work }
     ensures { pass.new.of ≡ pass.old.of }
 {
-    let path = Text::from_str(alloc, "/user/ann").expect(rt, "there is memory");
+    let path = text(rt, alloc, "/user/ann");
     let Work {
         generation,
         server,
@@ -327,7 +298,7 @@ fn done<R: Abort + Wait>(
 }
 
 /// Whether a connection that asks this gets these replies, and ends then.
-fn is_served<R: Abort + Wait>(
+fn exchanges<R: Abort + Wait>(
     rt: &R,
     alloc: Global,
     desk: &Desk<MemBook>,
@@ -336,13 +307,18 @@ fn is_served<R: Abort + Wait>(
     exchange: &Exchange,
 ) -> bool
     requires { pass.old.of ≡ desk.now }
-    ensures { pass.new.of ≡ pass.old.of }
+    ensures { pass.new.of ≡ desk.now }
 {
-    let input = repeated(rt, alloc, exchange.input, 1);
-    let mut source = MemSource::new(input, 100, Vec::new(alloc));
-    let mut sink = MemSink::new(alloc, Vec::new(alloc));
-    let served = serve_connection(rt, alloc, desk, pass, &mut source, &mut sink, kit);
-    (served == Ok(Served::Ended(exchange.replies))) & (sink.as_slice() == exchange.output)
+    answers(
+        rt,
+        alloc,
+        desk,
+        pass,
+        kit,
+        exchange.input,
+        exchange.replies,
+        exchange.output,
+    )
 }
 
 fn is_told(told: Option<Tale>, tale: &Tale) -> bool {
@@ -358,34 +334,26 @@ fn is_told(told: Option<Tale>, tale: &Tale) -> bool {
     }
 }
 
-/// Whether the devices of the kit were called so.
-fn is_called(kit: &MemKit, meeting: &Meeting) -> bool {
-    match (kit.spawner.calls(), kit.routes.calls()) {
-        (Some(spawned), Some(routed)) => {
-            are_spawned(spawned, meeting.spawned) & are_routed(routed, meeting.routed)
-        }
-        _ => false,
-    }
-}
-
 /// Whether the connections meet as they should, and made these calls.
 fn meets_so<R: Abort + Wait>(rt: &R, alloc: Global, meeting: &Meeting) -> bool {
-    let (desk, mut starting) = open_desk(rt, alloc, book(rt, alloc));
+    let (desk, mut starting) = open_hub(rt, alloc, FILE, NEVER, GREATEST_TRAIL);
     let mut other = further(rt, &desk, &mut starting);
-    let mut kit = kit(rt, alloc, meeting);
+    let mut kit = kit_of(rt, alloc, meeting);
     let work = begun(rt, alloc, &desk, &mut starting);
-    let meanwhile = is_served(rt, alloc, &desk, &mut other, &mut kit, &meeting.meanwhile);
+    let meanwhile = exchanges(rt, alloc, &desk, &mut other, &mut kit, &meeting.meanwhile);
     let told = done(rt, alloc, &desk, &mut starting, &mut kit, work);
-    let after = is_served(rt, alloc, &desk, &mut other, &mut kit, &meeting.after);
+    let after = exchanges(rt, alloc, &desk, &mut other, &mut kit, &meeting.after);
     desk.join(&mut starting, other);
-    let book = desk.close(rt, starting);
-    drop(book);
-    meanwhile & is_told(told, &meeting.tale) & after & is_called(&kit, meeting)
+    close_hub(rt, desk, starting);
+    let called = are_called(&kit.spawner, &kit.routes, meeting.spawned, meeting.routed);
+    drop(kit);
+    meanwhile & is_told(told, &meeting.tale) & after & called
 }
 
 #[test]
 fn two_passes(rt: HostRuntime) {
+    let alloc = rt.alloc();
     for meeting in &MEETINGS {
-        check(&rt, meets_so(&rt, rt.alloc(), meeting), meeting.name);
+        check(&rt, meets_so(&rt, alloc, meeting), meeting.name);
     }
 }

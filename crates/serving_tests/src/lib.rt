@@ -1,6 +1,7 @@
-//! Tests of many connections to one hub over several workers, and of the command that serves them: a connection that stays open holds up
-//! none of the others, a start holds up none, what one connection has changed another one sees, and the routes are brought into step first. A
-//! crate of their own, since a crate that has tests is proved twice. Nothing stands above it.
+//! Tests of commands over devices in memory, with requests and replies written by hand as they stand on the wire: sessions, also over a
+//! file of configuration and rows that a hub before them left; many connections to one hub over several workers, of which none holds up
+//! the others, and the command that serves them; and the requests to a proxy. A crate of their own, since a crate that has tests is proved
+//! twice. Nothing stands above it.
 #![tactic(auto)]
 
 #[cfg(test)]
@@ -8,7 +9,11 @@ mod check;
 #[cfg(test)]
 mod hubs;
 #[cfg(test)]
+mod in_memory;
+#[cfg(test)]
 mod of_commands;
+#[cfg(test)]
+mod of_files;
 #[cfg(test)]
 mod of_proxy;
 #[cfg(test)]
@@ -17,6 +22,8 @@ mod of_routes;
 mod of_serve;
 #[cfg(test)]
 mod of_services;
+#[cfg(test)]
+mod of_sessions;
 #[cfg(test)]
 mod peers;
 #[cfg(test)]

@@ -1,7 +1,8 @@
 //! The command `serve` over devices in memory: its plan, its status and its line.
 ghost use Rattle.std.specs.Prelude.{◌<◌, IsSome, length};
 
-use crate::check::{check, text};
+use crate::check::{check, failing, words_of};
+use crate::in_memory::{MemKit, NEVER, files, kit, store};
 use hub_devices::mem_bytes::{MemSink, MemSource};
 use hub_devices::mem_clock::FixedClock;
 use hub_devices::mem_files::MemFiles;
@@ -11,8 +12,6 @@ use hub_devices::mem_routes::MemRouteLink;
 use hub_devices::mem_spawner::MemSpawner;
 use hub_kit::bytes::Bytes;
 use hub_kit::moment::Moment;
-use hub_kit::text::Text;
-use hub_run::HubKit;
 use hub_serving::plan::{Plan, read_plan};
 use hub_serving::run::run;
 use hub_serving::world::{ServeOutside, ServeWorld};
@@ -67,9 +66,6 @@ pub struct Command {
 
 /// What is outside of the command.
 pub type MemOutside = ServeOutside<InMemory<MemKeeper>>;
-
-/// The number of a call that doesn't come.
-pub const NEVER: u64 = u64::MAX;
 
 const LISTEN_ALONE: &str = "listen = \"127.0.0.1:8000\"";
 
@@ -149,22 +145,6 @@ const COMMANDS: [Command; 8] = [
     },
 ];
 
-fn words_of(rt: &impl Abort, alloc: Global, line: &str) -> Vec<Text> {
-    let mut words = Vec::new(alloc);
-    for word in line.split(' ') {
-        words
-            .push(text(rt, alloc, word))
-            .expect(rt, "there is memory");
-    }
-    words
-}
-
-fn files(rt: &impl Abort, alloc: Global, file: &str) -> MemFiles {
-    let bytes = Bytes::from_slice(alloc, file.as_bytes()).expect(rt, "there is memory");
-    let files = vec![in alloc; (text(rt, alloc, "hub.toml"), bytes)];
-    MemFiles::new(alloc, files.expect(rt, "there is memory"), Vec::new(alloc))
-}
-
 /// Three callers, of whom none asks anything.
 fn doors(rt: &impl Abort, alloc: Global, failing_accept: u64) -> MemListener<MemSource, MemSink> {
     let mut doors = Vec::new(alloc);
@@ -174,23 +154,6 @@ fn doors(rt: &impl Abort, alloc: Global, failing_accept: u64) -> MemListener<Mem
         doors.push((source, sink)).expect(rt, "there is memory");
     }
     MemListener::new(doors, failing(rt, alloc, failing_accept))
-}
-
-/// The number of the call that fails.
-fn failing(rt: &impl Abort, alloc: Global, call: u64) -> Vec<u64> {
-    Vec::from_slice(alloc, &[call]).expect(rt, "there is memory")
-}
-
-pub type MemKit = HubKit<MemSpawner, MemRouteLink, FixedClock, ListRandom>;
-
-/// A kit of which the route link and the clock alone are asked: it has no draws.
-fn kit(rt: &impl Abort, alloc: Global, failing_route: u64) -> MemKit {
-    HubKit {
-        spawner: MemSpawner::new(alloc, Vec::new(alloc)),
-        routes: MemRouteLink::new(alloc, failing(rt, alloc, failing_route)),
-        clock: FixedClock(Moment::zero()),
-        random: ListRandom::new(Vec::new(alloc), Vec::new(alloc)),
-    }
 }
 
 /// By what services are tended, where polls tell this.
@@ -215,18 +178,13 @@ fn kits(rt: &impl Abort, alloc: Global) -> Vec<MemKit>
     kits.expect(rt, "there is memory")
 }
 
-fn store(rt: &impl Abort, alloc: Global) -> MemKeeper {
-    let store = MemKeeper::new(alloc, Vec::new(alloc), Vec::new(alloc));
-    store.expect(rt, "there is memory")
-}
-
 fn outside(rt: &impl Abort, alloc: Global, command: &Command) -> MemOutside
     ensures store { IsSome result.store }
     ensures kits { 0 < length result.kits.items }
 {
     ServeOutside {
         output: MemSink::new(alloc, Vec::new(alloc)),
-        store: Some(store(rt, alloc)),
+        store: Some(store(rt, alloc, Vec::new(alloc))),
         kit: kit(rt, alloc, command.failing_route),
         kits: kits(rt, alloc),
         doors: doors(rt, alloc, command.failing_accept),
@@ -252,8 +210,9 @@ pub fn ended<R: Threads + Wait + Abort + Sync>(
 
 #[test]
 fn commands(rt: HostRuntime) {
+    let alloc = rt.alloc();
     for command in &COMMANDS {
-        let (so, outside) = ended(&rt, rt.alloc(), command);
+        let (so, outside) = ended(&rt, alloc, command);
         drop(outside);
         check(&rt, so, command.words);
     }
@@ -284,11 +243,11 @@ fn a_plan_of_the_address_alone(rt: HostRuntime) {
     let alloc = rt.alloc();
     let words = words_of(&rt, alloc, "serve --config hub.toml");
     let mut files = files(&rt, alloc, LISTEN_ALONE);
-    match read_plan(alloc, &mut files, words.as_slice()) {
-        Ok(plan) => {
-            check(&rt, is_bare(&plan) & has_defaults(&plan), LISTEN_ALONE);
-            drop(plan);
-        }
-        Err(_) => panic!(&rt; "no plan"),
-    }
+    let plan = read_plan(alloc, &mut files, words.as_slice()).ok();
+    drop(files);
+    drop(words);
+    let plan = plan.expect(&rt, "a plan");
+    let holds = is_bare(&plan) & has_defaults(&plan);
+    drop(plan);
+    check(&rt, holds, LISTEN_ALONE);
 }

@@ -1,5 +1,6 @@
 //! A proxy's routes over a link in memory: the requests to their bytes, and what the replies come to.
 use crate::check::{check, text};
+use hub_devices::calls::ListedRoute;
 use hub_devices::link_error::LinkError;
 use hub_devices::route_link::RouteLink;
 use hub_kit::bytes::Bytes;
@@ -71,92 +72,124 @@ fn was_asked(link: &MemHubLink, requests: &[&[u8]]) -> bool {
     true
 }
 
+/// What the addition of a path comes to.
+fn added(
+    rt: &impl Abort,
+    alloc: Global,
+    link: &mut MemHubLink,
+    path: &str,
+    serial: Option<u64>,
+) -> Option<bool> {
+    let secret = text(rt, alloc, "secret-of-the-proxy");
+    let target = target(rt, alloc);
+    let path = text(rt, alloc, path);
+    let told = add_route(alloc, link, &secret, &path, &target, serial);
+    drop(secret);
+    drop(target);
+    drop(path);
+    told.ok()
+}
+
 #[test]
 fn additions(rt: HostRuntime) {
     let alloc = rt.alloc();
     let mut link = link(&rt, alloc, &[ADDED, ADDED, REFUSED]);
-    let secret = text(&rt, alloc, "secret-of-the-proxy");
-    let target = target(&rt, alloc);
-    let path = text(&rt, alloc, "/user/ann");
-    let own = text(&rt, alloc, "/");
-    let none = text(&rt, alloc, "/user/a b");
-    let first = add_route(alloc, &mut link, &secret, &path, &target, Some(8));
-    let second = add_route(alloc, &mut link, &secret, &own, &target, None);
-    let third = add_route(alloc, &mut link, &secret, &own, &target, None);
-    let fourth = add_route(alloc, &mut link, &secret, &none, &target, None);
-    check(&rt, matches!(first, Ok(true)), "201 is done");
-    check(
-        &rt,
-        matches!(second, Ok(true)),
-        "201 is done without a serial",
-    );
-    check(&rt, matches!(third, Ok(false)), "403 is not");
-    check(&rt, matches!(fourth, Ok(false)), "no path");
+    let told = added(&rt, alloc, &mut link, "/user/ann", Some(8));
+    check(&rt, told == Some(true), "201 is done");
+    let told = added(&rt, alloc, &mut link, "/", None);
+    check(&rt, told == Some(true), "201 is done without a serial");
+    let told = added(&rt, alloc, &mut link, "/", None);
+    check(&rt, told == Some(false), "403 is not");
+    let told = added(&rt, alloc, &mut link, "/user/a b", None);
+    check(&rt, told == Some(false), "no path");
     let asked = was_asked(&link, &[ADDITION, OWN_ADDITION, OWN_ADDITION]);
-    check(&rt, asked, "the requests of the additions");
     drop(link);
+    check(&rt, asked, "the requests of the additions");
 }
+
+/// What the deletion of ann's server lab comes to.
+fn deleted(rt: &impl Abort, alloc: Global, link: &mut MemHubLink) -> Option<bool> {
+    let secret = text(rt, alloc, "secret-of-the-proxy");
+    let path = text(rt, alloc, "/user/ann/lab");
+    let told = delete_route(alloc, link, &secret, &path, 9);
+    drop(secret);
+    drop(path);
+    told.ok()
+}
+
+/// 204, 404, 409 and 403.
+const DONE: [bool; 4] = [true, true, true, false];
 
 #[test]
 fn deletions(rt: HostRuntime) {
     let alloc = rt.alloc();
     let mut link = link(&rt, alloc, &[DELETED, ABSENT, STALE, REFUSED]);
-    let secret = text(&rt, alloc, "secret-of-the-proxy");
-    let path = text(&rt, alloc, "/user/ann/lab");
-    for done in [true, true, true, false] {
-        let told = delete_route(alloc, &mut link, &secret, &path, 9);
-        check(
-            &rt,
-            told.is_ok_and(|told| told == done),
-            "204, 404, 409 and 403",
-        );
+    for done in &DONE {
+        let told = deleted(&rt, alloc, &mut link);
+        check(&rt, told == Some(*done), "204, 404, 409 and 403");
     }
     let asked = was_asked(&link, &[DELETION, DELETION, DELETION, DELETION]);
-    check(&rt, asked, "the requests of the deletions");
     drop(link);
+    check(&rt, asked, "the requests of the deletions");
+}
+
+/// Whether the routes are the hub's own and ann's.
+fn are_listed(routes: &[ListedRoute]) -> bool {
+    match routes {
+        [own, ann] => {
+            (own.path.as_str() == "/")
+                & own.serial.is_none()
+                & (ann.path.as_str() == "/user/ann")
+                & (ann.serial == Some(8))
+                & (ann.target.as_str() == "http://127.0.0.1:9001")
+        }
+        _ => false,
+    }
+}
+
+/// What the list comes to: whether it is of those routes, or nothing where no list is given.
+fn listed(rt: &impl Abort, alloc: Global, link: &mut MemHubLink) -> Option<bool> {
+    let secret = text(rt, alloc, "secret-of-the-proxy");
+    let listed = list_routes(alloc, link, &secret)
+        .ok()
+        .expect(rt, "there is memory");
+    drop(secret);
+    match listed {
+        Some(routes) => {
+            let holds = are_listed(routes.as_slice());
+            drop(routes);
+            Some(holds)
+        }
+        None => None,
+    }
 }
 
 #[test]
 fn lists(rt: HostRuntime) {
     let alloc = rt.alloc();
     let mut link = link(&rt, alloc, &[LISTED, HALF_LISTED, REFUSED]);
-    let secret = text(&rt, alloc, "secret-of-the-proxy");
-    match list_routes(alloc, &mut link, &secret) {
-        Ok(Some(routes)) => {
-            let [own, ann] = routes.as_slice() else {
-                panic!(&rt; "two routes");
-            };
-            check(
-                &rt,
-                (own.path.as_str() == "/") & own.serial.is_none(),
-                "the own route",
-            );
-            check(
-                &rt,
-                (ann.path.as_str() == "/user/ann") & (ann.serial == Some(8)),
-                "ann's route",
-            );
-            check(
-                &rt,
-                ann.target.as_str() == "http://127.0.0.1:9001",
-                "ann's target",
-            );
-            drop(routes);
-        }
-        _ => panic!(&rt; "no list"),
-    }
-    let half = list_routes(alloc, &mut link, &secret);
-    check(&rt, matches!(half, Ok(None)), "a route without a target");
-    drop(half);
-    let refused = list_routes(alloc, &mut link, &secret);
-    check(&rt, matches!(refused, Ok(None)), "403");
-    drop(refused);
-    check(
-        &rt,
-        was_asked(&link, &[LISTING, LISTING, LISTING]),
-        "the requests",
-    );
+    let routes = listed(&rt, alloc, &mut link);
+    check(&rt, routes == Some(true), "two routes");
+    let half = listed(&rt, alloc, &mut link);
+    check(&rt, half.is_none(), "a route without a target");
+    let refused = listed(&rt, alloc, &mut link);
+    check(&rt, refused.is_none(), "403");
+    let asked = was_asked(&link, &[LISTING, LISTING, LISTING]);
     drop(link);
+    check(&rt, asked, "the requests");
+}
+
+/// Whether an addition and a deletion are done, and the next addition and the list fail.
+fn two_are_done(rt: &impl Abort, alloc: Global, routes: &mut ProxyLink<MemHubLink>) -> bool {
+    let target = target(rt, alloc);
+    let path = text(rt, alloc, "/user/ann");
+    let holds = routes.add(&path, &target, Some(8)).is_ok()
+        & routes.delete(&path, 9).is_ok()
+        & routes.add(&path, &target, Some(8)).is_err()
+        & matches!(routes.list().err(), Some(LinkError::Failed));
+    drop(target);
+    drop(path);
+    holds
 }
 
 #[test]
@@ -164,17 +197,7 @@ fn a_route_link(rt: HostRuntime) {
     let alloc = rt.alloc();
     let link = link(&rt, alloc, &[ADDED, STALE, REFUSED, REFUSED]);
     let mut routes = ProxyLink::new(alloc, text(&rt, alloc, "secret-of-the-proxy"), link);
-    let target = target(&rt, alloc);
-    let path = text(&rt, alloc, "/user/ann");
-    check(&rt, routes.add(&path, &target, Some(8)).is_ok(), "201");
-    check(&rt, routes.delete(&path, 9).is_ok(), "409");
-    check(&rt, routes.add(&path, &target, Some(8)).is_err(), "403");
-    let listed = routes.list();
-    check(
-        &rt,
-        matches!(listed, Err(LinkError::Failed)),
-        "403 for the list",
-    );
-    drop(listed);
+    let holds = two_are_done(&rt, alloc, &mut routes);
     drop(routes);
+    check(&rt, holds, "201 and 409 are done, 403 is not");
 }

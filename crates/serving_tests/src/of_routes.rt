@@ -1,6 +1,7 @@
 //! The routes of a hub that serves: the hub's own is added once, before its connection.
 use crate::check::check;
-use crate::of_commands::{Command, MemOutside, NEVER, ended};
+use crate::in_memory::NEVER;
+use crate::of_commands::{Command, MemOutside, ended};
 use hub_devices::calls::{Routing, Told};
 
 /// One connection to a hub whose file names its own target.

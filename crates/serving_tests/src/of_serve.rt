@@ -1,4 +1,5 @@
 //! Streets of peers: what each asks, and how the serving ends.
+use crate::check::check;
 use crate::hubs::{kit, open};
 use crate::peers::{Peer, Street};
 use crate::scene::Scene;
@@ -203,6 +204,6 @@ fn is_served<W: Threads + Wait + Abort + Sync>(rt: &W, alloc: Global, serving: &
 #[test]
 fn many_connections(rt: HostRuntime) {
     for serving in &SERVINGS {
-        assert!(rt; is_served(&rt, rt.alloc(), serving), "{}", serving.name);
+        check(&rt, is_served(&rt, rt.alloc(), serving), serving.name);
     }
 }

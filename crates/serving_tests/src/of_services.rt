@@ -1,6 +1,7 @@
 //! A service of a hub that serves: its program is started before the connection, asked after it, and stopped at the end.
 use crate::check::check;
-use crate::of_commands::{Command, MemOutside, NEVER, ended};
+use crate::in_memory::NEVER;
+use crate::of_commands::{Command, MemOutside, ended};
 use hub_devices::calls::{Routing, Told};
 use services_run::calls::ServiceCall;
 

@@ -1,6 +1,9 @@
 //! Files of configuration as people write them.
+use crate::check::check;
 use hub_config::explain::explain;
 use hub_config::reading::read_config;
+use std::alloc::Global;
+use std::process::Abort;
 
 const WHOLE: &str = "listen = \"127.0.0.1:8000\"
 pool = [\"http://127.0.0.1:9001\", \"http://127.0.0.1:9002\"]
@@ -40,15 +43,22 @@ service = \"grader\"
 scopes = [\"custom:grades:read\"]
 ";
 
+/// Whether what is read is all that the file has.
+fn is_whole(rt: &impl Abort, alloc: Global) -> bool {
+    let read = read_config(alloc, WHOLE.as_bytes()).expect(rt, "read");
+    let holds = (read.hub.pool.as_slice().len() == 2)
+        & (read.hub.users.len() == 2)
+        & (read.hub.limits.users == 40)
+        & (read.hub.limits.groups == 10_000)
+        & (read.managed.len() == 1)
+        & (read.hub.custom_scopes.len() == 2);
+    drop(read);
+    holds
+}
+
 #[test]
 fn a_whole_file_is_read(rt: HostRuntime) {
-    let read = read_config(rt.alloc(), WHOLE.as_bytes()).expect(&rt, "read");
-    assert!(rt; read.hub.pool.as_slice().len() == 2);
-    assert!(rt; read.hub.users.len() == 2);
-    assert!(rt; read.hub.limits.users == 40);
-    assert!(rt; read.hub.limits.groups == 10_000);
-    assert!(rt; read.managed.len() == 1);
-    assert!(rt; read.hub.custom_scopes.len() == 2);
+    check(&rt, is_whole(&rt, rt.alloc()), "a whole file");
 }
 
 const SAID: [(&str, &str); 7] = [
@@ -79,11 +89,19 @@ const SAID: [(&str, &str); 7] = [
     ),
 ];
 
+/// Whether the text is refused, and this is said of it.
+fn is_explained(rt: &impl Abort, alloc: Global, text: &str, wanted: &str) -> bool {
+    let is_refused = read_config(alloc, text.as_bytes()).err().is_some();
+    let said = explain(alloc, text.as_bytes()).expect(rt, "said");
+    let holds = said.as_str() == wanted;
+    drop(said);
+    is_refused & holds
+}
+
 #[test]
 fn a_refused_file_is_explained(rt: HostRuntime) {
+    let alloc = rt.alloc();
     for (text, wanted) in &SAID {
-        assert!(rt; read_config(rt.alloc(), text.as_bytes()).is_err());
-        let said = explain(rt.alloc(), text.as_bytes()).expect(&rt, "said");
-        assert!(rt; said.as_str() == *wanted, "{said}");
+        check(&rt, is_explained(&rt, alloc, text, wanted), text);
     }
 }

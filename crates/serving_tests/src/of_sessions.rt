@@ -1,17 +1,11 @@
 //! Whole sessions, from their words to the status and the bytes that are written, by hand.
 ghost use Rattle.std.specs.Prelude.{IsSome};
 
-use crate::check::{check, repeated};
-use crate::in_memory::InMemory;
-use crate::kits::quiet_kit;
+use crate::check::{bytes, check, failing};
+use crate::in_memory::{InMemory, NEVER, outside, status_of, store};
 use hub_devices::mem_bytes::{MemSink, MemSource};
 use hub_devices::mem_files::MemFiles;
-use hub_kit::bytes::Bytes;
-use hub_kit::moment::Moment;
-use hub_kit::text::Text;
-use hub_main::run::run;
 use hub_main::world::Outside;
-use keeper::mem_keeper::MemKeeper;
 use std::alloc::Global;
 use std::process::Abort;
 use std::sync::Wait;
@@ -30,9 +24,6 @@ struct Session {
     status: u8,
     output: &'static [u8],
 }
-
-/// The number of a read or a write that doesn't come.
-const NEVER: u64 = u64::MAX;
 
 /// The hub's clock stands at 1700000000.
 const SESSIONS: [Session; 15] = [
@@ -247,50 +238,37 @@ const SESSIONS: [Session; 15] = [
     },
 ];
 
-fn words_of(rt: &impl Abort, alloc: Global, line: &str) -> Vec<Text> {
-    let mut words = Vec::new(alloc);
-    for word in line.split(' ') {
-        let word = Text::from_str(alloc, word).expect(rt, "there is memory");
-        words.push(word).expect(rt, "there is memory");
-    }
-    words
-}
-
-fn outside(rt: &impl Abort, alloc: Global, session: &Session) -> Outside<InMemory>
+/// What is outside of a session.
+fn outside_of(rt: &impl Abort, alloc: Global, session: &Session) -> Outside<InMemory>
     ensures { IsSome result.store }
 {
-    let mut input = Bytes::from_slice(alloc, session.input).expect(rt, "there is memory");
-    let spaces = repeated(rt, alloc, b" ", session.spaces);
-    input
-        .push_all(spaces.as_slice())
+    let mut input = bytes(rt, alloc, session.input);
+    let spaces = b" "
+        .repeat(alloc, session.spaces)
         .expect(rt, "there is memory");
-    let reads = Vec::from_slice(alloc, &[session.failing_read]);
-    let writes = Vec::from_slice(alloc, &[session.failing_write]);
-    let store = MemKeeper::new(alloc, Vec::new(alloc), Vec::new(alloc));
-    Outside {
-        input: MemSource::new(input, session.cut, reads.expect(rt, "there is memory")),
-        output: MemSink::new(alloc, writes.expect(rt, "there is memory")),
-        store: Some(store.expect(rt, "there is memory")),
-        kit: quiet_kit(alloc, Moment::zero()),
-        files: MemFiles::new(alloc, Vec::new(alloc), Vec::new(alloc)),
-        end: None,
-    }
+    input.push_all(&spaces).expect(rt, "there is memory");
+    drop(spaces);
+    let reads = failing(rt, alloc, session.failing_read);
+    let source = MemSource::new(input, session.cut, reads);
+    let sink = MemSink::new(alloc, failing(rt, alloc, session.failing_write));
+    let store = store(rt, alloc, Vec::new(alloc));
+    let files = MemFiles::new(alloc, Vec::new(alloc), Vec::new(alloc));
+    outside(rt, alloc, source, sink, store, files)
 }
 
 /// Whether the session ends with its status, and has written its output.
 fn ends_so<R: Abort + Wait>(rt: &R, alloc: Global, session: &Session) -> bool {
-    let words = words_of(rt, alloc, session.words);
-    let mut outside = outside(rt, alloc, session);
-    let status = run(rt, alloc, words.as_slice(), &mut outside);
-    let so = (status == session.status) & (outside.output.as_slice() == session.output);
-    drop(words);
+    let mut outside = outside_of(rt, alloc, session);
+    let status = status_of(rt, alloc, session.words, &mut outside);
+    let written = outside.output.as_slice() == session.output;
     drop(outside);
-    so
+    written & (status == session.status)
 }
 
 #[test]
 fn sessions(rt: HostRuntime) {
+    let alloc = rt.alloc();
     for session in &SESSIONS {
-        check(&rt, ends_so(&rt, rt.alloc(), session), session.name);
+        check(&rt, ends_so(&rt, alloc, session), session.name);
     }
 }

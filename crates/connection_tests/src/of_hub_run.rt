@@ -1,27 +1,12 @@
 //! Whole connections over memory: what is written, how they end, and how often the rights of a token were at hand.
 ghost use Rattle.std.specs.Prelude.{◌≡◌};
-ghost use Rattle.hub_opening.specs.Kept.{MakeTable};
 
 use crate::check::{check, repeated};
-use crate::kits::{no_scopes, open_desk, quiet_kit};
+use crate::hubs::{GREATEST_TRAIL, MemBook, NEVER, close_hub, is_served, kit, open_hub};
 use desk::{Desk, Pass};
-use http_wire::error::SessionFault;
-use hub_core::book::Book;
-use hub_devices::mem_bytes::{MemSink, MemSource};
-use hub_kit::list::List;
-use hub_kit::moment::Moment;
-use hub_kit::names::{ServiceName, UserName, read_role, read_service, read_user};
-use hub_kit::text::Text;
-use hub_machine::change::Change;
-use hub_opening::config::{ConfigService, ConfigToken, ConfigUser, HubConfig, greatest_limits};
-use hub_rows::records::Role;
-use hub_run::{Served, serve_connection};
-use keeper::mem_keeper::MemKeeper;
-use keeper::trail::ListTrail;
-use keyed_rows::sorted::Sorted;
-use scope_filters::holder::Owner;
-use scope_filters::scope::RawScope;
-use server_life::Pool;
+use hub_devices::mem_routes::MemRouteLink;
+use hub_devices::mem_spawner::MemSpawner;
+use hub_run::Served;
 use std::alloc::Global;
 use std::process::Abort;
 use std::sync::Wait;
@@ -42,14 +27,6 @@ struct Connection {
     hits: u64,
     output: &'static [u8],
 }
-
-/// The number of a call that doesn't come.
-const NEVER: u64 = u64::MAX;
-
-const GREATEST_TRAIL: u32 = 1_073_741_824;
-
-/// What the clock tells, in seconds: 2023-11-14T22:13:20Z.
-const NOW: u64 = 1_700_000_000;
 
 const CONNECTIONS: [Connection; 23] = [
     Connection {
@@ -334,102 +311,26 @@ const CONNECTIONS: [Connection; 23] = [
     },
 ];
 
-type MemBook = Book<MemKeeper, ListTrail<Change>>;
+/// The service bot's role gives it the scope `self`.
+const FILE: &str = "users = [{name = 'ann'}]
+services = [{name = 'bot'}]
+roles = [{name = 'helper', scopes = ['self'], services = ['bot']}]
+tokens = [
+    {token = 'secret-token-ann', user = 'ann', scopes = ['inherit']},
+    {token = 'secret-token-bot', service = 'bot', scopes = ['inherit']},
+]";
 
-fn ann(rt: &impl Abort) -> UserName {
-    read_user(b"ann").expect(rt, "it is a name")
-}
-
-fn bot(rt: &impl Abort) -> ServiceName {
-    read_service(b"bot").expect(rt, "it is a name")
-}
-
-fn service(rt: &impl Abort) -> ConfigService {
-    ConfigService {
-        name: bot(rt),
-        redirect_uri: None,
-        secret: None,
-    }
-}
-
-/// The role `helper`, which gives the service the scope `self`.
-fn helper(rt: &impl Abort, alloc: Global) -> Role {
-    let scopes = vec![in alloc; RawScope::SelfScope];
-    let services = vec![in alloc; bot(rt)];
-    Role {
-        name: read_role(b"helper").expect(rt, "it is a name"),
-        groups: Sorted::new(alloc),
-        scopes: List::from_vec(scopes.expect(rt, "there is memory")),
-        services: Sorted::from_vec(services.expect(rt, "there is memory")),
-        users: Sorted::new(alloc),
-    }
-}
-
-/// A token of this owner that holds all that the owner holds.
-fn token(rt: &impl Abort, alloc: Global, text: &str, owner: Owner) -> ConfigToken {
-    let scopes = vec![in alloc; RawScope::Inherit];
-    ConfigToken {
-        text: Text::from_str(alloc, text).expect(rt, "there is memory"),
-        owner,
-        scopes: List::from_vec(scopes.expect(rt, "there is memory")),
-    }
-}
-
-fn tokens(rt: &impl Abort, alloc: Global) -> Vec<ConfigToken> {
-    let tokens = vec![in alloc;
-        token(rt, alloc, "secret-token-ann", Owner::User(ann(rt))),
-        token(rt, alloc, "secret-token-bot", Owner::Service(bot(rt))),
-    ];
-    tokens.expect(rt, "there is memory")
-}
-
-/// A configuration of the user ann and the service bot with a token each, and of bot's role.
-fn config(rt: &impl Abort, alloc: Global, admin: bool) -> HubConfig
-    ensures { MakeTable result.custom_scopes }
-{
-    let user = ConfigUser {
-        name: ann(rt),
-        admin,
-    };
-    let users = vec![in alloc; user];
-    let services = vec![in alloc; service(rt)];
-    let roles = vec![in alloc; helper(rt, alloc)];
-    HubConfig {
-        pool: Pool::empty(alloc),
-        hub_url: None,
-        limits: greatest_limits(),
-        no_trail: false,
-        users: List::from_vec(users.expect(rt, "there is memory")),
-        groups: List::new(alloc),
-        services: List::from_vec(services.expect(rt, "there is memory")),
-        roles: List::from_vec(roles.expect(rt, "there is memory")),
-        tokens: List::from_vec(tokens(rt, alloc)),
-        custom_scopes: no_scopes(alloc),
-    }
-}
-
-fn keeper(rt: &impl Abort, alloc: Global, failing_call: u64) -> MemKeeper {
-    let failing = Vec::from_slice(alloc, &[failing_call]);
-    let failing = failing.expect(rt, "there is memory");
-    MemKeeper::new(alloc, Vec::new(alloc), failing).expect(rt, "there is memory")
-}
-
-/// The book that the connection is served by.
-fn book(rt: &impl Abort, alloc: Global, connection: &Connection) -> MemBook {
-    let keeper = keeper(rt, alloc, connection.failing_call);
-    let mut config = config(rt, alloc, connection.admin);
-    config.limits.trail_bytes = u64::from(connection.trail_bytes);
-    let now = Moment::up_to(NOW);
-    let book = Book::open(alloc, keeper, ListTrail::new(alloc), &config, now);
-    drop(config);
-    match book {
-        Ok(book) => book,
-        Err(_) => panic!(rt; "no book"),
-    }
-}
+/// The same, where ann is an admin.
+const OF_ADMIN: &str = "users = [{name = 'ann', admin = true}]
+services = [{name = 'bot'}]
+roles = [{name = 'helper', scopes = ['self'], services = ['bot']}]
+tokens = [
+    {token = 'secret-token-ann', user = 'ann', scopes = ['inherit']},
+    {token = 'secret-token-bot', service = 'bot', scopes = ['inherit']},
+]";
 
 /// Whether the connection ends as it should, and has written its output.
-fn is_served<R: Abort + Wait>(
+fn is_so<R: Abort + Wait>(
     rt: &R,
     alloc: Global,
     desk: &Desk<MemBook>,
@@ -437,42 +338,33 @@ fn is_served<R: Abort + Wait>(
     connection: &Connection,
 ) -> bool
     requires { pass.old.of ≡ desk.now }
-    ensures { pass.new.of ≡ pass.old.of }
+    ensures { pass.new.of ≡ desk.now }
 {
+    let spawner = MemSpawner::new(alloc, Vec::new(alloc));
+    let routes = MemRouteLink::new(alloc, Vec::new(alloc));
+    let mut kit = kit(rt, alloc, 0, spawner, routes, NEVER);
     let input = repeated(rt, alloc, connection.input, connection.times);
     let output = repeated(rt, alloc, connection.output, connection.times);
-    let mut source = MemSource::new(input, 5, Vec::new(alloc));
-    let mut sink = MemSink::new(alloc, Vec::new(alloc));
-    let mut kit = quiet_kit(alloc, Moment::up_to(NOW));
-    let served = serve_connection(rt, alloc, desk, pass, &mut source, &mut sink, &mut kit);
-    drop(source);
+    let (end, bytes) = (connection.end, output.as_slice());
+    let holds = is_served(rt, alloc, desk, pass, &mut kit, input, 5, end, bytes);
     drop(kit);
-    let so = (served == Ok(connection.end)) & (sink.as_slice() == output.as_slice());
-    drop(sink);
     drop(output);
-    so
-}
-
-/// How often the rights of a token were at hand.
-fn hits<R: Wait>(rt: &R, desk: Desk<MemBook>, pass: Pass<MemBook>) -> u64
-    requires { pass.of ≡ desk }
-{
-    let book = desk.close(rt, pass);
-    let hits = book.hits();
-    drop(book);
-    hits
+    holds
 }
 
 /// Whether the connection ends as it should, has written its output, and leaves so many hits.
 fn ends_so<R: Abort + Wait>(rt: &R, alloc: Global, connection: &Connection) -> bool {
-    let (desk, mut pass) = open_desk(rt, alloc, book(rt, alloc, connection));
-    let is_served = is_served(rt, alloc, &desk, &mut pass, connection);
-    is_served & (hits(rt, desk, pass) == connection.hits)
+    let file = if connection.admin { OF_ADMIN } else { FILE };
+    let (failing, trail) = (connection.failing_call, connection.trail_bytes);
+    let (desk, mut pass) = open_hub(rt, alloc, file, failing, trail);
+    let holds = is_so(rt, alloc, &desk, &mut pass, connection);
+    holds & (close_hub(rt, desk, pass) == connection.hits)
 }
 
 #[test]
 fn connections(rt: HostRuntime) {
+    let alloc = rt.alloc();
     for connection in &CONNECTIONS {
-        check(&rt, ends_so(&rt, rt.alloc(), connection), connection.name);
+        check(&rt, ends_so(&rt, alloc, connection), connection.name);
     }
 }

@@ -1,5 +1,5 @@
 //! What no clause says of kept rows: that rows which keep the rules make tables where there is memory, and which row each rule refuses.
-use hub_kit::text::Text;
+use crate::check::{check, text};
 use hub_rows::limits::Limits;
 use hub_rows::rows::Row;
 use keeper::keeper::Row as KeptRow;
@@ -227,10 +227,12 @@ const BROKEN: [(usize, u8, &str, &str, usize); 25] = [
 fn record<R: Record>(rt: &impl Abort, alloc: Global, row: &(u8, &'static str, &'static str)) -> R {
     let kept = KeptRow {
         kind: row.0,
-        key: Text::from_str(alloc, row.1).expect(rt, "there is memory"),
-        text: Text::from_str(alloc, row.2).expect(rt, "there is memory"),
+        key: text(rt, alloc, row.1),
+        text: text(rt, alloc, row.2),
     };
-    of_row::<R>(alloc, &kept).ok().expect(rt, row.2)
+    let record = of_row::<R>(alloc, &kept).ok().expect(rt, row.2);
+    drop(kept);
+    record
 }
 
 fn row_of(rt: &impl Abort, alloc: Global, row: &(u8, &'static str, &'static str)) -> Row {
@@ -250,6 +252,23 @@ fn row_of(rt: &impl Abort, alloc: Global, row: &(u8, &'static str, &'static str)
     }
 }
 
+/// The rows of the store, where the row of a place is another.
+fn rows_with(
+    rt: &impl Abort,
+    alloc: Global,
+    at: usize,
+    other: &(u8, &'static str, &'static str),
+) -> Vec<Row> {
+    let store = &STORE;
+    let mut rows = Vec::new(alloc);
+    for i in 0..store.len() {
+        let row = if i == at { other } else { &store[i] };
+        rows.push(row_of(rt, alloc, row))
+            .expect(rt, "there is memory");
+    }
+    rows
+}
+
 /// The place of the row that is refused, where the row of a place is another; past all rows where none is.
 fn refused(
     rt: &impl Abort,
@@ -257,17 +276,12 @@ fn refused(
     at: usize,
     other: &(u8, &'static str, &'static str),
 ) -> usize {
-    let mut rows = Vec::new(alloc);
-    for (i, row) in STORE.iter().enumerate() {
-        let row = if i == at { other } else { row };
-        rows.push(row_of(rt, alloc, row))
-            .expect(rt, "there is memory");
-    }
+    let rows = rows_with(rt, alloc, at, other);
     let scopes = ScopeTable::new(alloc, &[]).expect(rt, "there is memory");
     let place = match kept_tables(alloc, LIMITS, scopes, &rows) {
         Ok(tables) => {
-            assert!(rt; tables.count_of_tokens() == 2);
-            assert!(rt; tables.count_of_users() == 2);
+            check(rt, tables.count_of_tokens() == 2, "two tokens");
+            check(rt, tables.count_of_users() == 2, "two users");
             drop(tables);
             rows.len()
         }
@@ -281,13 +295,14 @@ fn refused(
 #[test]
 fn a_store_that_keeps_the_rules(rt: HostRuntime) {
     let none = (1, "", "");
-    assert!(rt; refused(&rt, rt.alloc(), 18, &none) == 18);
+    check(&rt, refused(&rt, rt.alloc(), 18, &none) == 18, "all rows");
 }
 
 #[test]
 fn each_rule_by_a_row_that_breaks_it(rt: HostRuntime) {
+    let alloc = rt.alloc();
     for (at, kind, key, text, place) in &BROKEN {
-        let refused = refused(&rt, rt.alloc(), *at, &(*kind, *key, *text));
-        assert!(rt; refused == *place, "{text} {refused}");
+        let refused = refused(&rt, alloc, *at, &(*kind, *key, *text));
+        check(&rt, refused == *place, text);
     }
 }

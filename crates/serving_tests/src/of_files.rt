@@ -1,18 +1,12 @@
 //! Sessions over a file of configuration and rows that a hub before them left. The input is empty, so that the status is that of the opening.
 ghost use Rattle.std.specs.Prelude.{◌≡◌, IsSome};
 
-use crate::check::check;
-use crate::in_memory::InMemory;
-use crate::kits::quiet_kit;
+use crate::check::{bytes, check, text};
+use crate::in_memory::{InMemory, files, outside, status_of, store};
 use hub_devices::mem_bytes::{MemSink, MemSource};
-use hub_devices::mem_files::MemFiles;
 use hub_kit::bytes::Bytes;
-use hub_kit::moment::Moment;
-use hub_kit::text::Text;
-use hub_main::run::run;
 use hub_main::world::Outside;
 use keeper::keeper::Row;
-use keeper::mem_keeper::MemKeeper;
 use std::alloc::Global;
 use std::process::Abort;
 use std::sync::Wait;
@@ -127,21 +121,7 @@ tokens = [{token = "12345678", service = "s"}]"#,
     ),
 ];
 
-fn text(rt: &impl Abort, alloc: Global, text: &str) -> Text {
-    Text::from_str(alloc, text).expect(rt, "there is memory")
-}
-
-fn words_of(rt: &impl Abort, alloc: Global, line: &str) -> Vec<Text> {
-    let mut words = Vec::new(alloc);
-    for word in line.split(' ') {
-        words
-            .push(text(rt, alloc, word))
-            .expect(rt, "there is memory");
-    }
-    words
-}
-
-fn store(rt: &impl Abort, alloc: Global, kept: &[KeptRow]) -> MemKeeper {
+fn rows_of(rt: &impl Abort, alloc: Global, kept: &[KeptRow]) -> Vec<Row> {
     let mut rows = Vec::new(alloc);
     for (kind, key, said) in kept {
         if *kind > 0 {
@@ -153,41 +133,16 @@ fn store(rt: &impl Abort, alloc: Global, kept: &[KeptRow]) -> MemKeeper {
             rows.push(row).expect(rt, "there is memory");
         }
     }
-    MemKeeper::new(alloc, rows, Vec::new(alloc)).expect(rt, "there is memory")
+    rows
 }
 
-fn outside(rt: &impl Abort, alloc: Global, file: &str, kept: &[KeptRow]) -> Outside<InMemory>
+fn outside_of(rt: &impl Abort, alloc: Global, file: &str, kept: &[KeptRow]) -> Outside<InMemory>
     ensures { IsSome result.store }
 {
-    let bytes = Bytes::from_slice(alloc, file.as_bytes()).expect(rt, "there is memory");
-    let mut files = Vec::new(alloc);
-    files
-        .push((text(rt, alloc, "hub.toml"), bytes))
-        .expect(rt, "there is memory");
-    Outside {
-        input: MemSource::new(Bytes::new(alloc), 1, Vec::new(alloc)),
-        output: MemSink::new(alloc, Vec::new(alloc)),
-        store: Some(store(rt, alloc, kept)),
-        kit: quiet_kit(alloc, Moment::zero()),
-        files: MemFiles::new(alloc, files, Vec::new(alloc)),
-        end: None,
-    }
-}
-
-/// The status of a session with these words.
-fn status_of<R: Abort + Wait>(
-    rt: &R,
-    alloc: Global,
-    line: &str,
-    outside: &mut Outside<InMemory>,
-) -> u8
-    requires { IsSome outside.old.store }
-    ensures { IsSome outside.new.store }
-{
-    let words = words_of(rt, alloc, line);
-    let status = run(rt, alloc, words.as_slice(), outside);
-    drop(words);
-    status
+    let input = MemSource::new(Bytes::new(alloc), 1, Vec::new(alloc));
+    let output = MemSink::new(alloc, Vec::new(alloc));
+    let store = store(rt, alloc, rows_of(rt, alloc, kept));
+    outside(rt, alloc, input, output, store, files(rt, alloc, file))
 }
 
 /// Whether a session over this file and these rows ends with this status.
@@ -198,7 +153,7 @@ fn ends_so<R: Abort + Wait>(
     opening: &(&'static str, [KeptRow; 3], u8),
 ) -> bool {
     let (file, kept, status) = opening;
-    let mut outside = outside(rt, alloc, file, kept);
+    let mut outside = outside_of(rt, alloc, file, kept);
     let found = status_of(rt, alloc, line, &mut outside);
     drop(outside);
     found == *status
@@ -225,8 +180,7 @@ fn a_file_that_is_not_there(rt: HostRuntime) {
 fn ask(rt: &impl Abort, alloc: Global, outside: &mut Outside<InMemory>, request: &[u8])
     ensures { outside.new.store ≡ outside.old.store }
 {
-    let bytes = Bytes::from_slice(alloc, request).expect(rt, "there is memory");
-    outside.input = MemSource::new(bytes, 1000, Vec::new(alloc));
+    outside.input = MemSource::new(bytes(rt, alloc, request), 1000, Vec::new(alloc));
     outside.output = MemSink::new(alloc, Vec::new(alloc));
 }
 
@@ -261,7 +215,7 @@ fn answers<R: Abort + Wait>(
 #[test]
 fn a_second_session_over_the_same_rows(rt: HostRuntime) {
     let alloc = rt.alloc();
-    let mut outside = outside(&rt, alloc, "", &[]);
+    let mut outside = outside_of(&rt, alloc, "", &[]);
     let line = "session 1700000000 ann secret-token-ann --admin --no-trail";
     check(&rt, answers(&rt, alloc, &mut outside, line, POST_BOB), line);
     let line = "session 1800000000 ann secret-token-ann";
