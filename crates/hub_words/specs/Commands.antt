@@ -1,10 +1,12 @@
 -- What the words of a command say, by the command as `clap` takes it.
-use Rattle.std.specs.Prelude.{◌≡◌, Bool, true, false, List, [], ◌∷◌, bytes_eq, codes, Option, Some, None, Result, Ok, Err, if◌then◌else◌}
+use Rattle.std.specs.Prelude.{◌≡◌, Bool, true, false, List, [], ◌∷◌, bytes_eq, codes, Option, Some, None, Result, Ok, Err, IfOk, if◌then◌else◌}
+use Rattle.std.specs.declared.alloc.AllocError.{AllocError}
 use Rattle.clap.specs.Faults.{fault_of}
 use Rattle.clap.specs.Kinds.{Kinds}
-use Rattle.clap.specs.Simple.{App, matches_of, new_rule}
+use Rattle.clap.specs.Simple.{App, app_of, matches_of, new_rule}
 use Rattle.clap.specs.Walk.{Row, Rule, Text, first_of}
 use Rattle.clap.specs.declared.builder.action.ArgAction.TheVariants.{SetTrue}
+use Rattle.clap.specs.declared.builder.command.Command.{Command}
 use Rattle.hub_words.specs.declared.word_error.WordError.{WordError}
 use Rattle.hub_words.specs.declared.word_error.WordError.TheVariants.{Refused, Memory}
 
@@ -33,6 +35,10 @@ is_true (Some text) = bytes_eq text (codes "true")
 
 abbrev pub is_given : Text → List Row → Bool
 is_given id rows = is_true (first_of id rows)
+
+-- what may be made for such a command
+abbrev pub Makes : App → Result Command AllocError → Type 0
+Makes app made = IfOk made (λ command. app_of command ≡ app)
 
 -- ---- words
 

@@ -2,8 +2,9 @@
 ghost use Rattle.std.specs.Prelude.{◌≡◌, ◌≢◌, true, false, [], map, IfOk, IfErr, OnOk, option_map};
 ghost use Rattle.clap.specs.Faults.{fault_of, is_simple_and_free};
 ghost use Rattle.clap.specs.Matches.{found_of};
-ghost use Rattle.clap.specs.Simple.{app_of, is_simple, matches_of, with_rule};
+ghost use Rattle.clap.specs.Simple.{App, app_of, is_simple, matches_of, new_app, with_rule};
 ghost use Rattle.clap.specs.Walk.{first_of, rows_of, rule_of};
+ghost use Rattle.hub_words.specs.Commands.{Makes};
 ghost use Rattle.hub_words.specs.Commands as spec;
 
 use crate::word_error::WordError;
@@ -33,44 +34,80 @@ pub(crate) fn texts_of<'a>(alloc: Global, words: &'a [Text]) -> Result<Vec<&'a s
     Ok(texts)
 }
 
-/// One more argument of a command.
-pub(crate) fn with<'a>(command: Command<'a>, arg: Arg<'a>) -> Result<Command<'a>, AllocError>
+/// A command without arguments.
+pub(crate) fn begun<'a>(alloc: Global, name: &'a str) -> Result<Command<'a>, AllocError>
+    ensures { Makes (new_app name.entry.now) result }
+{
+    Ok(Command::new(alloc, name))
+}
+
+/// Adds an argument to a command.
+fn with<'a>(command: Command<'a>, arg: Arg<'a>) -> Result<Command<'a>, AllocError>
     requires { arg.global ≡ false }
     ensures { IfOk result (λ r. app_of r ≡ with_rule (app_of command.entry) (rule_of arg.entry)) }
 {
     command.arg(arg)
 }
 
-/// An argument that is found by its place.
-pub(crate) fn positional<'a>(alloc: Global, id: &'a str) -> Arg<'a>
-    ensures rule { rule_of result ≡ spec.positional_rule id.entry.now }
-    ensures local { result.global ≡ false }
+/// Adds an argument, if there is a command.
+fn add<'a>(
+    command: Result<Command<'a>, AllocError>,
+    arg: Arg<'a>,
+) -> Result<Command<'a>, AllocError>
+    requires { arg.global ≡ false }
+    ensures { (app : App) → Makes app command.entry → Makes (with_rule app (rule_of arg.entry)) result }
 {
-    Arg::new(alloc, id).required(true)
+    match command {
+        Ok(command) => with(command, arg),
+        Err(error) => Err(error),
+    }
 }
 
-/// An option without a value.
-pub(crate) fn flag<'a>(alloc: Global, id: &'a str) -> Arg<'a>
-    ensures rule { rule_of result ≡ spec.flag_rule id.entry.now }
-    ensures local { result.global ≡ false }
+/// Adds an argument that is found by its place.
+pub(crate) fn positional<'a>(
+    alloc: Global,
+    command: Result<Command<'a>, AllocError>,
+    id: &'a str,
+) -> Result<Command<'a>, AllocError>
+    ensures { (app : App) → Makes app command.entry → Makes (with_rule app (spec.positional_rule id.entry.now)) result }
 {
-    Arg::new(alloc, id).long(id).action(ArgAction::SetTrue)
+    add(command, Arg::new(alloc, id).required(true))
 }
 
-/// An option with a value, which may lack.
-pub(crate) fn choice<'a>(alloc: Global, id: &'a str) -> Arg<'a>
-    ensures rule { rule_of result ≡ spec.choice_rule id.entry.now }
-    ensures local { result.global ≡ false }
+/// Adds an option without a value.
+pub(crate) fn flag<'a>(
+    alloc: Global,
+    command: Result<Command<'a>, AllocError>,
+    id: &'a str,
+) -> Result<Command<'a>, AllocError>
+    ensures { (app : App) → Makes app command.entry → Makes (with_rule app (spec.flag_rule id.entry.now)) result }
 {
-    Arg::new(alloc, id).long(id)
+    add(
+        command,
+        Arg::new(alloc, id).long(id).action(ArgAction::SetTrue),
+    )
 }
 
-/// An option with a value, which has to be there.
-pub(crate) fn needed_choice<'a>(alloc: Global, id: &'a str) -> Arg<'a>
-    ensures rule { rule_of result ≡ spec.needed_choice_rule id.entry.now }
-    ensures local { result.global ≡ false }
+/// Adds an option with a value, which may lack.
+pub(crate) fn choice<'a>(
+    alloc: Global,
+    command: Result<Command<'a>, AllocError>,
+    id: &'a str,
+) -> Result<Command<'a>, AllocError>
+    ensures { (app : App) → Makes app command.entry → Makes (with_rule app (spec.choice_rule id.entry.now)) result }
 {
-    Arg::new(alloc, id).long(id).required(true)
+    add(command, Arg::new(alloc, id).long(id))
+}
+
+/// Adds an option with a value, which has to be there.
+pub(crate) fn needed_choice<'a>(
+    alloc: Global,
+    command: Result<Command<'a>, AllocError>,
+    id: &'a str,
+) -> Result<Command<'a>, AllocError>
+    ensures { (app : App) → Makes app command.entry → Makes (with_rule app (spec.needed_choice_rule id.entry.now)) result }
+{
+    add(command, Arg::new(alloc, id).long(id).required(true))
 }
 
 /// The matches of the words, the first of which `clap` takes for the program's name.

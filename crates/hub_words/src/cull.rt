@@ -1,13 +1,13 @@
 //! The words of the command `cull`.
-ghost use Rattle.std.specs.Prelude.{◌≡◌, IfOk};
+ghost use Rattle.std.specs.Prelude.{◌≡◌};
 ghost use Rattle.clap.specs.Matches.{found_of};
-ghost use Rattle.clap.specs.Simple.{app_of};
 ghost use Rattle.clap.specs.Walk.{rows_of};
 ghost use Rattle.hub_words.specs.Commands.{Answers};
 ghost use Rattle.hub_words.specs.Cull as spec;
 
-use crate::command::{begins, choice, flag, is_given, matches_in, needed_choice, texts_of, with};
+use crate::command::{begun, choice, flag, is_given, needed_choice};
 use crate::from_word::{both, needed, optional};
+use crate::reading::{CommandWords, read};
 use crate::word_error::WordError;
 use clap::{ArgMatches, Command};
 use hub_kit::target::Target;
@@ -40,33 +40,7 @@ pub struct CullWords {
 pub fn read_cull(alloc: Global, words: &[Text]) -> Result<CullWords, WordError>
     ensures { Answers (spec.cull_read words.now) result }
 {
-    if !begins(words, "cull") {
-        return Err(WordError::Refused);
-    }
-    let Ok(texts) = texts_of(alloc, words) else {
-        return Err(WordError::Memory);
-    };
-    let Ok(command) = cull_command(alloc) else {
-        return Err(WordError::Memory);
-    };
-    match matches_in(command, texts.as_slice()) {
-        Ok(matches) => cull_of(alloc, &matches),
-        Err(error) => Err(error),
-    }
-}
-
-/// The command `cull`.
-fn cull_command<'a>(alloc: Global) -> Result<Command<'a>, AllocError>
-    ensures { IfOk result (λ command. app_of command ≡ spec.cull_app) }
-{
-    let command = with(Command::new(alloc, "cull"), needed_choice(alloc, "hub"))?;
-    let command = with(command, needed_choice(alloc, "token-file"))?;
-    let command = with(command, choice(alloc, "timeout"))?;
-    let command = with(command, choice(alloc, "max-age"))?;
-    let command = with(command, flag(alloc, "cull-users"))?;
-    let command = with(command, flag(alloc, "remove-named-servers"))?;
-    let command = with(command, choice(alloc, "cull-every"))?;
-    with(command, choice(alloc, "rounds"))
+    read::<CullWords>(alloc, "cull", words)
 }
 
 /// Where and by which token, the two ages, and how often.
@@ -75,29 +49,44 @@ type CullValues = (
     ((Option<u64>, Option<u64>), (Option<u64>, Option<u64>)),
 );
 
-/// What the matches say.
-fn cull_of(alloc: Global, matches: &ArgMatches) -> Result<CullWords, WordError>
-    ensures { Answers (spec.cull_of (rows_of (found_of matches.now))) result }
-{
-    let values = both(
-        both(
-            needed::<Target>(alloc, matches, "hub"),
-            needed::<Text>(alloc, matches, "token-file"),
-        ),
-        both(
+impl CommandWords for CullWords {
+    ghost app = { spec.cull_app };
+
+    ghost says = { spec.cull_of };
+
+    fn command<'a>(alloc: Global) -> Result<Command<'a>, AllocError> {
+        let command = begun(alloc, "cull");
+        let command = needed_choice(alloc, command, "hub");
+        let command = needed_choice(alloc, command, "token-file");
+        let command = choice(alloc, command, "timeout");
+        let command = choice(alloc, command, "max-age");
+        let command = flag(alloc, command, "cull-users");
+        let command = flag(alloc, command, "remove-named-servers");
+        let command = choice(alloc, command, "cull-every");
+        choice(alloc, command, "rounds")
+    }
+
+    fn of(alloc: Global, matches: &ArgMatches) -> Result<CullWords, WordError> {
+        let values = both(
             both(
-                optional::<u64>(alloc, matches, "timeout"),
-                optional::<u64>(alloc, matches, "max-age"),
+                needed::<Target>(alloc, matches, "hub"),
+                needed::<Text>(alloc, matches, "token-file"),
             ),
             both(
-                optional::<u64>(alloc, matches, "cull-every"),
-                optional::<u64>(alloc, matches, "rounds"),
+                both(
+                    optional::<u64>(alloc, matches, "timeout"),
+                    optional::<u64>(alloc, matches, "max-age"),
+                ),
+                both(
+                    optional::<u64>(alloc, matches, "cull-every"),
+                    optional::<u64>(alloc, matches, "rounds"),
+                ),
             ),
-        ),
-    );
-    match values {
-        Ok(values) => Ok(cull_with(matches, values)),
-        Err(error) => Err(error),
+        );
+        match values {
+            Ok(values) => Ok(cull_with(matches, values)),
+            Err(error) => Err(error),
+        }
     }
 }
 

@@ -1,13 +1,13 @@
 //! The words of the command `guard`.
-ghost use Rattle.std.specs.Prelude.{◌≡◌, IfOk};
+ghost use Rattle.std.specs.Prelude.{◌≡◌};
 ghost use Rattle.clap.specs.Matches.{found_of};
-ghost use Rattle.clap.specs.Simple.{app_of};
 ghost use Rattle.clap.specs.Walk.{rows_of};
 ghost use Rattle.hub_words.specs.Commands.{Answers};
 ghost use Rattle.hub_words.specs.Guard as spec;
 
-use crate::command::{begins, choice, matches_in, needed_choice, texts_of, with};
+use crate::command::{begun, choice, needed_choice};
 use crate::from_word::{both, needed, optional};
+use crate::reading::{CommandWords, read};
 use crate::word_error::WordError;
 use addresses::address::Address;
 use clap::{ArgMatches, Command};
@@ -35,55 +35,44 @@ pub struct GuardWords {
 pub fn read_guard(alloc: Global, words: &[Text]) -> Result<GuardWords, WordError>
     ensures { Answers (spec.guard_read words.now) result }
 {
-    if !begins(words, "guard") {
-        return Err(WordError::Refused);
-    }
-    let Ok(texts) = texts_of(alloc, words) else {
-        return Err(WordError::Memory);
-    };
-    let Ok(command) = guard_command(alloc) else {
-        return Err(WordError::Memory);
-    };
-    match matches_in(command, texts.as_slice()) {
-        Ok(matches) => guard_of(alloc, &matches),
-        Err(error) => Err(error),
-    }
-}
-
-/// The command `guard`.
-fn guard_command<'a>(alloc: Global) -> Result<Command<'a>, AllocError>
-    ensures { IfOk result (λ command. app_of command ≡ spec.guard_app) }
-{
-    let command = with(Command::new(alloc, "guard"), needed_choice(alloc, "listen"))?;
-    let command = with(command, needed_choice(alloc, "for"))?;
-    let command = with(command, needed_choice(alloc, "hub"))?;
-    let command = with(command, needed_choice(alloc, "target"))?;
-    with(command, choice(alloc, "secret-file"))
+    read::<GuardWords>(alloc, "guard", words)
 }
 
 /// The address and the server, the two targets, and the name of the file.
 type GuardValues = ((Address, ServerKey), (Target, (Target, Option<Text>)));
 
-/// What the matches say.
-fn guard_of(alloc: Global, matches: &ArgMatches) -> Result<GuardWords, WordError>
-    ensures { Answers (spec.guard_of (rows_of (found_of matches.now))) result }
-{
-    let values = both(
-        both(
-            needed::<Address>(alloc, matches, "listen"),
-            needed::<ServerKey>(alloc, matches, "for"),
-        ),
-        both(
-            needed::<Target>(alloc, matches, "hub"),
+impl CommandWords for GuardWords {
+    ghost app = { spec.guard_app };
+
+    ghost says = { spec.guard_of };
+
+    fn command<'a>(alloc: Global) -> Result<Command<'a>, AllocError> {
+        let command = begun(alloc, "guard");
+        let command = needed_choice(alloc, command, "listen");
+        let command = needed_choice(alloc, command, "for");
+        let command = needed_choice(alloc, command, "hub");
+        let command = needed_choice(alloc, command, "target");
+        choice(alloc, command, "secret-file")
+    }
+
+    fn of(alloc: Global, matches: &ArgMatches) -> Result<GuardWords, WordError> {
+        let values = both(
             both(
-                needed::<Target>(alloc, matches, "target"),
-                optional::<Text>(alloc, matches, "secret-file"),
+                needed::<Address>(alloc, matches, "listen"),
+                needed::<ServerKey>(alloc, matches, "for"),
             ),
-        ),
-    );
-    match values {
-        Ok(values) => Ok(guard_with(values)),
-        Err(error) => Err(error),
+            both(
+                needed::<Target>(alloc, matches, "hub"),
+                both(
+                    needed::<Target>(alloc, matches, "target"),
+                    optional::<Text>(alloc, matches, "secret-file"),
+                ),
+            ),
+        );
+        match values {
+            Ok(values) => Ok(guard_with(values)),
+            Err(error) => Err(error),
+        }
     }
 }
 

@@ -10,6 +10,7 @@ mod from_word;
 pub mod guard;
 pub mod load;
 pub mod proxy;
+mod reading;
 pub mod serve;
 pub mod session;
 mod values;

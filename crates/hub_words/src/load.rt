@@ -1,13 +1,13 @@
 //! The words of the command `load`.
-ghost use Rattle.std.specs.Prelude.{◌≡◌, IfOk};
+ghost use Rattle.std.specs.Prelude.{◌≡◌};
 ghost use Rattle.clap.specs.Matches.{found_of};
-ghost use Rattle.clap.specs.Simple.{app_of};
 ghost use Rattle.clap.specs.Walk.{rows_of};
 ghost use Rattle.hub_words.specs.Commands.{Answers};
 ghost use Rattle.hub_words.specs.Load as spec;
 
-use crate::command::{begins, matches_in, positional, texts_of, with};
+use crate::command::{begun, positional};
 use crate::from_word::{both, needed};
+use crate::reading::{CommandWords, read};
 use crate::values::within;
 use crate::word_error::WordError;
 use clap::{ArgMatches, Command};
@@ -28,46 +28,35 @@ pub struct LoadWords {
 pub fn read_load(alloc: Global, words: &[Text]) -> Result<LoadWords, WordError>
     ensures { Answers (spec.load_read words.now) result }
 {
-    if !begins(words, "load") {
-        return Err(WordError::Refused);
-    }
-    let Ok(texts) = texts_of(alloc, words) else {
-        return Err(WordError::Memory);
-    };
-    let Ok(command) = load_command(alloc) else {
-        return Err(WordError::Memory);
-    };
-    match matches_in(command, texts.as_slice()) {
-        Ok(matches) => load_of(alloc, &matches),
-        Err(error) => Err(error),
-    }
-}
-
-/// The command `load`.
-fn load_command<'a>(alloc: Global) -> Result<Command<'a>, AllocError>
-    ensures { IfOk result (λ command. app_of command ≡ spec.load_app) }
-{
-    let command = with(Command::new(alloc, "load"), positional(alloc, "SEED"))?;
-    with(command, positional(alloc, "N"))
+    read::<LoadWords>(alloc, "load", words)
 }
 
 /// SEED and N.
 type LoadValues = (u64, u64);
 
-/// What the matches say.
-fn load_of(alloc: Global, matches: &ArgMatches) -> Result<LoadWords, WordError>
-    ensures { Answers (spec.load_of (rows_of (found_of matches.now))) result }
-{
-    let values = both(
-        needed::<u64>(alloc, matches, "SEED"),
-        needed::<u64>(alloc, matches, "N"),
-    );
-    match values {
-        Ok(values) => match load_within(values) {
-            Some(words) => Ok(words),
-            None => Err(WordError::Refused),
-        },
-        Err(error) => Err(error),
+impl CommandWords for LoadWords {
+    ghost app = { spec.load_app };
+
+    ghost says = { spec.load_of };
+
+    fn command<'a>(alloc: Global) -> Result<Command<'a>, AllocError> {
+        let command = begun(alloc, "load");
+        let command = positional(alloc, command, "SEED");
+        positional(alloc, command, "N")
+    }
+
+    fn of(alloc: Global, matches: &ArgMatches) -> Result<LoadWords, WordError> {
+        let values = both(
+            needed::<u64>(alloc, matches, "SEED"),
+            needed::<u64>(alloc, matches, "N"),
+        );
+        match values {
+            Ok(values) => match load_within(values) {
+                Some(words) => Ok(words),
+                None => Err(WordError::Refused),
+            },
+            Err(error) => Err(error),
+        }
     }
 }
 

@@ -1,13 +1,13 @@
 //! The words of the command `proxy`.
-ghost use Rattle.std.specs.Prelude.{◌≡◌, IfOk};
+ghost use Rattle.std.specs.Prelude.{◌≡◌};
 ghost use Rattle.clap.specs.Matches.{found_of};
-ghost use Rattle.clap.specs.Simple.{app_of};
 ghost use Rattle.clap.specs.Walk.{rows_of};
 ghost use Rattle.hub_words.specs.Commands.{Answers};
 ghost use Rattle.hub_words.specs.Proxy as spec;
 
-use crate::command::{begins, matches_in, needed_choice, texts_of, with};
+use crate::command::{begun, needed_choice};
 use crate::from_word::{both, needed};
+use crate::reading::{CommandWords, read};
 use crate::word_error::WordError;
 use addresses::address::Address;
 use clap::{ArgMatches, Command};
@@ -30,47 +30,36 @@ pub struct ProxyWords {
 pub fn read_proxy(alloc: Global, words: &[Text]) -> Result<ProxyWords, WordError>
     ensures { Answers (spec.proxy_read words.now) result }
 {
-    if !begins(words, "proxy") {
-        return Err(WordError::Refused);
-    }
-    let Ok(texts) = texts_of(alloc, words) else {
-        return Err(WordError::Memory);
-    };
-    let Ok(command) = proxy_command(alloc) else {
-        return Err(WordError::Memory);
-    };
-    match matches_in(command, texts.as_slice()) {
-        Ok(matches) => proxy_of(alloc, &matches),
-        Err(error) => Err(error),
-    }
-}
-
-/// The command `proxy`.
-fn proxy_command<'a>(alloc: Global) -> Result<Command<'a>, AllocError>
-    ensures { IfOk result (λ command. app_of command ≡ spec.proxy_app) }
-{
-    let command = with(Command::new(alloc, "proxy"), needed_choice(alloc, "listen"))?;
-    let command = with(command, needed_choice(alloc, "api"))?;
-    with(command, needed_choice(alloc, "secret-file"))
+    read::<ProxyWords>(alloc, "proxy", words)
 }
 
 /// The two addresses, and the name of the file.
 type ProxyValues = (Address, (Address, Text));
 
-/// What the matches say.
-fn proxy_of(alloc: Global, matches: &ArgMatches) -> Result<ProxyWords, WordError>
-    ensures { Answers (spec.proxy_of (rows_of (found_of matches.now))) result }
-{
-    let values = both(
-        needed::<Address>(alloc, matches, "listen"),
-        both(
-            needed::<Address>(alloc, matches, "api"),
-            needed::<Text>(alloc, matches, "secret-file"),
-        ),
-    );
-    match values {
-        Ok(values) => Ok(proxy_with(values)),
-        Err(error) => Err(error),
+impl CommandWords for ProxyWords {
+    ghost app = { spec.proxy_app };
+
+    ghost says = { spec.proxy_of };
+
+    fn command<'a>(alloc: Global) -> Result<Command<'a>, AllocError> {
+        let command = begun(alloc, "proxy");
+        let command = needed_choice(alloc, command, "listen");
+        let command = needed_choice(alloc, command, "api");
+        needed_choice(alloc, command, "secret-file")
+    }
+
+    fn of(alloc: Global, matches: &ArgMatches) -> Result<ProxyWords, WordError> {
+        let values = both(
+            needed::<Address>(alloc, matches, "listen"),
+            both(
+                needed::<Address>(alloc, matches, "api"),
+                needed::<Text>(alloc, matches, "secret-file"),
+            ),
+        );
+        match values {
+            Ok(values) => Ok(proxy_with(values)),
+            Err(error) => Err(error),
+        }
     }
 }
 

@@ -1,13 +1,13 @@
 //! The words of the command `serve`.
-ghost use Rattle.std.specs.Prelude.{◌≡◌, IfOk};
+ghost use Rattle.std.specs.Prelude.{◌≡◌};
 ghost use Rattle.clap.specs.Matches.{found_of};
-ghost use Rattle.clap.specs.Simple.{app_of};
 ghost use Rattle.clap.specs.Walk.{rows_of};
 ghost use Rattle.hub_words.specs.Commands.{Answers};
 ghost use Rattle.hub_words.specs.Serve as spec;
 
-use crate::command::{begins, choice, flag, is_given, matches_in, needed_choice, texts_of, with};
+use crate::command::{begun, choice, flag, is_given, needed_choice};
 use crate::from_word::{both, needed, optional};
+use crate::reading::{CommandWords, read};
 use crate::values::within;
 use crate::word_error::WordError;
 use clap::{ArgMatches, Command};
@@ -35,55 +35,44 @@ pub struct ServeWords {
 pub fn read_serve(alloc: Global, words: &[Text]) -> Result<ServeWords, WordError>
     ensures { Answers (spec.serve_read words.now) result }
 {
-    if !begins(words, "serve") {
-        return Err(WordError::Refused);
-    }
-    let Ok(texts) = texts_of(alloc, words) else {
-        return Err(WordError::Memory);
-    };
-    let Ok(command) = serve_command(alloc) else {
-        return Err(WordError::Memory);
-    };
-    match matches_in(command, texts.as_slice()) {
-        Ok(matches) => serve_of(alloc, &matches),
-        Err(error) => Err(error),
-    }
-}
-
-/// The command `serve`.
-fn serve_command<'a>(alloc: Global) -> Result<Command<'a>, AllocError>
-    ensures { IfOk result (λ command. app_of command ≡ spec.serve_app) }
-{
-    let command = with(Command::new(alloc, "serve"), needed_choice(alloc, "config"))?;
-    let command = with(command, choice(alloc, "db"))?;
-    let command = with(command, flag(alloc, "no-trail"))?;
-    let command = with(command, choice(alloc, "workers"))?;
-    with(command, choice(alloc, "connections"))
+    read::<ServeWords>(alloc, "serve", words)
 }
 
 /// The two texts, and the two numbers.
 type ServeValues = ((Text, Option<Text>), (Option<u64>, Option<u64>));
 
-/// What the matches say.
-fn serve_of(alloc: Global, matches: &ArgMatches) -> Result<ServeWords, WordError>
-    ensures { Answers (spec.serve_of (rows_of (found_of matches.now))) result }
-{
-    let values = both(
-        both(
-            needed::<Text>(alloc, matches, "config"),
-            optional::<Text>(alloc, matches, "db"),
-        ),
-        both(
-            optional::<u64>(alloc, matches, "workers"),
-            optional::<u64>(alloc, matches, "connections"),
-        ),
-    );
-    match values {
-        Ok(values) => match serve_with(matches, values) {
-            Some(words) => Ok(words),
-            None => Err(WordError::Refused),
-        },
-        Err(error) => Err(error),
+impl CommandWords for ServeWords {
+    ghost app = { spec.serve_app };
+
+    ghost says = { spec.serve_of };
+
+    fn command<'a>(alloc: Global) -> Result<Command<'a>, AllocError> {
+        let command = begun(alloc, "serve");
+        let command = needed_choice(alloc, command, "config");
+        let command = choice(alloc, command, "db");
+        let command = flag(alloc, command, "no-trail");
+        let command = choice(alloc, command, "workers");
+        choice(alloc, command, "connections")
+    }
+
+    fn of(alloc: Global, matches: &ArgMatches) -> Result<ServeWords, WordError> {
+        let values = both(
+            both(
+                needed::<Text>(alloc, matches, "config"),
+                optional::<Text>(alloc, matches, "db"),
+            ),
+            both(
+                optional::<u64>(alloc, matches, "workers"),
+                optional::<u64>(alloc, matches, "connections"),
+            ),
+        );
+        match values {
+            Ok(values) => match serve_with(matches, values) {
+                Some(words) => Ok(words),
+                None => Err(WordError::Refused),
+            },
+            Err(error) => Err(error),
+        }
     }
 }
 

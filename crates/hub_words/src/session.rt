@@ -1,13 +1,13 @@
 //! The words of the command `session`.
-ghost use Rattle.std.specs.Prelude.{◌≡◌, IfOk};
+ghost use Rattle.std.specs.Prelude.{◌≡◌};
 ghost use Rattle.clap.specs.Matches.{found_of};
-ghost use Rattle.clap.specs.Simple.{app_of};
 ghost use Rattle.clap.specs.Walk.{rows_of};
 ghost use Rattle.hub_words.specs.Commands.{Answers};
 ghost use Rattle.hub_words.specs.Session as spec;
 
-use crate::command::{begins, choice, flag, is_given, matches_in, positional, texts_of, with};
+use crate::command::{begun, choice, flag, is_given, positional};
 use crate::from_word::{both, needed, optional};
+use crate::reading::{CommandWords, read};
 use crate::values::Secret;
 use crate::word_error::WordError;
 use clap::{ArgMatches, Command};
@@ -39,57 +39,46 @@ pub struct SessionWords {
 pub fn read_session(alloc: Global, words: &[Text]) -> Result<SessionWords, WordError>
     ensures { Answers (spec.session_read words.now) result }
 {
-    if !begins(words, "session") {
-        return Err(WordError::Refused);
-    }
-    let Ok(texts) = texts_of(alloc, words) else {
-        return Err(WordError::Memory);
-    };
-    let Ok(command) = session_command(alloc) else {
-        return Err(WordError::Memory);
-    };
-    match matches_in(command, texts.as_slice()) {
-        Ok(matches) => session_of(alloc, &matches),
-        Err(error) => Err(error),
-    }
-}
-
-/// The command `session`.
-fn session_command<'a>(alloc: Global) -> Result<Command<'a>, AllocError>
-    ensures { IfOk result (λ command. app_of command ≡ spec.session_app) }
-{
-    let command = with(Command::new(alloc, "session"), positional(alloc, "NOW"))?;
-    let command = with(command, positional(alloc, "USER"))?;
-    let command = with(command, positional(alloc, "TOKEN"))?;
-    let command = with(command, flag(alloc, "admin"))?;
-    let command = with(command, choice(alloc, "config"))?;
-    let command = with(command, choice(alloc, "db"))?;
-    with(command, flag(alloc, "no-trail"))
+    read::<SessionWords>(alloc, "session", words)
 }
 
 /// NOW and USER, TOKEN, and the values of the two options.
 type SessionValues = ((Moment, UserName), (Secret, (Option<Text>, Option<Text>)));
 
-/// What the matches say.
-fn session_of(alloc: Global, matches: &ArgMatches) -> Result<SessionWords, WordError>
-    ensures { Answers (spec.session_of (rows_of (found_of matches.now))) result }
-{
-    let values = both(
-        both(
-            needed::<Moment>(alloc, matches, "NOW"),
-            needed::<UserName>(alloc, matches, "USER"),
-        ),
-        both(
-            needed::<Secret>(alloc, matches, "TOKEN"),
+impl CommandWords for SessionWords {
+    ghost app = { spec.session_app };
+
+    ghost says = { spec.session_of };
+
+    fn command<'a>(alloc: Global) -> Result<Command<'a>, AllocError> {
+        let command = begun(alloc, "session");
+        let command = positional(alloc, command, "NOW");
+        let command = positional(alloc, command, "USER");
+        let command = positional(alloc, command, "TOKEN");
+        let command = flag(alloc, command, "admin");
+        let command = choice(alloc, command, "config");
+        let command = choice(alloc, command, "db");
+        flag(alloc, command, "no-trail")
+    }
+
+    fn of(alloc: Global, matches: &ArgMatches) -> Result<SessionWords, WordError> {
+        let values = both(
             both(
-                optional::<Text>(alloc, matches, "config"),
-                optional::<Text>(alloc, matches, "db"),
+                needed::<Moment>(alloc, matches, "NOW"),
+                needed::<UserName>(alloc, matches, "USER"),
             ),
-        ),
-    );
-    match values {
-        Ok(values) => Ok(session_with(matches, values)),
-        Err(error) => Err(error),
+            both(
+                needed::<Secret>(alloc, matches, "TOKEN"),
+                both(
+                    optional::<Text>(alloc, matches, "config"),
+                    optional::<Text>(alloc, matches, "db"),
+                ),
+            ),
+        );
+        match values {
+            Ok(values) => Ok(session_with(matches, values)),
+            Err(error) => Err(error),
+        }
     }
 }
 
