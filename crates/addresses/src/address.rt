@@ -10,9 +10,14 @@ use std::alloc::Global;
 use std::marker::Model;
 
 /// An address, which contracts see as its bytes.
-#[derive(Drop)]
 pub struct Address {
     text: Text,
+}
+
+impl Drop for Address {
+    fn drop(self) {
+        let Address { text: _ } = self;
+    }
 }
 
 impl Model for Address {
@@ -33,7 +38,8 @@ impl Address {
     pub fn into_text(self) -> Text
         ensures { result ≡ self }
     {
-        self.text
+        let Address { text } = self;
+        text
     }
 }
 

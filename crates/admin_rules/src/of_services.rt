@@ -70,9 +70,14 @@ fn client_of_service(alloc: Global, service: &ServiceName) -> Result<Text, Alloc
 }
 
 /// The client of an id.
-#[derive(Drop)]
 struct Client {
     id: Text,
+}
+
+impl Drop for Client {
+    fn drop(self) {
+        let Client { id: _ } = self;
+    }
 }
 
 impl Purge<Role> for ServiceName {

@@ -77,9 +77,14 @@ fn clients_of_user(alloc: Global, user: &UserName) -> Result<Text, AllocError>
 }
 
 /// The clients whose ids have a beginning.
-#[derive(Drop)]
 struct Clients {
     beginning: Text,
+}
+
+impl Drop for Clients {
+    fn drop(self) {
+        let Clients { beginning: _ } = self;
+    }
 }
 
 impl Purge<Group> for UserName {

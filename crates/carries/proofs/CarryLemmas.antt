@@ -1,7 +1,7 @@
 -- From the parts of a carriage to how it ends.
 use Rattle.std.proofs.Common.{◌≡◌, ℕ, ◌+◌, ◌<◌, ◌≤◌, ◌⊎◌, Bool, true, false, ◌&&◌, inl, inr, List, [], ◌∷◌, ◌++◌, length, take, Option, Some, None, Result, Ok, Err, OnErr, refl, sym, ap, ◌∙◌, subst, arith, length-append}
 use Rattle.std.specs.Option.{option_map}
-use Rattle.std.proofs.lemmas.List.{append-nil}
+use Rattle.std.proofs.lemmas.List.{append-nil, length-take-le}
 use Rattle.std.proofs.lemmas.Bool.{eqb-true}
 use Rattle.httparse.specs.Grammar.{RequestHead, ResponseHead, status_code}
 use Rattle.hub_devices.specs.Faults.{Rises}
@@ -44,6 +44,12 @@ pub took_ended : (kept bytes : List ℕ) → Took (Some []) kept (Some []) bytes
 took_ended kept bytes took =
     let left = took.takes.leaves [] refl in
     sym (append-nil kept) ∙ (ap (λ (x : List ℕ). kept ++ x) (sym (nil_front took.taken left.0 left.1)) ∙ took.whole)
+
+-- a piece that was taken leaves less
+pub took_less : (kept into rest : List ℕ) (n : ℕ) → n ≤ length into → 0 < n → Took (Some []) kept (Some []) (take n into ++ rest) → length rest < length kept
+took_less kept into rest n fits some took =
+    let same : length kept ≡ length (take n into) + length rest = ap length (took_ended kept (take n into ++ rest) took) ∙ length-append (take n into) rest in
+    omega (arith, same, length-take-le n into fits, some)
 
 pub no_rise : Rises 0 0 → ⊥
 no_rise rises = omega (arith, rises (omega arith))

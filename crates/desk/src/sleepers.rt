@@ -7,9 +7,14 @@ use std::sync::Wait;
 use std::sync::atomic::{AtomicU64, Ordering};
 
 /// How many threads sleep or are about to, so that giving the turn back makes no call to the system where none does.
-#[derive(Drop)]
 pub(crate) struct Sleepers {
     count: AtomicU64,
+}
+
+impl Drop for Sleepers {
+    fn drop(self) {
+        let Sleepers { count: _ } = self;
+    }
 }
 
 impl Sleepers {

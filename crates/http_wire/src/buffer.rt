@@ -14,9 +14,14 @@ pub const HEAD_LIMIT: usize = 16384;
 /// How many bytes are read at once.
 const CHUNK: usize = 4096;
 
-#[derive(Drop)]
 pub struct WireBuffer {
     bytes: Vec<u8>,
+}
+
+impl Drop for WireBuffer {
+    fn drop(self) {
+        let WireBuffer { bytes: _ } = self;
+    }
 }
 
 impl Model for WireBuffer {

@@ -10,10 +10,15 @@ use hub_kit::text::Text;
 use std::alloc::{AllocError, Global};
 
 /// A header, its value without the blanks around it.
-#[derive(Drop)]
 pub struct Header {
     pub name: Text,
     pub value: Bytes,
+}
+
+impl Drop for Header {
+    fn drop(self) {
+        let Header { name: _, value: _ } = self;
+    }
 }
 
 /// A request's head. `minor` is 0 for HTTP/1.0 and 1 for HTTP/1.1.

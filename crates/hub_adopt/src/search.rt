@@ -12,10 +12,15 @@ use keeper::trail::Trail;
 use std::alloc::{AllocError, Global};
 
 /// Looks once, and changes nothing.
-#[derive(Drop)]
 pub(crate) struct Search {
     alloc: Global,
     acted: bool,
+}
+
+impl Drop for Search {
+    fn drop(self) {
+        let Search { alloc: _, acted: _ } = self;
+    }
 }
 
 impl Search {

@@ -7,7 +7,6 @@ use hub_kit::text::Text;
 use hub_opening::config::HubConfig;
 
 /// A service whose program the hub starts, and to which requests under `/services/NAME` go.
-#[derive(Drop)]
 pub struct ConfigManaged {
     pub name: ServiceName,
     /// The words of its program, at least one.
@@ -16,6 +15,17 @@ pub struct ConfigManaged {
     pub target: Target,
     /// The secret that the program gets, which is the one of the service.
     pub secret: Text,
+}
+
+impl Drop for ConfigManaged {
+    fn drop(self) {
+        let ConfigManaged {
+            name: _,
+            command: _,
+            target: _,
+            secret: _,
+        } = self;
+    }
 }
 
 /// All that a file sets up.

@@ -32,13 +32,24 @@ impl<K: Keeper, T: Trail<Entry = Change>> Booked for Book<K, T> {
 }
 
 /// An asked call that waits for its visit.
-#[derive(Drop)]
 pub struct Ask {
     pub alloc: Global,
     pub now: Moment,
     pub draw: Option<[u8; 16]>,
     pub asked: Asked,
     pub acted: bool,
+}
+
+impl Drop for Ask {
+    fn drop(self) {
+        let Ask {
+            alloc: _,
+            now: _,
+            draw: _,
+            asked: _,
+            acted: _,
+        } = self;
+    }
 }
 
 impl Ask {

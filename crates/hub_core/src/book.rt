@@ -41,7 +41,6 @@ use std::marker::Model;
 use std::snapshot::Snapshot;
 
 /// The hub's state, what keeps its rows, and the history that led to it.
-#[derive(Drop)]
 pub struct Book<K: Keeper, T: Trail<Entry = Change>> {
     keeper: K,
     trail: T,
@@ -56,6 +55,21 @@ pub struct Book<K: Keeper, T: Trail<Entry = Change>> {
     found: Snapshot<K>,
     /// For the commit of an end.
     alloc: Global,
+}
+
+impl<K: Keeper + Drop, T: Trail<Entry = Change> + Drop> Drop for Book<K, T> {
+    fn drop(self) {
+        let Book {
+            keeper: _,
+            trail: _,
+            machine: _,
+            rights: _,
+            stamp: _,
+            start: _,
+            found: _,
+            alloc: _,
+        } = self;
+    }
 }
 
 /// How many grants a book keeps.
@@ -294,9 +308,16 @@ impl<K: Keeper, T: Trail<Entry = Change>> Book<K, T> {
         // the entries that are still owed take no memory
         ensures spare { owed self.hub.lives ≤ T.spare result.1 }
     {
-        // in one call each, since they have many parts
-        drop(self.machine);
-        drop(self.rights);
-        (self.keeper, self.trail)
+        let Book {
+            keeper,
+            trail,
+            machine: _,
+            rights: _,
+            stamp: _,
+            start: _,
+            found: _,
+            alloc: _,
+        } = self;
+        (keeper, trail)
     }
 }

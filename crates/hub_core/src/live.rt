@@ -9,11 +9,20 @@ use server_life::Phase;
 use std::alloc::{AllocError, Global};
 
 /// A live server with its generation and the target that it holds.
-#[derive(Drop)]
 pub struct LiveServer {
     pub server: ServerKey,
     pub generation: u64,
     pub target: Target,
+}
+
+impl Drop for LiveServer {
+    fn drop(self) {
+        let LiveServer {
+            server: _,
+            generation: _,
+            target: _,
+        } = self;
+    }
 }
 
 /// The generation of a server that is ready.

@@ -17,9 +17,14 @@ pub trait Pause {
 }
 
 /// Waits no time, and keeps for how many seconds it was told to. Where a wait finds no memory to be kept, none is told from then on.
-#[derive(Drop)]
 pub struct ListPause {
     kept: Option<List<u64>>,
+}
+
+impl Drop for ListPause {
+    fn drop(self) {
+        let ListPause { kept: _ } = self;
+    }
 }
 
 impl ListPause {

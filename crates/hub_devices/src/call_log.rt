@@ -12,10 +12,18 @@ use std::alloc::{AllocError, Global};
 
 /// The calls with what they told, and which of them are to fail. Where there is no memory for a call, none is told from
 /// then on.
-#[derive(Drop)]
 pub struct CallLog<C, T> {
     pub script: FailingCalls,
     pub calls: Option<List<(C, T)>>,
+}
+
+impl<C: Drop, T: Drop> Drop for CallLog<C, T> {
+    fn drop(self) {
+        let CallLog {
+            script: _,
+            calls: _,
+        } = self;
+    }
 }
 
 #[tactic(auto, using(crate::proofs::CallLemmas::Grows_lost))]

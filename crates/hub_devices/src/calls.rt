@@ -21,11 +21,20 @@ pub enum Routing {
 }
 
 /// A route of a proxy's list.
-#[derive(Drop)]
 pub struct ListedRoute {
     pub path: Text,
     pub target: Text,
     pub serial: Option<u64>,
+}
+
+impl Drop for ListedRoute {
+    fn drop(self) {
+        let ListedRoute {
+            path: _,
+            target: _,
+            serial: _,
+        } = self;
+    }
 }
 
 /// What a call told.

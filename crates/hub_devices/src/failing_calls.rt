@@ -7,11 +7,20 @@ use std::marker::Model;
 
 /// The numbers of the calls that are to fail, with a count of the calls and one of the faults. Numbers are counted from
 /// 0: the first call has the number 0. Both counts stand still at the greatest `u64`.
-#[derive(Drop)]
 pub struct FailingCalls {
     numbers: Vec<u64>,
     made: u64,
     faults: u64,
+}
+
+impl Drop for FailingCalls {
+    fn drop(self) {
+        let FailingCalls {
+            numbers: _,
+            made: _,
+            faults: _,
+        } = self;
+    }
 }
 
 impl Model for FailingCalls {

@@ -11,7 +11,6 @@ use hub_kit::bytes::Bytes;
 use std::alloc::Global;
 
 /// Gives at most `cut` bytes for each read. It fails at the calls that `failing` numbers, the first call being 0.
-#[derive(Drop)]
 pub struct MemSource {
     bytes: Bytes,
     at: usize,
@@ -19,6 +18,17 @@ pub struct MemSource {
     script: FailingCalls,
     ghost in_range: { at ≤ length bytes },
     ghost gives: { 0 < cut },
+}
+
+impl Drop for MemSource {
+    fn drop(self) {
+        let MemSource {
+            bytes: _,
+            at: _,
+            cut: _,
+            script: _,
+        } = self;
+    }
 }
 
 impl MemSource {
@@ -67,10 +77,18 @@ impl Source for MemSource {
 
 /// Holds what is written. It fails at the calls that `failing` numbers, the first call being 0, and where it finds no
 /// memory for the bytes.
-#[derive(Drop)]
 pub struct MemSink {
     bytes: Bytes,
     script: FailingCalls,
+}
+
+impl Drop for MemSink {
+    fn drop(self) {
+        let MemSink {
+            bytes: _,
+            script: _,
+        } = self;
+    }
 }
 
 impl MemSink {

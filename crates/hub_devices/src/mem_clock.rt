@@ -18,11 +18,16 @@ impl Clock for FixedClock {
 }
 
 /// Gives its moments in order, then the last one again. With none it gives 0.
-#[derive(Drop)]
 pub struct ListClock {
     moments: Vec<Moment>,
     at: usize,
     ghost within: { at ≤ vec_len moments },
+}
+
+impl Drop for ListClock {
+    fn drop(self) {
+        let ListClock { moments: _, at: _ } = self;
+    }
 }
 
 impl ListClock {

@@ -16,11 +16,20 @@ use std::alloc::Global;
 
 /// Gives the bytes of its files, of equal names the first. It fails at the calls that `failing` numbers, the first call
 /// being 0, and on a name that it doesn't have.
-#[derive(Drop)]
 pub struct MemFiles {
     alloc: Global,
     files: Vec<(Text, Bytes)>,
     script: FailingCalls,
+}
+
+impl Drop for MemFiles {
+    fn drop(self) {
+        let MemFiles {
+            alloc: _,
+            files: _,
+            script: _,
+        } = self;
+    }
 }
 
 impl MemFiles {

@@ -11,13 +11,22 @@ use crate::source::{Failed, Source};
 
 /// Gives its connections in order. It fails at the calls that `failing` numbers, the first call being 0, which give none,
 /// and past its connections.
-#[derive(Drop)]
 pub struct MemListener<I, O> {
     /// The connections that are left, the last of them first.
     doors: Vec<(I, O)>,
     given: u64,
     script: FailingCalls,
     ghost fits: { given + vec_len doors < 2 ^ 64 },
+}
+
+impl<I: Drop, O: Drop> Drop for MemListener<I, O> {
+    fn drop(self) {
+        let MemListener {
+            doors: _,
+            given: _,
+            script: _,
+        } = self;
+    }
 }
 
 impl<I: Source + Drop, O: Sink + Drop> MemListener<I, O> {

@@ -10,12 +10,21 @@ use crate::source::Failed;
 
 /// Gives its draws in order. It fails at the calls that `failing` numbers, the first call being 0, which take none, and
 /// past its draws.
-#[derive(Drop)]
 pub struct ListRandom {
     draws: Vec<[u8; 16]>,
     at: usize,
     script: FailingCalls,
     ghost in_range: { at ≤ vec_len draws },
+}
+
+impl Drop for ListRandom {
+    fn drop(self) {
+        let ListRandom {
+            draws: _,
+            at: _,
+            script: _,
+        } = self;
+    }
 }
 
 impl ListRandom {

@@ -26,11 +26,20 @@ use std::alloc::{AllocError, Global};
 /// Keeps the routes that its calls leave, and all calls with what they told. It fails at the calls that `failing` numbers,
 /// the first call being 0, and `add` and `delete` where they find no memory; a call that failed is never applied. A call
 /// that finds no memory to be kept is not told, and no other is from then on.
-#[derive(Drop)]
 pub struct MemRouteLink {
     alloc: Global,
     routes: Vec<ListedRoute>,
     log: CallLog<Routing, Told>,
+}
+
+impl Drop for MemRouteLink {
+    fn drop(self) {
+        let MemRouteLink {
+            alloc: _,
+            routes: _,
+            log: _,
+        } = self;
+    }
 }
 
 impl MemRouteLink {

@@ -21,11 +21,20 @@ use std::alloc::{AllocError, Global};
 /// Keeps which generations run, and all calls with what they told. It fails at the calls that `failing` numbers, the first
 /// call being 0, and where it finds no memory for a call. A call that finds no memory to be kept is not told, and no other
 /// is from then on.
-#[derive(Drop)]
 pub struct MemSpawner {
     alloc: Global,
     running: Vec<u64>,
     log: CallLog<Spawning, Told>,
+}
+
+impl Drop for MemSpawner {
+    fn drop(self) {
+        let MemSpawner {
+            alloc: _,
+            running: _,
+            log: _,
+        } = self;
+    }
 }
 
 impl MemSpawner {

@@ -60,7 +60,6 @@ impl HeadEnd {
 }
 
 /// The side of a connection that gives bytes.
-#[derive(Drop)]
 pub struct SocketSource {
     rt: HostRuntime,
     line: Arc<Line, Global>,
@@ -68,6 +67,18 @@ pub struct SocketSource {
     begun: Option<Instant>,
     head: HeadEnd,
     faults: u64,
+}
+
+impl Drop for SocketSource {
+    fn drop(self) {
+        let SocketSource {
+            rt: _,
+            line: _,
+            begun: _,
+            head: _,
+            faults: _,
+        } = self;
+    }
 }
 
 impl SocketSource {
@@ -147,10 +158,15 @@ impl Source for SocketSource {
 }
 
 /// The side of a connection that takes bytes.
-#[derive(Drop)]
 pub struct SocketSink {
     line: Arc<Line, Global>,
     faults: u64,
+}
+
+impl Drop for SocketSink {
+    fn drop(self) {
+        let SocketSink { line: _, faults: _ } = self;
+    }
 }
 
 impl SocketSink {

@@ -20,7 +20,6 @@ use std::thread;
 use std::time::{Duration, Instant};
 
 /// A listening socket, which its connections share: they see who waits there.
-#[derive(Drop)]
 pub(crate) struct Door {
     listener: TcpListener,
     /// How many workers wait for a caller.
@@ -28,6 +27,17 @@ pub(crate) struct Door {
     /// How many callers were silent when a worker last came from here.
     silent: AtomicU64,
     is_closed: AtomicBool,
+}
+
+impl Drop for Door {
+    fn drop(self) {
+        let Door {
+            listener: _,
+            free: _,
+            silent: _,
+            is_closed: _,
+        } = self;
+    }
 }
 
 impl Door {
@@ -54,7 +64,6 @@ struct Silent {
 }
 
 /// Listens at an address. Workers take it in turn. A connection is given once it has sent something, so that silent ones hold no worker.
-#[derive(Drop)]
 pub struct SocketListener {
     rt: HostRuntime,
     door: Arc<Door, Global>,
@@ -63,10 +72,26 @@ pub struct SocketListener {
     faults: u64,
 }
 
+impl Drop for SocketListener {
+    fn drop(self) {
+        let SocketListener {
+            rt: _,
+            door: _,
+            silent: _,
+            faults: _,
+        } = self;
+    }
+}
+
 /// Ends the waits at a listener.
-#[derive(Drop)]
 pub struct Closer {
     door: Arc<Door, Global>,
+}
+
+impl Drop for Closer {
+    fn drop(self) {
+        let Closer { door: _ } = self;
+    }
 }
 
 impl Closer {

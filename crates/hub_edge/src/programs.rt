@@ -22,10 +22,18 @@ use std::thread::{Builder, Threads};
 const SMALL_STACK: usize = 131072;
 
 /// A program that was started, and its generation.
-#[derive(Drop)]
 pub struct Started {
     generation: u64,
     child: Child,
+}
+
+impl Drop for Started {
+    fn drop(self) {
+        let Started {
+            generation: _,
+            child: _,
+        } = self;
+    }
 }
 
 /// The programs that were started, which all workers share.

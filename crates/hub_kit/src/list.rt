@@ -5,9 +5,14 @@ use std::alloc::{AllocFailed, Global};
 use std::marker::Model;
 
 /// A list that can grow, which contracts see as a list of its items.
-#[derive(Drop)]
 pub struct List<T> {
     items: Vec<T>,
+}
+
+impl<T: Drop> Drop for List<T> {
+    fn drop(self) {
+        let List { items: _ } = self;
+    }
 }
 
 impl<T> Model for List<T> {
@@ -39,7 +44,8 @@ impl<T> List<T> {
     pub fn into_vec(self) -> Vec<T>
         ensures { result.items ≡ self }
     {
-        self.items
+        let List { items } = self;
+        items
     }
 
     pub fn as_slice(&self) -> &[T]

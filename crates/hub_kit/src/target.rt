@@ -11,9 +11,14 @@ use std::cmp::Ordering;
 use std::marker::Model;
 
 /// A URL `http://HOST:PORT`, which contracts see as the bytes of its text. Ordered by these bytes.
-#[derive(Drop)]
 pub struct Target {
     text: Text,
+}
+
+impl Drop for Target {
+    fn drop(self) {
+        let Target { text: _ } = self;
+    }
 }
 
 impl Model for Target {

@@ -10,9 +10,14 @@ use std::cmp::Ordering;
 use std::marker::Model;
 
 /// UTF-8 text, which contracts see as the list of its bytes. Ordered by its bytes.
-#[derive(Drop)]
 pub struct Text {
     string: String,
+}
+
+impl Drop for Text {
+    fn drop(self) {
+        let Text { string: _ } = self;
+    }
 }
 
 impl Model for Text {
@@ -53,7 +58,8 @@ impl Text {
     pub fn into_string(self) -> String
         ensures { string_bytes result ≡ self }
     {
-        self.string
+        let Text { string } = self;
+        string
     }
 
     pub fn as_str(&self) -> &str

@@ -16,13 +16,23 @@ use std::alloc::{AllocError, Global};
 /// Answers its replies in order and keeps what it is asked. It fails at the calls that `failing` numbers, the first call
 /// being 0, which take no reply, and past its replies. A request that finds no memory to be kept is not told, and no other
 /// is from then on.
-#[derive(Drop)]
 pub struct MemHubLink {
     alloc: Global,
     replies: Vec<Bytes>,
     at: usize,
     log: CallLog<Bytes, Option<Bytes>>,
     ghost in_range: { at ≤ vec_len replies },
+}
+
+impl Drop for MemHubLink {
+    fn drop(self) {
+        let MemHubLink {
+            alloc: _,
+            replies: _,
+            at: _,
+            log: _,
+        } = self;
+    }
 }
 
 impl MemHubLink {

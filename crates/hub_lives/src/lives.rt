@@ -22,20 +22,38 @@ use std::collections::btree_map::Values;
 use std::marker::Model;
 
 /// A live server, the target that it holds, and where it stands.
-#[derive(Drop)]
 pub struct Leased {
     pub server: ServerKey,
     pub target: Target,
     pub life: Life,
 }
 
+impl Drop for Leased {
+    fn drop(self) {
+        let Leased {
+            server: _,
+            target: _,
+            life: _,
+        } = self;
+    }
+}
+
 /// The live servers under their generations, with the pool and the next generation. The leases have their look-ups, and the entries that
 /// are owed are counted as they change.
-#[derive(Drop)]
 pub struct Lives {
     leases: Leases,
     rows: BTreeMap<u64, Leased>,
     still_owed: u64,
+}
+
+impl Drop for Lives {
+    fn drop(self) {
+        let Lives {
+            leases: _,
+            rows: _,
+            still_owed: _,
+        } = self;
+    }
 }
 
 impl Model for Lives {

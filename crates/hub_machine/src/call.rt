@@ -203,9 +203,18 @@ pub enum Call {
 }
 
 /// A call with the token that it brings, and the length of the history that its caller has seen, where it names one.
-#[derive(Drop)]
 pub struct Asked {
     pub token: Option<Text>,
     pub seen: Option<u64>,
     pub call: Call,
+}
+
+impl Drop for Asked {
+    fn drop(self) {
+        let Asked {
+            token: _,
+            seen: _,
+            call: _,
+        } = self;
+    }
 }

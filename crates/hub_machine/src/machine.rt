@@ -15,7 +15,6 @@ use server_life::Pool;
 use std::marker::Model;
 
 /// The state of the hub: its rows and live servers, the length and the cost of its history, and what is fixed.
-#[derive(Drop)]
 pub struct Machine {
     tables: Tables,
     lives: Lives,
@@ -23,6 +22,19 @@ pub struct Machine {
     cost: u64,
     hub_url: Option<Target>,
     no_trail: bool,
+}
+
+impl Drop for Machine {
+    fn drop(self) {
+        let Machine {
+            tables: _,
+            lives: _,
+            length: _,
+            cost: _,
+            hub_url: _,
+            no_trail: _,
+        } = self;
+    }
 }
 
 impl Model for Machine {

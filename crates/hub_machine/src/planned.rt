@@ -15,17 +15,30 @@ use std::alloc::{AllocError, Global};
 use std::marker::Model;
 
 /// The batch of a change, and the bytes of its keys and texts.
-#[derive(Drop)]
 pub(crate) struct Written {
     pub batch: Batch,
     pub cost: u64,
 }
 
+impl Drop for Written {
+    fn drop(self) {
+        let Written { batch: _, cost: _ } = self;
+    }
+}
+
 /// A change of an answer. Its batch is written once: when its cost is counted, and it is this batch that is committed.
-#[derive(Drop)]
 pub struct Planned {
     change: Change,
     written: Option<Written>,
+}
+
+impl Drop for Planned {
+    fn drop(self) {
+        let Planned {
+            change: _,
+            written: _,
+        } = self;
+    }
 }
 
 impl Model for Planned {
@@ -106,8 +119,8 @@ impl Planned {
         ensures change { IfOk result (λ p. p.0 ≡ self) }
         ensures written { IfOk result (λ p. IsWritten p.0 p.1) }
     {
-        let change = self.change;
-        match self.written {
+        let Planned { change, written } = self;
+        match written {
             Some(written) => Ok((change, written)),
             None => match write(alloc, &change) {
                 Ok(written) => Ok((change, written)),

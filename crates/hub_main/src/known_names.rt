@@ -127,11 +127,20 @@ impl Named for ConfigService {
 // ---- both
 
 /// The names that are kept or configured.
-#[derive(Drop)]
 struct Names {
     users: Sorted<UserName>,
     groups: Sorted<GroupName>,
     services: Sorted<ServiceName>,
+}
+
+impl Drop for Names {
+    fn drop(self) {
+        let Names {
+            users: _,
+            groups: _,
+            services: _,
+        } = self;
+    }
 }
 
 /// The names of these rows and of these rows of a configuration.

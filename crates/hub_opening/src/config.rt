@@ -22,7 +22,6 @@ pub struct ConfigUser {
 
 /// A service that is there from the opening on. Its configuration gives both a redirect URI and a secret, and then it is a client
 /// of OAuth, `service:NAME`, or neither. With only one of them it is no client.
-#[derive(Drop)]
 pub struct ConfigService {
     pub name: ServiceName,
     pub redirect_uri: Option<Text>,
@@ -30,8 +29,17 @@ pub struct ConfigService {
     pub secret: Option<Text>,
 }
 
+impl Drop for ConfigService {
+    fn drop(self) {
+        let ConfigService {
+            name: _,
+            redirect_uri: _,
+            secret: _,
+        } = self;
+    }
+}
+
 /// A token that is there from the opening on, if its owner is. It has no end.
-#[derive(Drop)]
 pub struct ConfigToken {
     pub text: Text,
     pub owner: Owner,
@@ -39,8 +47,17 @@ pub struct ConfigToken {
     pub scopes: List<RawScope>,
 }
 
+impl Drop for ConfigToken {
+    fn drop(self) {
+        let ConfigToken {
+            text: _,
+            owner: _,
+            scopes: _,
+        } = self;
+    }
+}
+
 /// What a hub is set up with.
-#[derive(Drop)]
 pub struct HubConfig {
     /// The targets that servers may hold.
     pub pool: Pool,
@@ -60,6 +77,23 @@ pub struct HubConfig {
     pub tokens: List<ConfigToken>,
     /// The declared custom scopes. They make a table of scopes, as the reader of the configuration found.
     pub custom_scopes: List<CustomRow>,
+}
+
+impl Drop for HubConfig {
+    fn drop(self) {
+        let HubConfig {
+            pool: _,
+            hub_url: _,
+            limits: _,
+            no_trail: _,
+            users: _,
+            groups: _,
+            services: _,
+            roles: _,
+            tokens: _,
+            custom_scopes: _,
+        } = self;
+    }
 }
 
 /// The limits of a hub that lowers none: numbers of rows, and the bytes of the trail.

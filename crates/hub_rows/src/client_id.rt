@@ -10,9 +10,14 @@ use std::alloc::{AllocError, Global};
 use std::marker::Model;
 
 /// `server:USER/SERVER` or `service:NAME`, which contracts see as that text.
-#[derive(Drop)]
 pub struct ClientId {
     text: Text,
+}
+
+impl Drop for ClientId {
+    fn drop(self) {
+        let ClientId { text: _ } = self;
+    }
 }
 
 impl Model for ClientId {

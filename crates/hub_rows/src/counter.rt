@@ -7,9 +7,14 @@ use std::alloc::{AllocError, Global};
 use std::marker::Model;
 
 /// `code`, `generation` or `token`, which contracts see as that text.
-#[derive(Drop)]
 pub struct Counter {
     text: Text,
+}
+
+impl Drop for Counter {
+    fn drop(self) {
+        let Counter { text: _ } = self;
+    }
 }
 
 impl Model for Counter {

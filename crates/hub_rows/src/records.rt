@@ -26,10 +26,15 @@ pub struct User {
 }
 
 /// A group of users.
-#[derive(Drop)]
 pub struct Group {
     pub name: GroupName,
     pub users: Sorted<UserName>,
+}
+
+impl Drop for Group {
+    fn drop(self) {
+        let Group { name: _, users: _ } = self;
+    }
 }
 
 impl Group {
@@ -50,13 +55,24 @@ pub struct Service {
 }
 
 /// A role: its scopes in the order given, and who holds it.
-#[derive(Drop)]
 pub struct Role {
     pub name: RoleName,
     pub groups: Sorted<GroupName>,
     pub scopes: List<RawScope>,
     pub services: Sorted<ServiceName>,
     pub users: Sorted<UserName>,
+}
+
+impl Drop for Role {
+    fn drop(self) {
+        let Role {
+            name: _,
+            groups: _,
+            scopes: _,
+            services: _,
+            users: _,
+        } = self;
+    }
 }
 
 impl Role {
@@ -75,7 +91,6 @@ impl Role {
 
 /// A token, of whose text only the SHA-256 in hex is kept. `client` is the OAuth client that it was issued to,
 /// and `issued_for` the server that it was given to.
-#[derive(Drop)]
 pub struct Token {
     pub id: u64,
     pub client: Option<Text>,
@@ -86,6 +101,22 @@ pub struct Token {
     pub note: Text,
     pub owner: Owner,
     pub scopes: List<RawScope>,
+}
+
+impl Drop for Token {
+    fn drop(self) {
+        let Token {
+            id: _,
+            client: _,
+            created: _,
+            expires_at: _,
+            hash: _,
+            issued_for: _,
+            note: _,
+            owner: _,
+            scopes: _,
+        } = self;
+    }
 }
 
 impl Token {
@@ -116,11 +147,20 @@ pub struct ServerRow {
 }
 
 /// A target that a server holds. Rows of the first schema have no generation.
-#[derive(Drop)]
 pub struct Lease {
     pub target: Target,
     pub server: ServerKey,
     pub generation: Option<u64>,
+}
+
+impl Drop for Lease {
+    fn drop(self) {
+        let Lease {
+            target: _,
+            server: _,
+            generation: _,
+        } = self;
+    }
 }
 
 impl Lease {
@@ -136,11 +176,20 @@ impl Lease {
 }
 
 /// A share of a server: what its recipient may do with it.
-#[derive(Drop)]
 pub struct Share {
     pub key: ShareKey,
     pub created: Moment,
     pub scopes: SharedScopes,
+}
+
+impl Drop for Share {
+    fn drop(self) {
+        let Share {
+            key: _,
+            created: _,
+            scopes: _,
+        } = self;
+    }
 }
 
 impl Share {
@@ -156,7 +205,6 @@ impl Share {
 }
 
 /// A code that anyone may turn into a share of the server, until it expires. Only the hash of its text is kept.
-#[derive(Drop)]
 pub struct ShareCode {
     pub id: u64,
     pub created: Moment,
@@ -164,6 +212,19 @@ pub struct ShareCode {
     pub hash: Text,
     pub scopes: List<RawScope>,
     pub server: ServerKey,
+}
+
+impl Drop for ShareCode {
+    fn drop(self) {
+        let ShareCode {
+            id: _,
+            created: _,
+            expires_at: _,
+            hash: _,
+            scopes: _,
+            server: _,
+        } = self;
+    }
 }
 
 impl ShareCode {
@@ -182,11 +243,20 @@ impl ShareCode {
 }
 
 /// A client of OAuth, with the hash of its secret.
-#[derive(Drop)]
 pub struct OAuthClient {
     pub id: ClientId,
     pub hash: Text,
     pub redirect_uri: Text,
+}
+
+impl Drop for OAuthClient {
+    fn drop(self) {
+        let OAuthClient {
+            id: _,
+            hash: _,
+            redirect_uri: _,
+        } = self;
+    }
 }
 
 impl OAuthClient {
@@ -202,7 +272,6 @@ impl OAuthClient {
 }
 
 /// An authorization code of OAuth, kept under the hash of its text. `token` is the token that it was traded for.
-#[derive(Drop)]
 pub struct OAuthCode {
     pub hash: Text,
     pub client: Text,
@@ -210,6 +279,19 @@ pub struct OAuthCode {
     pub owner: UserName,
     pub redirect_uri: Text,
     pub token: Option<u64>,
+}
+
+impl Drop for OAuthCode {
+    fn drop(self) {
+        let OAuthCode {
+            hash: _,
+            client: _,
+            expires_at: _,
+            owner: _,
+            redirect_uri: _,
+            token: _,
+        } = self;
+    }
 }
 
 impl OAuthCode {
@@ -228,10 +310,15 @@ impl OAuthCode {
 }
 
 /// The next number of a kind.
-#[derive(Drop)]
 pub struct Next {
     pub name: Counter,
     pub next: u64,
+}
+
+impl Drop for Next {
+    fn drop(self) {
+        let Next { name: _, next: _ } = self;
+    }
 }
 
 impl Next {

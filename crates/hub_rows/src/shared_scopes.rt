@@ -14,9 +14,14 @@ use std::cmp::Ordering;
 use std::marker::Model;
 
 /// Scopes in the order of their texts, each once, which contracts see as that list.
-#[derive(Drop)]
 pub struct SharedScopes {
     scopes: List<RawScope>,
+}
+
+impl Drop for SharedScopes {
+    fn drop(self) {
+        let SharedScopes { scopes: _ } = self;
+    }
 }
 
 impl Model for SharedScopes {

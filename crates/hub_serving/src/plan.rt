@@ -18,7 +18,6 @@ use hub_words::word_error::WordError;
 use std::alloc::Global;
 
 /// With what a hub is set up, where it listens, and what serves.
-#[derive(Drop)]
 pub struct Plan {
     /// What it begins with.
     pub hub: HubConfig,
@@ -36,6 +35,21 @@ pub struct Plan {
     pub workers: u32,
     /// After how many connections the hub ends.
     pub connections: u64,
+}
+
+impl Drop for Plan {
+    fn drop(self) {
+        let Plan {
+            hub: _,
+            listen: _,
+            managed: _,
+            command: _,
+            proxy: _,
+            db: _,
+            workers: _,
+            connections: _,
+        } = self;
+    }
 }
 
 /// Reads the words `serve --config F [--db F] [--no-trail] [--workers N] [--connections N]` and their file. It refuses as `run` does.

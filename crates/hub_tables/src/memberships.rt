@@ -16,11 +16,20 @@ use std::alloc::Global;
 use std::collections::BTreeMap;
 
 /// The names of the roles under each user, group and service that they name.
-#[derive(Drop)]
 pub(crate) struct RoleIndexes {
     pub users: MemberIndex<UserName, RoleName>,
     pub groups: MemberIndex<GroupName, RoleName>,
     pub services: MemberIndex<ServiceName, RoleName>,
+}
+
+impl Drop for RoleIndexes {
+    fn drop(self) {
+        let RoleIndexes {
+            users: _,
+            groups: _,
+            services: _,
+        } = self;
+    }
 }
 
 impl RoleIndexes {

@@ -21,12 +21,22 @@ use std::alloc::Global;
 use std::marker::Model;
 
 /// The rows of each kind, which contracts see as the record of their finite maps.
-#[derive(Drop)]
 pub struct Tables {
     trees: Trees,
     limits: Limits,
     scopes: ScopeTable,
     alloc: Global,
+}
+
+impl Drop for Tables {
+    fn drop(self) {
+        let Tables {
+            trees: _,
+            limits: _,
+            scopes: _,
+            alloc: _,
+        } = self;
+    }
 }
 
 impl Model for Tables {

@@ -17,7 +17,6 @@ use std::collections::BTreeMap;
 
 /// The rows of each kind under their keys, the ids of tokens and share codes under their hashes, the keys of tokens and shares
 /// under their owners and parties, and the names of groups and roles under their members.
-#[derive(Drop)]
 pub(crate) struct Trees {
     pub users: BTreeMap<UserName, User>,
     pub groups: BTreeMap<GroupName, Group>,
@@ -37,6 +36,31 @@ pub(crate) struct Trees {
     pub clients: BTreeMap<Text, OAuthClient>,
     pub grant_codes: BTreeMap<Text, OAuthCode>,
     pub nexts: BTreeMap<Text, Next>,
+}
+
+impl Drop for Trees {
+    fn drop(self) {
+        let Trees {
+            users: _,
+            groups: _,
+            group_users: _,
+            services: _,
+            roles: _,
+            role_indexes: _,
+            tokens: _,
+            token_ids: _,
+            token_owners: _,
+            servers: _,
+            leases: _,
+            shares: _,
+            share_parties: _,
+            codes: _,
+            code_ids: _,
+            clients: _,
+            grant_codes: _,
+            nexts: _,
+        } = self;
+    }
 }
 
 impl Trees {

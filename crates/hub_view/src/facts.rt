@@ -13,10 +13,20 @@ pub struct ServerFacts {
 
 /// A user, the groups that the user is in and the roles that the user holds, each in the order of names, and the user's
 /// servers in the order of names, each once.
-#[derive(Drop)]
 pub struct UserFacts {
     pub user: User,
     pub groups: List<GroupName>,
     pub roles: List<RoleName>,
     pub servers: List<ServerFacts>,
+}
+
+impl Drop for UserFacts {
+    fn drop(self) {
+        let UserFacts {
+            user: _,
+            groups: _,
+            roles: _,
+            servers: _,
+        } = self;
+    }
 }

@@ -93,9 +93,14 @@ impl Word {
 }
 
 /// A key of an object that is one of the hub's own words, which contracts see as its text.
-#[derive(Drop)]
 pub struct MemberKey {
     word: Word,
+}
+
+impl Drop for MemberKey {
+    fn drop(self) {
+        let MemberKey { word: _ } = self;
+    }
 }
 
 impl Model for MemberKey {

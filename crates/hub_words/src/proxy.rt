@@ -15,7 +15,6 @@ use hub_kit::text::Text;
 use std::alloc::{AllocError, Global};
 
 /// What the words of `proxy` say.
-#[derive(Drop)]
 pub struct ProxyWords {
     /// The address of the browsers' side.
     pub listen: Text,
@@ -23,6 +22,16 @@ pub struct ProxyWords {
     pub api: Text,
     /// The name of the file with the interface's secret.
     pub secret_file: Text,
+}
+
+impl Drop for ProxyWords {
+    fn drop(self) {
+        let ProxyWords {
+            listen: _,
+            api: _,
+            secret_file: _,
+        } = self;
+    }
 }
 
 /// Reads the words `proxy --listen A --api A --secret-file F`, of which `proxy` is the first. An address A is `HOST:PORT`, of which

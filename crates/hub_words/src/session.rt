@@ -17,7 +17,6 @@ use hub_kit::text::Text;
 use std::alloc::{AllocError, Global};
 
 /// What the words of `session` say: the moment of the session's clock, a user, and a token of this user.
-#[derive(Drop)]
 pub struct SessionWords {
     pub now: Moment,
     pub user: UserName,
@@ -31,6 +30,20 @@ pub struct SessionWords {
     pub db: Option<Text>,
     /// Whether no trail is kept.
     pub no_trail: bool,
+}
+
+impl Drop for SessionWords {
+    fn drop(self) {
+        let SessionWords {
+            now: _,
+            user: _,
+            token: _,
+            admin: _,
+            config: _,
+            db: _,
+            no_trail: _,
+        } = self;
+    }
 }
 
 /// Reads the words `session NOW USER TOKEN [--admin] [--config F] [--db F] [--no-trail]`, of which `session` is the first. NOW is

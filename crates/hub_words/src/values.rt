@@ -87,9 +87,14 @@ impl FromWord for Target {
 }
 
 /// A secret, which contracts see as its bytes: 8 to 255, each visible ASCII.
-#[derive(Drop)]
 pub(crate) struct Secret {
     text: Text,
+}
+
+impl Drop for Secret {
+    fn drop(self) {
+        let Secret { text: _ } = self;
+    }
 }
 
 impl Model for Secret {
@@ -104,7 +109,8 @@ impl Secret {
     pub(crate) fn into_text(self) -> Text
         ensures { result ≡ self }
     {
-        self.text
+        let Secret { text } = self;
+        text
     }
 }
 

@@ -26,10 +26,15 @@ pub const PAGE: u64 = 50;
 pub const LAST_OFFSET: u64 = 100_000;
 
 /// The users of a page, and whether another page follows.
-#[derive(Drop)]
 pub struct Page {
     pub users: List<UserView>,
     pub more: bool,
+}
+
+impl Drop for Page {
+    fn drop(self) {
+        let Page { users: _, more: _ } = self;
+    }
 }
 
 /// Why a round broke off.

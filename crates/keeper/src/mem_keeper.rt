@@ -15,11 +15,20 @@ use std::alloc::{AllocError, Global};
 
 /// Keeps rows in memory, and tells them. It fails exactly at the calls that `failing` numbers, the first call being 0.
 /// It has one store, whatever place is chosen.
-#[derive(Drop)]
 pub struct MemKeeper {
     alloc: Global,
     rows: HeldRows,
     script: FailingCalls,
+}
+
+impl Drop for MemKeeper {
+    fn drop(self) {
+        let MemKeeper {
+            alloc: _,
+            rows: _,
+            script: _,
+        } = self;
+    }
 }
 
 impl MemKeeper {

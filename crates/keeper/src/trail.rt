@@ -40,12 +40,21 @@ pub trait Trail: Drop {
 }
 
 /// Keeps the number of entries alone, and tells none of them.
-#[derive(Drop)]
 pub struct CountTrail<E> {
     count: u64,
     reserved: u64,
     of: PhantomData<E>,
     ghost fits: { count + reserved < 2 ^ 64 },
+}
+
+impl<E: Drop> Drop for CountTrail<E> {
+    fn drop(self) {
+        let CountTrail {
+            count: _,
+            reserved: _,
+            of: _,
+        } = self;
+    }
 }
 
 impl<E: Drop> CountTrail<E> {
@@ -95,11 +104,19 @@ impl<E: Drop> Trail for CountTrail<E> {
 }
 
 /// Keeps the entries, and tells them.
-#[derive(Drop)]
 pub struct ListTrail<E> {
     items: Vec<E>,
     reserved: usize,
     ghost fits: { vec_len items + reserved ≤ vec_capacity items },
+}
+
+impl<E: Drop> Drop for ListTrail<E> {
+    fn drop(self) {
+        let ListTrail {
+            items: _,
+            reserved: _,
+        } = self;
+    }
 }
 
 impl<E: Drop> ListTrail<E> {

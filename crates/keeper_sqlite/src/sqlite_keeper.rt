@@ -33,7 +33,6 @@ fn cause_of(error: Error) -> KeeperError
 ///
 /// Its rows are told where the store was found to be one of this program when it was taken, while the connection is open and the
 /// disk gives back what was written.
-#[derive(Drop)]
 pub struct SqliteKeeper<S: Alter> {
     alloc: Global,
     connection: Connection<S>,
@@ -41,6 +40,17 @@ pub struct SqliteKeeper<S: Alter> {
     /// Whether the store was found to be one of this program.
     is_own: bool,
     ghost owned: { ∥ (IsTrue is_own → IsOwned S.Store connection) ∥₁ },
+}
+
+impl<S: Alter + Drop> Drop for SqliteKeeper<S> {
+    fn drop(self) {
+        let SqliteKeeper {
+            alloc: _,
+            connection: _,
+            faults: _,
+            is_own: _,
+        } = self;
+    }
 }
 
 impl SqliteKeeper<MemStore> {

@@ -8,9 +8,14 @@ use std::alloc::{AllocError, Global};
 use std::marker::Model;
 
 /// A list of keys in their order, each once, which contracts see as that list.
-#[derive(Drop)]
 pub struct Sorted<K: Key> {
     items: Vec<K>,
+}
+
+impl<K: Key + Drop> Drop for Sorted<K> {
+    fn drop(self) {
+        let Sorted { items: _ } = self;
+    }
 }
 
 impl<K: Key> Model for Sorted<K> {

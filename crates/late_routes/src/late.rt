@@ -30,7 +30,6 @@ use std::alloc::{AllocError, Global};
 
 /// A table of routes, and the messages on their way to it. The first calls of `add` and `delete` go by their plans, and later ones are
 /// done. A call that finds no memory is told as failed, and no call is told from then on.
-#[derive(Drop)]
 pub struct LateRoutes {
     alloc: Global,
     table: Routes,
@@ -41,6 +40,19 @@ pub struct LateRoutes {
     ghost few: { length outstanding.items ≤ length plans.items },
     ghost planned: { length plans.items < 2 ^ 32 },
     ghost sent: { length outstanding.items ≤ made },
+}
+
+impl Drop for LateRoutes {
+    fn drop(self) {
+        let LateRoutes {
+            alloc: _,
+            table: _,
+            plans: _,
+            outstanding: _,
+            made: _,
+            log: _,
+        } = self;
+    }
 }
 
 impl LateRoutes {

@@ -15,10 +15,15 @@ pub enum LatePlan {
 }
 
 /// A message on its way, and the number of the call before which it arrives, if there is one.
-#[derive(Drop)]
 pub struct Outstanding {
     pub call: Routing,
     pub due: Option<u128>,
+}
+
+impl Drop for Outstanding {
+    fn drop(self) {
+        let Outstanding { call: _, due: _ } = self;
+    }
 }
 
 /// The plan of the call with this number: calls without one are done.

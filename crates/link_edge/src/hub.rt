@@ -18,11 +18,20 @@ const PIECE: usize = 16384;
 
 /// Asks the hub at a target, by a connection for each request. A reply ends where the hub ends the connection, so each request
 /// has to wish that.
-#[derive(Drop)]
 pub struct SocketHub {
     rt: HostRuntime,
     target: Target,
     faults: u64,
+}
+
+impl Drop for SocketHub {
+    fn drop(self) {
+        let SocketHub {
+            rt: _,
+            target: _,
+            faults: _,
+        } = self;
+    }
 }
 
 impl SocketHub {

@@ -31,7 +31,6 @@ impl From<AllocError> for OAuthError {
 }
 
 /// The query of an authorization, as far as it has these fields.
-#[derive(Drop)]
 pub struct AuthorizeAsk {
     pub response_type: Option<Text>,
     pub client_id: Option<Text>,
@@ -39,14 +38,36 @@ pub struct AuthorizeAsk {
     pub state: Option<Text>,
 }
 
+impl Drop for AuthorizeAsk {
+    fn drop(self) {
+        let AuthorizeAsk {
+            response_type: _,
+            client_id: _,
+            redirect_uri: _,
+            state: _,
+        } = self;
+    }
+}
+
 /// The form of a trade, as far as it has these fields.
-#[derive(Drop)]
 pub struct TradeAsk {
     pub grant_type: Option<Text>,
     pub code: Option<Text>,
     pub redirect_uri: Option<Text>,
     pub client_id: Option<Text>,
     pub client_secret: Option<Text>,
+}
+
+impl Drop for TradeAsk {
+    fn drop(self) {
+        let TradeAsk {
+            grant_type: _,
+            code: _,
+            redirect_uri: _,
+            client_id: _,
+            client_secret: _,
+        } = self;
+    }
 }
 
 /// Whether a field is there and has this text.

@@ -16,11 +16,20 @@ use upstreams::upstream::Upstream;
 pub const ROOM: usize = 16384;
 
 /// Bytes from `start` to `end`.
-#[derive(Drop)]
 pub struct Window {
     bytes: [u8; 16384],
     start: usize,
     end: usize,
+}
+
+impl Drop for Window {
+    fn drop(self) {
+        let Window {
+            bytes: _,
+            start: _,
+            end: _,
+        } = self;
+    }
 }
 
 impl Model for Window {

@@ -68,10 +68,18 @@ pub fn stopped<O: Sink>(output: &mut O, error: WireError) -> Result<Forwarded, S
 }
 
 /// How a request's body is framed and where it goes.
-#[derive(Drop)]
 pub struct Choice {
     pub framing: Framing,
     pub target: Target,
+}
+
+impl Drop for Choice {
+    fn drop(self) {
+        let Choice {
+            framing: _,
+            target: _,
+        } = self;
+    }
 }
 
 /// The body's framing first, and then the route of the path; or why the request is refused.

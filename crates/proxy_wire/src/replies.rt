@@ -26,11 +26,20 @@ pub(crate) enum Front {
 
 /// A reply whose body is still to come: its head as it is passed back, how long its body is, and whether the connection is switched
 /// over to another protocol, so that no body comes.
-#[derive(Drop)]
 pub struct Reply {
     pub text: Bytes,
     pub framing: Framing,
     pub switched: bool,
+}
+
+impl Drop for Reply {
+    fn drop(self) {
+        let Reply {
+            text: _,
+            framing: _,
+            switched: _,
+        } = self;
+    }
 }
 
 /// What stands behind the heads that were skipped.

@@ -20,19 +20,33 @@ use std::marker::Model;
 use std::num::NonZeroUsize;
 
 /// A grant, and the stamp of the rights of which it was resolved.
-#[derive(Drop)]
 pub struct KeptGrant {
     pub stamp: u64,
     pub grant: Grant,
 }
 
+impl Drop for KeptGrant {
+    fn drop(self) {
+        let KeptGrant { stamp: _, grant: _ } = self;
+    }
+}
+
 /// The grants of the tokens that were looked for last. A grant for which the list finds no memory is held beside it, so that a look
 /// needs memory for the resolving alone.
-#[derive(Drop)]
 pub struct RightsCache {
     listed: LruCache<u64, KeptGrant>,
     held: Option<(u64, KeptGrant)>,
     hits: u64,
+}
+
+impl Drop for RightsCache {
+    fn drop(self) {
+        let RightsCache {
+            listed: _,
+            held: _,
+            hits: _,
+        } = self;
+    }
 }
 
 impl Model for RightsCache {

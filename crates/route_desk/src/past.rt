@@ -44,10 +44,15 @@ impl<N: Noted> Play<(), LinkedList<Step>> for Notes<N> {
 }
 
 /// The steps so far, as a seat of a table that nobody else has.
-#[derive(Drop)]
 pub(crate) struct Past {
     table: Table<(), LinkedList<Step>, (), Free, Global>,
     seat: Seat<(), LinkedList<Step>>,
+}
+
+impl Drop for Past {
+    fn drop(self) {
+        let Past { table: _, seat: _ } = self;
+    }
 }
 
 impl Model for Past {

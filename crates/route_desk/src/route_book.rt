@@ -24,13 +24,23 @@ use std::snapshot::Snapshot;
 const MOST: u64 = 1 << 62;
 
 /// A table of routes, and the steps that led to it.
-#[derive(Drop)]
 pub struct RouteBook {
     routes: Routes,
     past: Past,
     count: u64,
     /// The table as it was at first, for contracts alone.
     first: Snapshot<Routes>,
+}
+
+impl Drop for RouteBook {
+    fn drop(self) {
+        let RouteBook {
+            routes: _,
+            past: _,
+            count: _,
+            first: _,
+        } = self;
+    }
 }
 
 impl Model for RouteBook {

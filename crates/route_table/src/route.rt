@@ -8,11 +8,20 @@ use hub_kit::text::Text;
 use std::alloc::{AllocError, Global};
 
 /// What is kept of a route.
-#[derive(Drop)]
 pub struct RouteEntry {
     pub target: Target,
     pub serial: Option<u64>,
     pub extra: Text,
+}
+
+impl Drop for RouteEntry {
+    fn drop(self) {
+        let RouteEntry {
+            target: _,
+            serial: _,
+            extra: _,
+        } = self;
+    }
 }
 
 impl RouteEntry {
@@ -29,11 +38,20 @@ impl RouteEntry {
 }
 
 /// A route of the table.
-#[derive(Drop)]
 pub struct Route {
     pub path: Text,
     pub entry: RouteEntry,
     pub last_activity: Moment,
+}
+
+impl Drop for Route {
+    fn drop(self) {
+        let Route {
+            path: _,
+            entry: _,
+            last_activity: _,
+        } = self;
+    }
 }
 
 impl Route {

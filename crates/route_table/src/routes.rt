@@ -20,11 +20,20 @@ use std::alloc::{AllocError, Global};
 use std::marker::Model;
 
 /// The table of routes.
-#[derive(Drop)]
 pub struct Routes {
     rows: Vec<Box<Row>>,
     limit: u32,
     alloc: Global,
+}
+
+impl Drop for Routes {
+    fn drop(self) {
+        let Routes {
+            rows: _,
+            limit: _,
+            alloc: _,
+        } = self;
+    }
 }
 
 impl Model for Routes {

@@ -13,11 +13,20 @@ use keyed_rows::{insert_row, row_at};
 use std::alloc::{AllocError, Global};
 use std::collections::BTreeMap;
 
-#[derive(Drop)]
 pub(crate) struct Seen {
     servers: BTreeMap<ServerKey, ()>,
     generations: BTreeMap<u64, ()>,
     started: BTreeMap<ServerKey, ()>,
+}
+
+impl Drop for Seen {
+    fn drop(self) {
+        let Seen {
+            servers: _,
+            generations: _,
+            started: _,
+        } = self;
+    }
 }
 
 impl Seen {

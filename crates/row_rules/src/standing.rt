@@ -20,12 +20,22 @@ use std::collections::BTreeMap;
 use std::collections::btree_map::Values;
 
 /// What is asked of the tables again and again: the next numbers, and the servers of leases.
-#[derive(Drop)]
 pub(crate) struct Ledger {
     code: u64,
     generation: u64,
     token: u64,
     leased: BTreeMap<ServerKey, ()>,
+}
+
+impl Drop for Ledger {
+    fn drop(self) {
+        let Ledger {
+            code: _,
+            generation: _,
+            token: _,
+            leased: _,
+        } = self;
+    }
 }
 
 impl Ledger {

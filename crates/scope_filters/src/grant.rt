@@ -21,9 +21,14 @@ use std::collections::btree_map::{Iter, Keys};
 use std::marker::Model;
 
 /// A set of filters, fewer than 2^64.
-#[derive(Drop)]
 pub struct Filters {
     items: BTreeMap<Filter, ()>,
+}
+
+impl Drop for Filters {
+    fn drop(self) {
+        let Filters { items: _ } = self;
+    }
 }
 
 impl Model for Filters {
@@ -100,10 +105,15 @@ fn number_of(items: &BTreeMap<Filter, ()>) -> usize
 }
 
 /// What may be done: an action on each object that a filter under the action admits.
-#[derive(Drop)]
 pub struct Grant {
     rows: BTreeMap<Action, Filters>,
     alloc: Global,
+}
+
+impl Drop for Grant {
+    fn drop(self) {
+        let Grant { rows: _, alloc: _ } = self;
+    }
 }
 
 impl Model for Grant {

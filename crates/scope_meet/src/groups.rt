@@ -14,11 +14,20 @@ use scope_filters::members::Members;
 use std::alloc::{AllocError, Global};
 
 /// What two lists of groups have in common. It is kept from one action to the next, whose groups mostly are the same.
-#[derive(Drop)]
 pub struct GroupMeets {
     pub ours: Vec<Filter>,
     pub theirs: Vec<Filter>,
     pub met: Vec<Filter>,
+}
+
+impl Drop for GroupMeets {
+    fn drop(self) {
+        let GroupMeets {
+            ours: _,
+            theirs: _,
+            met: _,
+        } = self;
+    }
 }
 
 impl GroupMeets {

@@ -34,10 +34,18 @@ impl Model for CustomName {
 pub type CustomList = List<CustomName>;
 
 /// A declared custom scope with its direct subscopes.
-#[derive(Drop)]
 pub struct CustomRow {
     pub name: CustomName,
     pub subscopes: CustomList,
+}
+
+impl Drop for CustomRow {
+    fn drop(self) {
+        let CustomRow {
+            name: _,
+            subscopes: _,
+        } = self;
+    }
 }
 
 impl Key for CustomName {

@@ -43,10 +43,18 @@ impl From<AllocError> for TableError {
 }
 
 /// The declared custom scopes, which contracts see as the list of their rows, with what each action covers.
-#[derive(Drop)]
 pub struct ScopeTable {
     rows: List<CustomRow>,
     covered: BTreeMap<Action, List<Action>>,
+}
+
+impl Drop for ScopeTable {
+    fn drop(self) {
+        let ScopeTable {
+            rows: _,
+            covered: _,
+        } = self;
+    }
 }
 
 impl Model for ScopeTable {

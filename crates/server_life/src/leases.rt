@@ -14,15 +14,22 @@ use std::alloc::{AllocError, Global};
 use std::marker::Model;
 
 /// A live generation and its server. Its place is that of its target in the pool.
-#[derive(Drop)]
 pub struct Held {
     pub generation: u64,
     pub server: ServerKey,
 }
 
+impl Drop for Held {
+    fn drop(self) {
+        let Held {
+            generation: _,
+            server: _,
+        } = self;
+    }
+}
+
 /// The pool, the lease of each of its targets, the next generation, and the look-ups: the free places in order, the place of
 /// each live generation, and the places of the leased servers in the order of the servers' keys.
-#[derive(Drop)]
 pub struct Leases {
     pool: Pool,
     leased: Vec<Option<Held>>,
@@ -30,6 +37,19 @@ pub struct Leases {
     free: Vec<(usize, ())>,
     generations: Vec<(u64, usize)>,
     servers: Vec<usize>,
+}
+
+impl Drop for Leases {
+    fn drop(self) {
+        let Leases {
+            pool: _,
+            leased: _,
+            next: _,
+            free: _,
+            generations: _,
+            servers: _,
+        } = self;
+    }
 }
 
 /// All targets are leased.

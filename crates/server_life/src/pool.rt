@@ -12,9 +12,14 @@ use std::marker::Model;
 const LARGEST: usize = 1000;
 
 /// At most 1,000 targets, all distinct, which contracts see as the list of them.
-#[derive(Drop)]
 pub struct Pool {
     targets: List<Target>,
+}
+
+impl Drop for Pool {
+    fn drop(self) {
+        let Pool { targets: _ } = self;
+    }
 }
 
 impl Model for Pool {

@@ -21,11 +21,20 @@ use server_life::{LifeEvent, LifeRefusal, Todo};
 use std::sync::Wait;
 
 /// Takes an outcome to the book.
-#[derive(Drop)]
 pub struct LifeJob {
     generation: u64,
     outcome: LifeEvent,
     acted: bool,
+}
+
+impl Drop for LifeJob {
+    fn drop(self) {
+        let LifeJob {
+            generation: _,
+            outcome: _,
+            acted: _,
+        } = self;
+    }
 }
 
 impl<B: LifeBook> Job<B> for LifeJob {

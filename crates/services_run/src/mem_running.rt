@@ -21,12 +21,22 @@ use std::alloc::{AllocError, Global};
 /// Answers its polls from a list, and false past it, and keeps all calls with what they told. It fails at the calls that `failing` numbers,
 /// the first call being 0, and where it finds no memory for a call. A call that finds no memory to be kept is not told, and no other is
 /// from then on. A poll that failed has taken its answer from the list.
-#[derive(Drop)]
 pub struct MemRunning {
     alloc: Global,
     polls: Vec<bool>,
     at: usize,
     log: CallLog<ServiceCall, Told>,
+}
+
+impl Drop for MemRunning {
+    fn drop(self) {
+        let MemRunning {
+            alloc: _,
+            polls: _,
+            at: _,
+            log: _,
+        } = self;
+    }
 }
 
 impl MemRunning {

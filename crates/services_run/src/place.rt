@@ -4,13 +4,22 @@ use hub_kit::target::Target;
 use hub_kit::text::Text;
 
 /// A service that the hub starts itself.
-#[derive(Drop)]
 pub struct Managed {
     pub name: ServiceName,
     /// Where its program listens.
     pub target: Target,
     /// What its program proves itself by.
     pub secret: Text,
+}
+
+impl Drop for Managed {
+    fn drop(self) {
+        let Managed {
+            name: _,
+            target: _,
+            secret: _,
+        } = self;
+    }
 }
 
 /// What is known of a service. A program has a number, which the numbers of later programs are above.
@@ -27,12 +36,22 @@ pub enum State {
 }
 
 /// A service with its path, its state, and how often it failed since it was last found running.
-#[derive(Drop)]
 pub struct Place {
     pub managed: Managed,
     pub path: Text,
     pub state: State,
     pub tries: u32,
+}
+
+impl Drop for Place {
+    fn drop(self) {
+        let Place {
+            managed: _,
+            path: _,
+            state: _,
+            tries: _,
+        } = self;
+    }
 }
 
 /// What a visit counts as.

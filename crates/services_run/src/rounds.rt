@@ -11,10 +11,15 @@ use crate::visits::{halt_one, tend_one};
 use hub_kit::moment::Moment;
 
 /// What a round counted, and the last number.
-#[derive(Drop)]
 pub struct Round {
     pub last: u64,
     pub tally: Tended,
+}
+
+impl Drop for Round {
+    fn drop(self) {
+        let Round { last: _, tally: _ } = self;
+    }
 }
 
 fn put(place: &mut Place, turn: Turn)

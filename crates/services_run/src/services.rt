@@ -18,10 +18,15 @@ use std::alloc::Global;
 use std::marker::Model;
 
 /// The services, in order.
-#[derive(Drop)]
 pub struct Services {
     places: Vec<Place>,
     last: u64,
+}
+
+impl Drop for Services {
+    fn drop(self) {
+        let Services { places: _, last: _ } = self;
+    }
 }
 
 impl Model for Services {

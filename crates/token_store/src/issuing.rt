@@ -21,12 +21,22 @@ use scope_names::action::Action;
 use std::alloc::{AllocError, Global};
 
 /// A token as a user asks for it. Without scopes it has `inherit`, without `expires_in`, in seconds, it doesn't expire.
-#[derive(Drop)]
 pub struct TokenAsk {
     pub owner: UserName,
     pub scopes: List<RawScope>,
     pub note: Text,
     pub expires_in: Option<u32>,
+}
+
+impl Drop for TokenAsk {
+    fn drop(self) {
+        let TokenAsk {
+            owner: _,
+            scopes: _,
+            note: _,
+            expires_in: _,
+        } = self;
+    }
 }
 
 /// The first rule that refuses a token.

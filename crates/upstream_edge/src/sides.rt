@@ -30,10 +30,18 @@ fn is_switch(bytes: &[u8]) -> bool {
 }
 
 /// The side of a target that gives bytes, once a tunnel has it.
-#[derive(Drop)]
 pub struct TunnelSource {
     source: SocketSource,
     faults: u64,
+}
+
+impl Drop for TunnelSource {
+    fn drop(self) {
+        let TunnelSource {
+            source: _,
+            faults: _,
+        } = self;
+    }
 }
 
 impl TunnelSource {
@@ -61,13 +69,23 @@ impl Source for TunnelSource {
 }
 
 /// The side of a connection that takes bytes, until it is shut: then the peer is told that no more come.
-#[derive(Drop)]
 pub struct TunnelSink {
     sink: SocketSink,
     /// Whether nothing was written yet.
     is_fresh: bool,
     is_shut: bool,
     faults: u64,
+}
+
+impl Drop for TunnelSink {
+    fn drop(self) {
+        let TunnelSink {
+            sink: _,
+            is_fresh: _,
+            is_shut: _,
+            faults: _,
+        } = self;
+    }
 }
 
 impl TunnelSink {

@@ -8,10 +8,18 @@ use hub_edge::connection::SocketSource;
 use hub_edge::listener::SocketListener;
 
 /// A listener of connections whose sending side can be shut. Each is for one request.
-#[derive(Drop)]
 pub struct TunnelListener {
     listener: SocketListener,
     faults: u64,
+}
+
+impl Drop for TunnelListener {
+    fn drop(self) {
+        let TunnelListener {
+            listener: _,
+            faults: _,
+        } = self;
+    }
 }
 
 impl TunnelListener {

@@ -17,7 +17,6 @@ use tunnel::gate::Gate;
 /// Gives at most `cut` bytes for each receive, and keeps the target, what was sent and whether it is finished. It fails at
 /// the calls that `failing` numbers, the first call being 0, and where it finds no memory; a `send` that is to fail keeps
 /// the first half of the bytes.
-#[derive(Drop)]
 pub struct MemUpstream {
     alloc: Global,
     given: Bytes,
@@ -29,6 +28,21 @@ pub struct MemUpstream {
     script: FailingCalls,
     ghost in_range: { at ≤ length given },
     ghost gives: { 0 < cut },
+}
+
+impl Drop for MemUpstream {
+    fn drop(self) {
+        let MemUpstream {
+            alloc: _,
+            given: _,
+            at: _,
+            cut: _,
+            target: _,
+            sent: _,
+            finished: _,
+            script: _,
+        } = self;
+    }
 }
 
 impl MemUpstream {

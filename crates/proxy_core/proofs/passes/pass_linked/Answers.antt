@@ -57,8 +57,8 @@ returns-in-ReadFault-clause-ends g c =
       (e.0, e.1, e.2, (took_in_front _ _ c.new-window.result c.args.kept.now _ c.new-window.ensures e.3, e.4), e.5.0, e.5.1, refl, refl),
     )
 
-pub returns-in-Refused-clause-ends : goal.returns-in-Refused-clause-ends
-returns-in-Refused-clause-ends g c =
+pub returns-clause-ends : goal.returns-clause-ends
+returns-clause-ends g c =
     let e = rw c.in-Refused.is at c.in-Err.ensures.err in
     let rest : List ℕ = c.exchange.new.window in (
       rest,

@@ -17,6 +17,6 @@ returns-then-not-branch-clause-room_ok g c =
     let same : c.carry.new.self ≡ c.args.self.now = unchanged entry c.args.self.now c.carry.new.self done c.in_ok-carry.ensures.carried c.if-not-branch.true in
     let owing : owed c.carry.new.self.lives ≡ owed c.args.self.now.lives = ap (λ (s : Hub). owed s.lives) same in
     let least : owed c.args.self.now.lives ≤ owed (effect entry c.args.self.now).lives = no_fewer c.args.self.now entry done (λ e. is_true done (c.in_ok-carry.ensures.calm e).1) c.if-not-branch.true in
-    let is : c.change-2.result.now ≡ entry = c.change-2.ensures ∙ sym c.in_ok-entry.ensures.change in
+    let is : c.change.result.now ≡ entry = c.change.ensures ∙ sym c.in_ok-entry.ensures.change in
     let after : c.owed_after.result ≡ owed (effect entry c.args.self.now).lives = c.owed_after.ensures ∙ ap (λ (x : Change). owed (effect x c.args.self.now).lives) is in
     omega (arith, owing, least, after, c.in_ok-reserve.ensures.room)
