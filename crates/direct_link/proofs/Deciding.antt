@@ -1,6 +1,6 @@
 -- Whom a guard lets in that asks directly.
-use Rattle.std.proofs.Common.{◌≡◌, ◌⊎◌, inl, inr, ◌<◌, arith, ℕ, true, false, codes, List, [], ◌∷◌, ◌++◌, Option, Some, None, Result, Ok, Err, append_assoc, refl, sym, ap, ◌∙◌, subst}
-use Rattle.httparse.specs.Grammar.{RequestHead, print_request, ResponseHead, print_response, print_blank, print_version, print_reason, print_end, print_section}
+use Rattle.std.proofs.Common.{◌≡◌, ◌⊎◌, inl, inr, ◌<◌, arith, ℕ, false, List, [], ◌∷◌, ◌++◌, Option, Some, None, Result, Ok, Err, append_assoc, refl, sym, ap, ◌∙◌, subst}
+use Rattle.httparse.specs.Grammar.{RequestHead, print_request}
 use Rattle.httparse.proofs.GrammarLemmas.{request_unique}
 use Rattle.access_laws.specs.Asks.{OnlyReads, get_of, access_target, AccessIsAsked}
 use Rattle.access_laws.specs.Bodies.{UsersBodySays, ServicesBodySays, NothingSays}
@@ -22,17 +22,13 @@ use Rattle.http_wire.specs.declared.error.SessionFault.{SessionFault}
 use Rattle.http_wire.specs.declared.error.SessionFault.TheVariants.{ReadFault}
 use Rattle.http_wire.specs.declared.error.WireError.{WireError}
 use Rattle.http_wire.specs.declared.error.WireError.TheVariants as wire
-use Rattle.hub_api.specs.Refusals.{wire_refusal}
 use Rattle.hub_core.specs.declared.start.Start.{Start}
 use Rattle.hub_devices.specs.declared.link_error.LinkError.{LinkError}
 use Rattle.hub_devices.specs.declared.link_error.LinkError.TheVariants.{Failed, Memory}
 use Rattle.hub_kit.specs.Names.{IsName, IsServerName}
 use Rattle.hub_kit.specs.declared.names.ServerKey.{ServerKey}
 use Rattle.hub_link.specs.Links.{Exchange, Chain}
-use Rattle.hub_link.specs.Replies.{IsReply}
-use Rattle.hub_machine.specs.Replies.{Reply}
 use Rattle.hub_run.specs.Turns.{View}
-use Rattle.hub_view.specs.Json.{message_body}
 use Rattle.proxy_core.specs.Forward.{IsStopped}
 use Rattle.proxy_core.specs.Passes.{Place, Going, PassOn, PassEnds}
 use Rattle.proxy_core.specs.Refusals.{IsWritten, status_of}
@@ -42,68 +38,28 @@ use Rattle.proxy_core.specs.declared.refusals.Forwarded.{Forwarded}
 use Rattle.proxy_core.specs.declared.refusals.Forwarded.TheVariants.{Passed, Refused, Ended, Cut}
 use Rattle.proxy_core.specs.declared.refusals.Refusal.{Refusal}
 use Rattle.proxy_core.specs.declared.refusals.Refusal.TheVariants as refusal
-use Rattle.reply_texts.specs.ReplyText.{reply_text, refused}
 use Rattle.direct_link.specs.Answered.{IsTurnOf, IsUnread}
 use Rattle.direct_link.specs.Decided.{Decided, IsLetIn, IsKeptOut}
 use Rattle.direct_link.specs.Direct.{Direct}
 use Rattle.direct_link.specs.Verdicts.{Judges}
 use Rattle.direct_link.proofs.Calls.{call_is}
 use Rattle.direct_link.proofs.Judging.{ask, asks_nothing, visit_of, judged}
-use Rattle.direct_link.proofs.Replied.{read_as, is_400, is_413, is_501}
 use Rattle.direct_link.proofs.Turned.{its_turn}
+use Rattle.direct_link.proofs.Unread.{unread_status, IsWireStatus}
 
 abbrev Outcome : Type 0
 Outcome = Result Forwarded SessionFault
 
 -- ---- bytes that were refused unread say nothing of access
 
-empty_front : (a b : List ℕ) → a ++ b ≡ [] → a ≡ []
-empty_front [] b is = refl
-empty_front (x ∷ a) b is = cc is
-
-empty_back : (a b : List ℕ) → a ++ b ≡ [] → b ≡ []
-empty_back [] b is = is
-empty_back (x ∷ a) b is = absurd (cc is)
-
-version_there : (minor : ℕ) → print_version minor ≡ [] → ⊥
-version_there minor is = cc is
-
-no_reply : (bytes : List ℕ) (status : ℕ) (body : List ℕ) → bytes ≡ [] → IsReply bytes status body → ⊥
-unfolding print_response
-no_reply bytes status body none reply =
-    let h : ResponseHead = reply.head in
-    let one : List ℕ = print_blank h.blank ++ print_version h.minor in
-    let two : List ℕ = one ++ 32 ∷ h.digits in
-    let three : List ℕ = two ++ print_reason h.reason in
-    let four : List ℕ = three ++ print_end h.line_end in
-    let five : List ℕ = four ++ print_section h.fields h.last in
-    version_there h.minor (empty_back (print_blank h.blank) (print_version h.minor)
-    (empty_front one (32 ∷ h.digits) (empty_front two (print_reason h.reason) (empty_front three (print_end h.line_end)
-    (empty_front four (print_section h.fields h.last) (empty_front five body (sym reply.whole ∙ none)))))))
-
-of_some : (a b : Reply) → Some a ≡ Some b → b ≡ a
-of_some a b e = cc
-
-unsaid_by : (e : WireError) (r : Reply) (bytes : List ℕ) (status : ℕ) (body : List ℕ) → wire_refusal e ≡ Some r → bytes ≡ reply_text r true
-    → IsReply bytes status body → access_by status body ≡ BadReply
-unsaid_by wire.BadHead r bytes status body is same reply =
-    ap (λ (s : ℕ). access_by s body)
-    (read_as 400 (message_body 400 (codes "bad head")) None bytes status body refl is_400 (same ∙ ap (λ (o : Reply). reply_text o true) (of_some (refused 400 (codes "bad head")) r is)) reply).0
-unsaid_by (wire.TooLarge n) r bytes status body is same reply =
-    ap (λ (s : ℕ). access_by s body)
-    (read_as 413 (message_body 413 (codes "too large")) None bytes status body refl is_413 (same ∙ ap (λ (o : Reply). reply_text o true) (of_some (refused 413 (codes "too large")) r is)) reply).0
-unsaid_by wire.Coding r bytes status body is same reply =
-    ap (λ (s : ℕ). access_by s body)
-    (read_as 501 (message_body 501 (codes "coding not supported")) None bytes status body refl is_501 (same ∙ ap (λ (o : Reply). reply_text o true) (of_some (refused 501 (codes "coding not supported")) r is)) reply).0
-unsaid_by wire.Ended r bytes status body is same reply = absurd (cc is)
-unsaid_by wire.Cut r bytes status body is same reply = absurd (cc is)
-unsaid_by wire.ReadFault r bytes status body is same reply = absurd (cc is)
-unsaid_by wire.Memory r bytes status body is same reply = absurd (cc is)
+status_says : (status : ℕ) (body : List ℕ) → IsWireStatus status → access_by status body ≡ BadReply
+status_says status body (inl is) = ap (λ (s : ℕ). access_by s body) is
+status_says status body (inr (inl is)) = ap (λ (s : ℕ). access_by s body) is
+status_says status body (inr (inr is)) = ap (λ (s : ℕ). access_by s body) is
 
 unread_says : (bytes : List ℕ) (access : Access) → IsUnread bytes → IsAccessOf bytes access → access ≡ BadReply
 unread_says bytes access unread (None, says, is) = is
-unread_says bytes access (inl none) (Some (status, body), says, is) = absurd (no_reply bytes status body none says)
-unread_says bytes access (inr (e, r, refused, same)) (Some (status, body), says, is) = is ∙ unsaid_by e r bytes status body refused same says
+unread_says bytes access unread (Some (status, body), says, is) = is ∙ status_says status body (unread_status bytes status body unread says)
 
 -- ---- what the hub's answer tells
 

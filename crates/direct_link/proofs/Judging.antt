@@ -144,7 +144,7 @@ not_sent start q v e asked read none is = by is.given
         none_some at.change (change_of at.answer)
         (none at.state v.moment v.draw at.answer (subst (λ (c : Asked). Answers at.state v.moment v.draw c at.answer) same at.answers)) at.has
 
-read_both : (r : Result Asked ApiRefusal) (a : Asked) (e : ApiRefusal) → r ≡ Ok a → r ≡ Err e → ⊥
+pub read_both : (r : Result Asked ApiRefusal) (a : Asked) (e : ApiRefusal) → r ≡ Ok a → r ≡ Err e → ⊥
 read_both r a e one two = cc
 
 no_way : (b : Bool) (w : Way) → (if b then None else None) ≡ Some w → ⊥
@@ -152,7 +152,7 @@ no_way true w e = cc
 no_way false w e = cc
 
 -- a call that doesn't ask the route link isn't let go on to it
-not_let : (call : Call) (r : Reply) (w : Way) → way_of call ≡ None → lets call r ≡ Some w → ⊥
+pub not_let : (call : Call) (r : Reply) (w : Way) → way_of call ≡ None → lets call r ≡ Some w → ⊥
 not_let call r w none goes = no_way (r.status == 200) w (ap (λ (o : Option Way). lets_by o r) (sym none) ∙ goes)
 
 -- the visit of a turn, and its reply
@@ -163,7 +163,7 @@ pub record Visited (start : Start) (x : View) (asked : Asked) (bytes : List ℕ)
   pub said : Said start visit asked reply
   pub is : bytes ≡ reply_text reply true
 
-read_of : (p q : Request) (asked : Asked) → p ≡ q → call_read q ≡ Ok asked → call_read p ≡ Ok asked
+pub read_of : (p q : Request) (asked : Asked) → p ≡ q → call_read q ≡ Ok asked → call_read p ≡ Ok asked
 read_of p q asked same read = ap call_read same ∙ read
 
 pub visit_of : (start : Start) (x y : View) (q : Request) (bytes : List ℕ) (asked : Asked) → call_read q ≡ Ok asked → draws asked.call ≡ false

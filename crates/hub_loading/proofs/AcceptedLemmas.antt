@@ -9,7 +9,7 @@ use Rattle.hub_api.specs.Refusals.{no_draw}
 use Rattle.reply_texts.specs.ReplyText.{reply_text, has_body}
 use Rattle.direct_link.specs.Answered.{IsUnread}
 use Rattle.direct_link.proofs.Replied.{IsStatus, read_as, is_400, is_403, is_404}
-use Rattle.hub_loading.proofs.UnreadLemmas.{unread_status, refused_is, IsWireStatus}
+use Rattle.direct_link.proofs.Unread.{unread_status, refused_is, IsWireStatus}
 
 is_409 : IsStatus 409
 unfolding digits

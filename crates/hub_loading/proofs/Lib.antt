@@ -2,7 +2,6 @@ pub mod RoundLemmas
 pub mod GetLemmas
 pub mod SeenLemmas
 pub mod LinkLemmas
-pub mod UnreadLemmas
 pub mod VisitLemmas
 pub mod QuietLemmas
 pub mod NameLemmas

@@ -32,7 +32,7 @@ use Rattle.direct_link.specs.Direct.{Direct}
 use Rattle.direct_link.proofs.Calls.{call_is}
 use Rattle.direct_link.proofs.Judging.{ask, asks_nothing}
 use Rattle.direct_link.proofs.Turned.{its_turn}
-use Rattle.hub_loading.proofs.UnreadLemmas.{unread_status, IsWireStatus}
+use Rattle.direct_link.proofs.Unread.{unread_status, IsWireStatus}
 use Rattle.hub_loading.proofs.VisitLemmas.{quiet_turn}
 use Rattle.hub_loading.specs.Rounds.{guard_end}
 

@@ -36,7 +36,7 @@ use Rattle.hub_loading.proofs.BoolLemmas.{both, both_first, both_rest}
 use Rattle.hub_loading.specs.Seeing.{IsSeen}
 use Rattle.hub_loading.specs.Rounds.{found_status}
 use Rattle.hub_loading.proofs.GetLemmas.{see, user_target, call_is}
-use Rattle.hub_loading.proofs.UnreadLemmas.{unread_status, IsWireStatus}
+use Rattle.direct_link.proofs.Unread.{unread_status, IsWireStatus}
 use Rattle.hub_loading.proofs.VisitLemmas.{quiet_turn}
 
 -- ---- what is answered in a state

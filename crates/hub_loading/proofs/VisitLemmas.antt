@@ -1,5 +1,5 @@
 -- The visit of an ask whose bytes are one request.
-use Rattle.std.proofs.Common.{◌≡◌, ◌==◌, inl, inr, ℕ, Bool, true, false, List, length, Option, Some, None, Result, Ok, Err, if◌then◌else◌, sym, ap, ◌∙◌, subst}
+use Rattle.std.proofs.Common.{◌≡◌, inl, inr, ℕ, Bool, true, false, List, length, Option, Some, None, Result, Ok, sym, ap, ◌∙◌, subst}
 use Rattle.http_wire.specs.declared.request.Request.{Request}
 use Rattle.hub_api.specs.Calls.{call_read}
 use Rattle.hub_api.specs.Refusals.{no_draw}
@@ -12,17 +12,15 @@ use Rattle.hub_machine.specs.Draws.{draws}
 use Rattle.hub_machine.specs.Replies.{Answer, Reply, Outcome, refuses, refuses_with, gives, changes, works, answered, working, outcome_of}
 use Rattle.hub_machine.specs.State.{Hub}
 use Rattle.hub_machine.specs.declared.call.Asked.{Asked}
-use Rattle.hub_machine.specs.declared.call.Call.{Call}
 use Rattle.hub_machine.specs.declared.change.Change.{Change}
 use Rattle.hub_machine.specs.declared.reply.Outcome as out
 use Rattle.hub_machine.specs.declared.work.Work.{Work}
 use Rattle.hub_run.specs.Complete.{IsOf}
-use Rattle.hub_run.specs.Routed.{way_of, lets, lets_by}
+use Rattle.hub_run.specs.Routed.{way_of, lets}
 use Rattle.hub_run.specs.Turns.{Turn, View, Visit, Visits, Errand, Moves, IsRight, IsAnswered, IsSent, IsLet, IsGiven, IsDrawn, turn_text, visited, worked, declined, undrawn, refused, unsaid, unfinished, wanting, routed, unrouted}
-use Rattle.hub_run.specs.declared.routed.Way.{Way}
 use Rattle.reply_texts.specs.ReplyText.{reply_text}
 use Rattle.direct_link.specs.Answered.{IsTurnOf}
-use Rattle.direct_link.proofs.Judging.{ChangesNothing}
+use Rattle.direct_link.proofs.Judging.{ChangesNothing, not_let, read_both, read_of}
 
 -- what a visit gave to a call, and the bytes that said it
 pub record Gave (start : Start) (x : View) (asked : Asked) (bytes : List ℕ) (y : View) : Type 0 where
@@ -42,20 +40,6 @@ NeverWorks asked =
 
 same_ask : (a b : Asked) (r : Result Asked ApiRefusal) → r ≡ Ok a → r ≡ Ok b → a ≡ b
 same_ask a b r one two = cc
-
-read_both : (r : Result Asked ApiRefusal) (a : Asked) (e : ApiRefusal) → r ≡ Ok a → r ≡ Err e → ⊥
-read_both r a e one two = cc
-
-no_way : (b : Bool) (w : Way) → (if b then None else None) ≡ Some w → ⊥
-no_way true w e = cc
-no_way false w e = cc
-
--- a call that doesn't ask the route link isn't let go on to it
-not_let : (call : Call) (r : Reply) (w : Way) → way_of call ≡ None → lets call r ≡ Some w → ⊥
-not_let call r w none goes = no_way (r.status == 200) w (ap (λ (o : Option Way). lets_by o r) (sym none) ∙ goes)
-
-read_of : (p q : Request) (asked : Asked) → p ≡ q → call_read q ≡ Ok asked → call_read p ≡ Ok asked
-read_of p q asked same read = ap call_read same ∙ read
 
 works_not : (w : Work) (r : Reply) (o : Outcome) → o ≡ working w → o ≡ answered r → ⊥
 works_not w r o one two = cc
