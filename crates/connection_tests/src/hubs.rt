@@ -17,6 +17,7 @@ use hub_kit::moment::Moment;
 use hub_machine::change::Change;
 use hub_opening::config::greatest_limits;
 use hub_run::{HubKit, Served, serve_connection};
+use keeper::keeper::Keeper;
 use keeper::mem_keeper::MemKeeper;
 use keeper::trail::ListTrail;
 use scope_names::custom::CustomRow;
@@ -24,7 +25,10 @@ use std::alloc::Global;
 use std::process::Abort;
 use std::sync::Wait;
 
-pub type MemBook = Book<MemKeeper, ListTrail<Change>>;
+/// The book of a hub over a keeper.
+pub type BookOver<K> = Book<K, ListTrail<Change>>;
+
+pub type MemBook = BookOver<MemKeeper>;
 
 pub type MemKit = HubKit<MemSpawner, MemRouteLink, FixedClock, ListRandom>;
 
@@ -56,25 +60,39 @@ fn no_scopes(alloc: Global) -> List<CustomRow>
     List::new(alloc)
 }
 
-/// The book that a file gives which has neither limits nor custom scopes, with a history of so many bytes. The keeper's call of the number
-/// fails; the opening makes the first two.
-fn book(
+/// The book over a keeper that a file gives which has neither limits nor custom scopes, with a history of so many bytes; or the keeper,
+/// where the book is refused.
+pub fn open_book<K: Keeper>(
+    rt: &impl Abort,
+    alloc: Global,
+    file: &str,
+    keeper: K,
+    trail_bytes: u32,
+) -> Result<BookOver<K>, K> {
+    let mut config = read_config(alloc, file.as_bytes()).expect(rt, file);
+    config.hub.limits = greatest_limits();
+    config.hub.limits.trail_bytes = u64::from(trail_bytes);
+    config.hub.custom_scopes = no_scopes(alloc);
+    let now = Moment::up_to(NOW);
+    let book = Book::open(alloc, keeper, ListTrail::new(alloc), &config.hub, now);
+    drop(config);
+    match book {
+        Ok(book) => Ok(book),
+        Err((keeper, _)) => Err(keeper),
+    }
+}
+
+/// The book of a file over an empty keeper in memory. The keeper's call of the number fails; the opening makes the first two.
+pub fn book(
     rt: &impl Abort,
     alloc: Global,
     file: &str,
     failing_commit: u64,
     trail_bytes: u32,
 ) -> MemBook {
-    let mut config = read_config(alloc, file.as_bytes()).expect(rt, file);
-    config.hub.limits = greatest_limits();
-    config.hub.limits.trail_bytes = u64::from(trail_bytes);
-    config.hub.custom_scopes = no_scopes(alloc);
     let failing = failing(rt, alloc, failing_commit);
     let keeper = MemKeeper::new(alloc, Vec::new(alloc), failing).expect(rt, "there is memory");
-    let now = Moment::up_to(NOW);
-    let book = Book::open(alloc, keeper, ListTrail::new(alloc), &config.hub, now);
-    drop(config);
-    match book {
+    match open_book(rt, alloc, file, keeper, trail_bytes) {
         Ok(book) => book,
         Err(_) => panic!(rt; "no book"),
     }

@@ -1,7 +1,8 @@
-//! Connections of the tests: one is served to its end, by a desk of its own or by one at hand, and what was written is compared.
+//! Connections of the tests of what fails or is late: one is served to its end, and what was written is compared.
 ghost use Rattle.std.specs.Prelude.{◌≡◌};
 
-use crate::hubs::{BookOver, LateKit, open_desk};
+use crate::hubs::{BookOver, open_desk};
+use crate::late_hubs::LateKit;
 use desk::{Desk, Pass};
 use http_wire::error::SessionFault;
 use hub_devices::mem_bytes::{MemSink, MemSource};

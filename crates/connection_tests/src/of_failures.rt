@@ -1,7 +1,9 @@
 //! A start, a stop and a start, while each of the first twelve calls on the spawner, the proxy and the keeper fails in turn: what is
 //! replied, that programs, routes and leases are of one piece then, and that a further stop frees the target.
-use crate::connections::{are_statuses, served_over};
-use crate::hubs::{DRAWS, LateKit, MemBook, NEVER, book_failing, bytes, check, kit, late_routes};
+use crate::check::{bytes, check};
+use crate::hubs::{MemBook, NEVER};
+use crate::late_connections::{are_statuses, served_over};
+use crate::late_hubs::{DRAWS, LateKit, book_failing, late_kit, late_routes};
 use hub_devices::calls::{Spawning, Told};
 use hub_devices::mem_bytes::{MemSink, MemSource};
 use hub_devices::mem_spawner::MemSpawner;
@@ -174,7 +176,7 @@ fn kit_of(rt: &impl Abort, alloc: Global, failing: Failing, number: u64) -> Late
     }
     let spawn = number_of(failing, Failing::Spawner, number);
     let routes = late_routes(rt, alloc, &plans);
-    kit(rt, alloc, routes, spawn, NEVER, &DRAWS[..3])
+    late_kit(rt, alloc, routes, spawn, NEVER, &DRAWS[..3])
 }
 
 /// Whether a connection to the hub with this book that asks this gets replies of these statuses, and ends then; and the book.
@@ -271,7 +273,7 @@ fn fails_so<R: Abort + Wait>(rt: &R, alloc: Global, failure: &Failure, number: u
 /// Whether two stops and the start of another server, over devices that work again, are answered as the row says.
 fn is_freed<R: Abort + Wait>(rt: &R, alloc: Global, book: MemBook, failure: &Failure) -> bool {
     let routes = late_routes(rt, alloc, &[]);
-    let mut kit = kit(rt, alloc, routes, NEVER, NEVER, &DRAWS[3..]);
+    let mut kit = late_kit(rt, alloc, routes, NEVER, NEVER, &DRAWS[3..]);
     let (freed, book) = is_served(rt, alloc, book, &mut kit, AFTER, failure.after);
     drop(book);
     drop(kit);

@@ -1,7 +1,9 @@
 //! Broken input and failing devices: heads and bodies out of form, two requests that are cut at each byte, and eight requests while each
 //! read, write, draw and commit fails in turn.
-use crate::connections::{are_statuses, has, served_over};
-use crate::hubs::{DRAWS, NEVER, book_failing, check, failing, kit, late_routes};
+use crate::check::{check, failing};
+use crate::hubs::NEVER;
+use crate::late_connections::{are_statuses, has, served_over};
+use crate::late_hubs::{DRAWS, book_failing, late_kit, late_routes};
 use http_wire::error::SessionFault;
 use hub_devices::mem_bytes::{MemSink, MemSource};
 use hub_kit::bytes::Bytes;
@@ -245,7 +247,8 @@ fn end_of<R: Abort + Wait>(
     draw: u64,
     commit: u64,
 ) -> Result<Served, SessionFault> {
-    let mut kit = kit(rt, alloc, late_routes(rt, alloc, &[]), NEVER, draw, &DRAWS);
+    let routes = late_routes(rt, alloc, &[]);
+    let mut kit = late_kit(rt, alloc, routes, NEVER, draw, &DRAWS);
     let book = book_failing(rt, alloc, commit);
     let (end, book) = served_over(rt, alloc, book, &mut kit, source, sink);
     drop(book);

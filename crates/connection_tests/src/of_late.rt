@@ -1,6 +1,8 @@
 //! Connections over a route link whose messages are lost or late: what is written, and which routes are listed once all were delivered.
-use crate::connections::served_over;
-use crate::hubs::{DRAWS, NEVER, NOW, book_failing, bytes, check, kit, late_routes};
+use crate::check::{bytes, check};
+use crate::hubs::{NEVER, NOW};
+use crate::late_connections::served_over;
+use crate::late_hubs::{DRAWS, book_failing, late_kit, late_routes};
 use hub_devices::mem_bytes::{MemSink, MemSource};
 use hub_kit::moment::Moment;
 use hub_run::Served;
@@ -93,7 +95,7 @@ fn is_delivered(routes: &mut LateRoutes, lateness: &Lateness) -> bool {
 /// Whether the connection ends as it should, has written its output, and leaves these routes.
 fn ends_so<R: Abort + Wait>(rt: &R, alloc: Global, lateness: &Lateness) -> bool {
     let routes = late_routes(rt, alloc, lateness.plans);
-    let mut kit = kit(rt, alloc, routes, NEVER, NEVER, &DRAWS);
+    let mut kit = late_kit(rt, alloc, routes, NEVER, NEVER, &DRAWS);
     let source = MemSource::new(bytes(rt, alloc, lateness.input), 100, Vec::new(alloc));
     let mut sink = MemSink::new(alloc, Vec::new(alloc));
     let book = book_failing(rt, alloc, NEVER);
