@@ -1,9 +1,10 @@
 #!/bin/sh
 # What the command `serve` does over real sockets, with real programs and a real disk, which no clause can say, and what it costs.
-# usage: docs/bench/serve.sh [behave] [flat] [measure]
+# usage: docs/bench/serve.sh [behave] [flat] [tokens] [measure]
 # `behave` sees to how it behaves: connections of all kinds, programs that misbehave, a disk that is full, hubs that are killed, and whether
 # a child, a socket or a row is left behind or lost. `flat` makes 20,000 changes (or $CHANGES of them) without a trail and sees that memory
-# doesn't grow. `measure` takes processor time and requests a second, beside nginx. Without a word it does all three, in some five minutes.
+# doesn't grow. `tokens` makes 999,999 tokens (or $TOKENS of them) of 1,000 users, and asks for the identity with few and with all of them.
+# `measure` takes processor time and requests a second, beside nginx. Without a word it does all but `tokens`, in some five minutes.
 # $HUB names the program `hub` as `rt run` leaves it; it is crates/hub/out/hub where that isn't set: run `rt run` there first.
 # It needs curl, wrk and nginx, for the full disk to be root, and for JupyterHub's own client Debian's package jupyterhub; what lacks is
 # named and left out. It stands outside the gate, writes to a folder under /tmp alone, and ends with status 1 at the first thing that isn't
@@ -457,6 +458,39 @@ def flat(folder):
     check("it ends", hub.ends())
 
 
+def names_of(first, count):
+    return json.dumps({"usernames": [f"m-{n:06}" for n in range(first, first + count)]})
+
+
+def make_tokens(hub, first, count):
+    """Makes tokens of users in turn. Gives the processor time of one, in microseconds."""
+    before = sum(spent([hub.process.pid]))
+    for at in range(first, first + count, 500):
+        caller, most = hub.caller(), min(500, first + count - at)
+        paths = (f"/users/m-{n % 1000:06}/tokens" for n in range(at, at + most))
+        caller.sendall(b"".join(request(path, "POST", "Content-Length: 2\r\n") + b"{}" for path in paths))
+        check_quietly("tokens are made", replies(caller, most) == [201] * most)
+        caller.close()
+    return 1e6 * (sum(spent([hub.process.pid])) - before) / count
+
+
+def tokens(folder):
+    if not shutil.which("wrk"):
+        return print("left out: there is no wrk")
+    prepare(folder)
+    hub, made = Hub(folder, "--no-trail"), 0
+    for at in range(0, 1000, 500):
+        check_quietly("there are users", hub.status("POST", "/users", body=names_of(at, 500)) == 201)
+    for count in (999, int(os.environ.get("TOKENS", "999999"))):
+        took = make_tokens(hub, made, count - made)
+        made = count
+        print(f"{made + 1} tokens: {took:.0f} microseconds of processor time to make one; {memory(hub)} KiB", flush=True)
+        for callers in (1, 4):
+            given = load(f"http://127.0.0.1:{hub.port}/hub/api/user", [hub.process.pid], callers, 2, "-H", f"Authorization: token {TOKEN}")
+            show(f"identity, {made + 1} tokens, {callers} callers, kept", *given)
+    check("it ends", hub.ends())
+
+
 NEW_USERS = """
 local threads, n = 0, 0
 function setup(thread) thread:set("id", threads) threads = threads + 1 end
@@ -464,6 +498,15 @@ function request()
   n = n + 1
   return wrk.format("POST", string.format("/hub/api/users/%s-%d-%d", wrk.headers["X-Prefix"], id, n))
 end
+"""
+# eight requests in one write, so that the callers take less of the processors that the workers are measured on
+AT_ONCE = """
+function init()
+  local requests = {}
+  for n = 1, 8 do requests[n] = wrk.format() end
+  eight = table.concat(requests)
+end
+function request() return eight end
 """
 PAGE = "Accept: application/jupyterhub-pagination+json"
 
@@ -504,11 +547,18 @@ CALLS = [
 ]
 
 
-def measure_calls(hub, workers):
+def ways(folder):
+    """How callers ask, and what `wrk` is told for it."""
+    with open(f"{folder}/at_once.lua", "w") as file:
+        file.write(AT_ONCE)
+    return [("kept", []), ("a connection each", ["-H", "Connection: close"]), ("kept, eight at once", ["-s", f"{folder}/at_once.lua"])]
+
+
+def measure_calls(hub, folder, workers):
     token, url = ["-H", f"Authorization: token {TOKEN}"], f"http://127.0.0.1:{hub.port}/hub/api"
     for name, path, more in CALLS:
         for callers in (1, 4, 16):
-            for how, last in (("kept", []), ("a connection each", ["-H", "Connection: close"])):
+            for how, last in ways(folder):
                 given = load(url + path, [hub.process.pid], callers, 2, *token, *more, *last)
                 show(f"{name}, {workers} workers, {callers} callers, {how}", *given)
 
@@ -526,9 +576,8 @@ def measure_hub(folder):
     for workers in (1, 4):
         hub = Hub(folder, "--no-trail", "--workers", str(workers))
         for at in range(2):
-            names = json.dumps({"usernames": [f"m-{n:06}" for n in range(500 * at, 500 * at + 500)]})
-            check_quietly("there are users", hub.status("POST", "/users", body=names) == 201)
-        measure_calls(hub, workers)
+            check_quietly("there are users", hub.status("POST", "/users", body=names_of(500 * at, 500)) == 201)
+        measure_calls(hub, folder, workers)
         hub.ends()
     for what, words in (("in memory", []), ("with --db", ["--db", "measure.db"])):
         hub = Hub(folder, "--no-trail", *words)
@@ -554,7 +603,7 @@ def measure_nginx(folder):
         check_quietly("nginx runs", comes(lambda: len(children_of(nginx.pid)) == workers, 5))
         time.sleep(0.2)
         for callers in (1, 4, 16):
-            for how, last in (("kept", []), ("a connection each", ["-H", "Connection: close"])):
+            for how, last in ways(folder):
                 given = load(f"http://127.0.0.1:{port}/identity", children_of(nginx.pid), callers, 2, *last)
                 show(f"nginx's file, {workers} workers, {callers} callers, {how}", *given)
         nginx.terminate()
@@ -606,7 +655,7 @@ def run():
     resource.setrlimit(resource.RLIMIT_NOFILE, (4096, resource.getrlimit(resource.RLIMIT_NOFILE)[1]))
     for part in parts:
         with tempfile.TemporaryDirectory(prefix="serve-bench-") as folder:
-            {"behave": behave, "flat": flat, "measure": measure}[part](folder)
+            {"behave": behave, "flat": flat, "tokens": tokens, "measure": measure}[part](folder)
 
 
 try:
