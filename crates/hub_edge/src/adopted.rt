@@ -1,11 +1,13 @@
 //! Programs that another run of the hub started. They are none of its children, so they are found by a variable in their environment.
 use crate::groups::signal;
 use crate::limits::END_SECONDS;
-use crate::waiting::time_left;
+use crate::processes::{cut, read_number, read_process, running_group, told};
+use crate::waiting::{is_over, pause};
 use hub_kit::target::Target;
 use std::alloc::{AllocError, Global};
+use std::fs::DirEntry;
 use std::time::{Duration, Instant};
-use std::{fs, io, thread};
+use std::{fs, io};
 
 /// The variable that says of a program for which target and as which generation it was started.
 pub(crate) const MARK: &str = "HUB_PROGRAM";
@@ -32,55 +34,72 @@ pub(crate) struct Marked<'a> {
 
 /// Ends the programs with such a mark that run, and what they started: they are asked, then killed.
 pub(crate) fn end_found(rt: &HostRuntime, marked: Marked<'_>) -> io::Result<()> {
-    signal_all(rt, "TERM", &groups_of(rt, marked)?);
+    signal_all(rt, "TERM", marked)?;
     if !await_gone(rt, marked)? {
-        signal_all(rt, "KILL", &groups_of(rt, marked)?);
+        signal_all(rt, "KILL", marked)?;
     }
     Ok(())
 }
 
-/// Sends a signal to each of these groups, of which some may be over meanwhile.
-fn signal_all(rt: &HostRuntime, name: &str, groups: &[u32]) {
-    for group in groups {
+/// Sends a signal to the groups of all programs with such a mark. Some may be over meanwhile.
+fn signal_all(rt: &HostRuntime, name: &str, marked: Marked<'_>) -> io::Result<()> {
+    let groups = groups_of(rt, marked)?;
+    for group in groups.as_slice() {
         let _ = signal(rt, name, *group);
     }
+    Ok(())
 }
 
 /// Gives the programs with such a mark time to end, and says whether they did.
 fn await_gone(rt: &HostRuntime, marked: Marked<'_>) -> io::Result<bool> {
     let begun = Instant::now(rt)?;
-    let mut pause = 1u64;
+    let mut millis = 1u64;
     for _ in 0..100_000 {
-        if groups_of(rt, marked)?.is_empty() {
+        if are_gone(rt, marked)? {
             return Ok(true);
         }
-        if time_left(rt, begun, Duration::from_secs(END_SECONDS))?.is_none() {
+        if is_over(rt, begun, Duration::from_secs(END_SECONDS))? {
             break;
         }
-        thread::sleep(rt, Duration::from_millis(pause));
-        pause = pause.saturating_mul(2).min(50);
+        millis = pause(rt, millis);
     }
     Ok(false)
+}
+
+/// Whether no program with such a mark runs.
+fn are_gone(rt: &HostRuntime, marked: Marked<'_>) -> io::Result<bool> {
+    let groups = groups_of(rt, marked)?;
+    Ok(groups.is_empty())
 }
 
 /// The groups of the processes that run and were started with such a mark in their environment.
 fn groups_of(rt: &HostRuntime, marked: Marked<'_>) -> io::Result<Vec<u32>> {
     let mut groups = Vec::new(rt.alloc());
-    for found in fs::read_dir(rt, "/proc")? {
-        let found = found?;
-        if let Ok(number) = found.file_name().parse::<u32>() {
-            if let Some(group) = group_of(rt, number, marked) {
-                if !groups.contains(&group) {
-                    groups.push(group)?;
-                }
-            }
-        }
-    }
+    add_groups(rt, marked, &mut groups)?;
     Ok(groups)
 }
 
+/// Adds the groups of these processes.
+fn add_groups(rt: &HostRuntime, marked: Marked<'_>, groups: &mut Vec<u32>) -> io::Result<()> {
+    for found in fs::read_dir(rt, "/proc")? {
+        if let Some(group) = group_of(rt, found?, marked) {
+            add_group(groups, group)?;
+        }
+    }
+    Ok(())
+}
+
+/// Adds a group that isn't among them.
+fn add_group(groups: &mut Vec<u32>, group: u32) -> Result<(), AllocError> {
+    if !groups.contains(&group) {
+        groups.push(group)?;
+    }
+    Ok(())
+}
+
 /// The group of a process that runs, if it was started with such a mark.
-fn group_of(rt: &HostRuntime, number: u32, marked: Marked<'_>) -> Option<u32> {
+fn group_of(rt: &HostRuntime, found: DirEntry, marked: Marked<'_>) -> Option<u32> {
+    let number = read_process(found.file_name().as_bytes())?;
     if has_mark(rt, number, marked) {
         running_group(rt, number)
     } else {
@@ -91,10 +110,7 @@ fn group_of(rt: &HostRuntime, number: u32, marked: Marked<'_>) -> Option<u32> {
 /// Whether a process was started with such a mark in its environment. Of another user's process, and of one that has ended, this isn't
 /// known: it is none of the hub's.
 fn has_mark(rt: &HostRuntime, number: u32, marked: Marked<'_>) -> bool {
-    let Ok(path) = format!(in rt.alloc(); "/proc/{number}/environ") else {
-        return false;
-    };
-    match fs::read(rt, path.as_str()) {
+    match told(rt, number, "environ") {
         Ok(text) => has_entry(text.as_slice(), marked),
         Err(_) => false,
     }
@@ -102,12 +118,17 @@ fn has_mark(rt: &HostRuntime, number: u32, marked: Marked<'_>) -> bool {
 
 /// Whether one of the entries between zeros is such a mark.
 fn has_entry(text: &[u8], marked: Marked<'_>) -> bool {
-    for entry in text.split(|b| *b == 0) {
+    let mut rest = text;
+    for _ in 0..text.len() {
+        let Some((entry, more)) = cut(rest, 0) else {
+            break;
+        };
         if is_mark(entry, marked) {
             return true;
         }
+        rest = more;
     }
-    false
+    is_mark(rest, marked)
 }
 
 /// Whether an entry is such a mark: the variable, the generation, and behind a blank the target.
@@ -115,32 +136,18 @@ fn is_mark(entry: &[u8], marked: Marked<'_>) -> bool {
     let Some(value) = entry.strip_prefix(PREFIX) else {
         return false;
     };
-    let mut words = value.split(|b| *b == b' ');
-    let (Some(number), Some(target), None) = (words.next(), words.next(), words.next()) else {
-        return false;
-    };
-    target == marked.target.as_text().as_bytes()
-        && match marked.generation {
-            Some(generation) => read_number(number) == Some(generation),
-            None => true,
+    match cut(value, b' ') {
+        Some((number, target)) => {
+            target == marked.target.as_text().as_bytes() && is_meant(number, marked.generation)
         }
-}
-
-/// The number that a text is.
-fn read_number(text: &[u8]) -> Option<u64> {
-    std::str::from_utf8(text).ok()?.parse().ok()
-}
-
-/// The group of a process that runs. It stands behind the program's name, which is in brackets and may have any bytes, the state and the
-/// parent.
-fn running_group(rt: &HostRuntime, number: u32) -> Option<u32> {
-    let path = format!(in rt.alloc(); "/proc/{number}/stat").ok()?;
-    let text = fs::read(rt, path.as_str()).ok()?;
-    let rest = text.as_slice().rsplit(|b| *b == b')').next()?;
-    let mut words = rest.split(|b| *b == b' ').filter(|word| !word.is_empty());
-    if words.next()? == b"Z".as_slice() {
-        return None;
+        None => false,
     }
-    let group = words.nth(1)?;
-    std::str::from_utf8(group).ok()?.parse().ok()
+}
+
+/// Whether the generation is the one that is meant, or any is.
+fn is_meant(number: &[u8], generation: Option<u64>) -> bool {
+    match generation {
+        Some(generation) => read_number(number) == Some(generation),
+        None => true,
+    }
 }

@@ -1,55 +1,48 @@
 //! A program and all that it starts, as a group of processes: std knows no groups, so the shell sends the signals.
+use crate::commands::{add_all, silence};
 use crate::limits::END_SECONDS;
-use crate::waiting::time_left;
+use crate::processes::has_ended;
+use crate::waiting::{is_over, pause};
+use std::alloc::{AllocError, Global};
 use std::io::{self, ErrorKind};
-use std::process::{Child, Command, Stdio};
+use std::process::{Child, Command};
 use std::time::{Duration, Instant};
-use std::{fs, thread};
 
 /// Sends a signal to each process of the group with this number.
 pub(crate) fn signal(rt: &HostRuntime, name: &str, group: u32) -> io::Result<()> {
-    let alloc = rt.alloc();
-    let text = format!(in alloc; "-{group}")?;
-    let mut command = Command::new(alloc, "/bin/sh")?;
-    command
-        .arg("-c")?
-        .arg("kill -s \"$1\" -- \"$2\"")?
-        .arg("kill")?
-        .arg(name)?
-        .arg(text.as_str())?
-        .stdin(Stdio::null())
-        .stdout(Stdio::null())
-        .stderr(Stdio::null());
-    if command.status(rt)?.success() {
+    let mut command = Command::new(rt.alloc(), "/bin/sh")?;
+    let sent = send(rt, &mut command, name, group);
+    drop(command);
+    sent
+}
+
+/// Has a shell send a signal to a group.
+fn send(rt: &HostRuntime, shell: &mut Command, name: &str, group: u32) -> io::Result<()> {
+    add_words(rt.alloc(), shell, name, group)?;
+    silence(shell);
+    if shell.status(rt)?.success() {
         Ok(())
     } else {
         Err(io::Error::from(ErrorKind::Other))
     }
 }
 
-/// Whether a child that wasn't waited for has ended. Its number stays its own until then, and so does that of its group.
-pub(crate) fn has_ended(rt: &HostRuntime, number: u32) -> io::Result<bool> {
-    let path = format!(in rt.alloc(); "/proc/{number}/stat")?;
-    let text = fs::read(rt, path.as_str())?;
-    // the state stands behind the program's name, which is in brackets and may have any bytes
-    match text.as_slice().rsplit(|b| *b == b')').next() {
-        Some(rest) => Ok(rest.starts_with(b" Z")),
-        None => Ok(false),
-    }
+/// Adds the words of a shell that sends a signal to a group.
+fn add_words(alloc: Global, shell: &mut Command, name: &str, group: u32) -> Result<(), AllocError> {
+    let group = format!(in alloc; "-{group}")?;
+    let send = "kill -s \"$1\" -- \"$2\"";
+    add_all(shell, &["-c", send, "kill", name, group.as_str()])
 }
 
 /// Gives a child time to end.
 fn await_end(rt: &HostRuntime, number: u32) -> io::Result<()> {
     let begun = Instant::now(rt)?;
-    let mut pause = 1u64;
+    let mut millis = 1u64;
     for _ in 0..100_000 {
-        if has_ended(rt, number)?
-            || time_left(rt, begun, Duration::from_secs(END_SECONDS))?.is_none()
-        {
+        if has_ended(rt, number)? || is_over(rt, begun, Duration::from_secs(END_SECONDS))? {
             break;
         }
-        thread::sleep(rt, Duration::from_millis(pause));
-        pause = pause.saturating_mul(2).min(50);
+        millis = pause(rt, millis);
     }
     Ok(())
 }

@@ -6,6 +6,7 @@
 
 mod adopted;
 pub mod clock;
+mod commands;
 pub mod connection;
 pub mod ending;
 pub mod files;
@@ -14,6 +15,7 @@ pub mod limits;
 mod line;
 pub mod listener;
 pub mod output;
+mod processes;
 pub mod programs;
 pub mod random;
 pub mod routes;

@@ -6,11 +6,12 @@ use crate::limits::{
     ACCEPT_AGAIN_MILLIS, ACCEPT_TRIES, READ_OR_WRITE_SECONDS, SILENT_CALLERS, SILENT_SECONDS,
     WAITING_CALLERS,
 };
-use crate::waiting::{awaited, is_there, millis_of, time_left};
+use crate::waiting::{awaited, is_over, is_there, millis_of};
 use hub_devices::listener::Listener;
 use hub_devices::source::Failed;
 use libc::net::{SHUT_RDWR, listen, poll, shutdown};
-use std::alloc::Global;
+use libc::types::pollfd;
+use std::alloc::{AllocError, Global};
 use std::io::{self, ErrorKind};
 use std::net::{TcpListener, TcpStream};
 use std::os::fd::{AsRawFd, OwnedFd};
@@ -41,6 +42,15 @@ impl Drop for Door {
 }
 
 impl Door {
+    fn new(listener: TcpListener) -> Door {
+        Door {
+            listener,
+            free: AtomicU64::new(0),
+            silent: AtomicU64::new(0),
+            is_closed: AtomicBool::new(false),
+        }
+    }
+
     pub(crate) fn listener(&self) -> &TcpListener {
         &self.listener
     }
@@ -113,19 +123,11 @@ impl SocketListener {
         ensures { IfOk result (λ listener. ⟦<SocketListener as Listener>⟧.faults listener ≡ 0) }
     {
         let listener = TcpListener::bind(&rt, address)?;
-        set_options(&TcpStream::from(OwnedFd::from(listener.try_clone()?)))?;
-        if listen(listener.as_raw_fd(), WAITING_CALLERS) != 0 {
-            return Err(io::Error::from(ErrorKind::Other));
-        }
-        let door = Door {
-            listener,
-            free: AtomicU64::new(0),
-            silent: AtomicU64::new(0),
-            is_closed: AtomicBool::new(false),
-        };
+        set_up(&listener)?;
+        let door = Arc::new(rt.alloc(), Door::new(listener))?;
         Ok(SocketListener {
             rt,
-            door: Arc::new(rt.alloc(), door)?,
+            door,
             silent: Vec::new(rt.alloc()),
             faults: 0,
         })
@@ -168,12 +170,14 @@ impl SocketListener {
         ensures { self.new.faults ≡ self.old.faults }
     {
         match self.try_next()? {
-            Some(stream) => {
-                let door = Arc::try_clone(&self.door)?;
-                Ok(Some(sides(self.rt, stream, Some(door))?))
-            }
+            Some(stream) => Ok(Some(self.sides_of(stream)?)),
             None => Ok(None),
         }
+    }
+
+    fn sides_of(&self, stream: TcpStream) -> Result<(SocketSource, SocketSink), AllocError> {
+        let door = Arc::try_clone(&self.door)?;
+        sides(self.rt, stream, Some(door))
     }
 
     /// Waits for a caller or for a silent one to say something.
@@ -181,22 +185,46 @@ impl SocketListener {
         ensures { self.new.faults ≡ self.old.faults }
     {
         if !self.silent.is_empty() {
-            if let Some(at) = self.first_to_speak()? {
-                if at < self.silent.len() {
-                    return Ok(Some(self.silent.remove(at).stream));
-                }
+            if let Some(stream) = self.next_silent()? {
+                return Ok(Some(stream));
             }
             self.forget_silent()?;
             if !is_there(&self.door.listener) {
                 return Ok(None);
             }
         }
+        self.next_caller()
+    }
+
+    /// Waits for the listener and the silent callers. Takes the first of these that has sent something, or left.
+    fn next_silent(&mut self) -> io::Result<Option<TcpStream>>
+        ensures { self.new.faults ≡ self.old.faults }
+    {
+        match self.first_to_speak()? {
+            Some(at) if at < self.silent.len() => Ok(Some(self.silent.remove(at).stream)),
+            _ => Ok(None),
+        }
+    }
+
+    /// Waits for a caller. One that has sent nothing yet is kept.
+    fn next_caller(&mut self) -> io::Result<Option<TcpStream>>
+        ensures { self.new.faults ≡ self.old.faults }
+    {
         match self.door.listener.accept() {
-            Ok((stream, _)) if is_there(&stream) => Ok(Some(stream)),
-            Ok((stream, _)) => self.keep_silent(stream),
+            Ok((stream, _)) => self.take(stream),
             Err(error) if is_no_fault(error.kind()) => Ok(None),
             Err(error) => Err(error),
         }
+    }
+
+    fn take(&mut self, stream: TcpStream) -> io::Result<Option<TcpStream>>
+        ensures { self.new.faults ≡ self.old.faults }
+    {
+        if is_there(&stream) {
+            return Ok(Some(stream));
+        }
+        self.keep_silent(stream)?;
+        Ok(None)
     }
 
     /// Waits for the listener and the silent callers. Gives the place of the first of these that has sent something, or left.
@@ -207,24 +235,19 @@ impl SocketListener {
         }
         asked.push(awaited(&self.door.listener))?;
         poll(asked.as_mut_slice(), millis_of(Duration::from_secs(1)));
-        for at in 0..self.silent.len() {
-            if asked.get(at).is_some_and(|each| each.revents != 0) {
-                return Ok(Some(at));
-            }
-        }
-        Ok(None)
+        Ok(first_answered(asked.as_slice(), self.silent.len()))
     }
 
     /// Keeps a caller that has sent nothing yet, and lets the longest silent one go where there are too many.
-    fn keep_silent(&mut self, stream: TcpStream) -> io::Result<Option<TcpStream>>
+    fn keep_silent(&mut self, stream: TcpStream) -> io::Result<()>
         ensures { self.new.faults ≡ self.old.faults }
     {
         let since = Instant::now(&self.rt)?;
         if self.silent.len() >= SILENT_CALLERS {
-            drop(self.silent.remove(0));
+            self.let_go_first();
         }
         self.silent.push(Silent { stream, since })?;
-        Ok(None)
+        Ok(())
     }
 
     /// Lets those go that have been silent for too long.
@@ -232,15 +255,30 @@ impl SocketListener {
         ensures { self.new.faults ≡ self.old.faults }
     {
         for _ in 0..self.silent.len() {
-            let Some(first) = self.silent.first() else {
-                break;
-            };
-            if time_left(&self.rt, first.since, Duration::from_secs(SILENT_SECONDS))?.is_some() {
+            if !self.first_is_over()? {
                 break;
             }
-            drop(self.silent.remove(0));
+            self.let_go_first();
         }
         Ok(())
+    }
+
+    /// Whether the longest silent caller has been so for too long.
+    fn first_is_over(&self) -> io::Result<bool> {
+        let limit = Duration::from_secs(SILENT_SECONDS);
+        match self.silent.first() {
+            Some(first) => is_over(&self.rt, first.since, limit),
+            None => Ok(false),
+        }
+    }
+
+    /// Lets the longest silent caller go.
+    fn let_go_first(&mut self)
+        ensures { self.new.faults ≡ self.old.faults }
+    {
+        if !self.silent.is_empty() {
+            drop(self.silent.remove(0));
+        }
     }
 
     /// Lets the longest silent caller go, since descriptors may lack, or waits a little.
@@ -250,16 +288,35 @@ impl SocketListener {
         if self.silent.is_empty() {
             thread::sleep(&self.rt, Duration::from_millis(ACCEPT_AGAIN_MILLIS));
         } else {
-            drop(self.silent.remove(0));
+            self.let_go_first();
         }
     }
 }
 
-/// Sets the limit of each wait, and that small writes are sent at once.
-pub(crate) fn set_options(stream: &TcpStream) -> io::Result<()> {
-    let limit = Duration::from_secs(READ_OR_WRITE_SECONDS);
-    stream.set_read_timeout(Some(limit))?;
-    stream.set_write_timeout(Some(limit))?;
+/// The first of these descriptors for which something came, among the first `count`.
+fn first_answered(asked: &[pollfd], count: usize) -> Option<usize> {
+    for at in 0..asked.len() {
+        if at < count && asked[at].revents != 0 {
+            return Some(at);
+        }
+    }
+    None
+}
+
+/// Sets the options of the connections that come, and how many may wait.
+fn set_up(listener: &TcpListener) -> io::Result<()> {
+    let sockets = TcpStream::from(OwnedFd::from(listener.try_clone()?));
+    set_options(&sockets, READ_OR_WRITE_SECONDS)?;
+    if listen(listener.as_raw_fd(), WAITING_CALLERS) != 0 {
+        return Err(io::Error::from(ErrorKind::Other));
+    }
+    Ok(())
+}
+
+/// Sets how long a read and a write may wait, and that small writes are sent at once.
+pub(crate) fn set_options(stream: &TcpStream, read_seconds: u64) -> io::Result<()> {
+    stream.set_read_timeout(Some(Duration::from_secs(read_seconds)))?;
+    stream.set_write_timeout(Some(Duration::from_secs(READ_OR_WRITE_SECONDS)))?;
     stream.set_nodelay(true)
 }
 

@@ -2,7 +2,8 @@
 ghost use Rattle.std.specs.Prelude.{None};
 
 use crate::adopted::{Marked, end_found};
-use crate::groups::{end, has_ended};
+use crate::groups::end;
+use crate::processes::has_ended;
 use crate::starting::{StartFault, await_ready, drain, start_program, tell_secret};
 use crate::targets::{is_held, is_served};
 use hub_devices::source::Failed;
@@ -50,6 +51,16 @@ pub struct Programs<H: Threads + Wait + Copy> {
     faults: u64,
 }
 
+/// The place of a generation's program.
+fn place_of(all: &[Started], generation: u64) -> Option<usize> {
+    for at in 0..all.len() {
+        if all[at].generation == generation {
+            return Some(at);
+        }
+    }
+    None
+}
+
 impl<H: Threads + Wait + Copy> Programs<H> {
     /// The programs of a command. In each of its words `{port}`, `{user}` and `{server}` stand for those of the server.
     pub fn new(
@@ -84,17 +95,25 @@ impl<H: Threads + Wait + Copy> Programs<H> {
 
     /// Puts a program on the list. One for which there is no memory is ended.
     fn keep(&self, generation: u64, child: Child) -> Result<(), StartFault> {
-        let pushed = self
-            .started
-            .lock(&self.handle)
-            .push(Started { generation, child });
-        match pushed {
+        match self.put(Started { generation, child }) {
             Ok(()) => Ok(()),
-            Err(mut refused) => {
-                end(&self.rt, &mut refused.value.child)?;
-                Err(StartFault::System(ErrorKind::OutOfMemory))
-            }
+            Err(refused) => self.refuse(refused),
         }
+    }
+
+    /// Puts a program on the list, or gives it back.
+    fn put(&self, program: Started) -> Result<(), Started> {
+        let mut started = self.started.lock(&self.handle);
+        match started.push(program) {
+            Ok(()) => Ok(()),
+            Err(refused) => Err(refused.value),
+        }
+    }
+
+    /// Ends a program for which there is no memory.
+    fn refuse(&self, mut program: Started) -> Result<(), StartFault> {
+        end(&self.rt, &mut program.child)?;
+        Err(StartFault::System(ErrorKind::OutOfMemory))
     }
 
     fn run(
@@ -134,31 +153,32 @@ impl<H: Threads + Wait + Copy> Programs<H> {
     fn take(&self, generation: u64) -> Option<Started> {
         let mut started = self.started.lock(&self.handle);
         let all = &mut *started;
-        for at in 0..all.len() {
-            if all[at].generation == generation {
-                return Some(all.swap_remove(at));
-            }
+        let at = place_of(all.as_slice(), generation)?;
+        if at < all.len() {
+            Some(all.swap_remove(at))
+        } else {
+            None
         }
-        None
     }
 
     /// The number of a generation's program, where it is on the list.
     fn number_of(&self, generation: u64) -> Option<u32> {
         let started = self.started.lock(&self.handle);
-        for each in started.iter() {
-            if each.generation == generation {
-                return Some(each.child.id());
-            }
-        }
-        None
+        let at = place_of(started.as_slice(), generation)?;
+        Some(started.get(at)?.child.id())
     }
 
-    /// Ends the program of a generation. One that another run of the hub started is no child of this process, and found by its mark; where
-    /// it isn't found, nobody may listen at the target.
+    /// Ends the program of a generation.
     fn quit(&self, generation: u64, target: &Target) -> io::Result<()> {
-        if let Some(mut started) = self.take(generation) {
-            return end(&self.rt, &mut started.child);
+        match self.take(generation) {
+            Some(mut started) => end(&self.rt, &mut started.child),
+            None => self.quit_adopted(generation, target),
         }
+    }
+
+    /// Ends the program of a generation that another run of the hub started. It is no child of this process, and found by its mark; where
+    /// it isn't found, nobody may listen at the target.
+    fn quit_adopted(&self, generation: u64, target: &Target) -> io::Result<()> {
         let marked = Marked {
             generation: Some(generation),
             target,

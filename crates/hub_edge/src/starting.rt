@@ -1,5 +1,6 @@
 //! How a program of a server is started.
 use crate::adopted::{MARK, mark_of};
+use crate::commands::{add, connect, set, unset};
 use crate::limits::READY_SECONDS;
 use crate::targets::address_of;
 use crate::waiting::time_left;
@@ -10,9 +11,8 @@ use std::alloc::{AllocError, Global};
 use std::env;
 use std::fmt::{self, Display, Formatter};
 use std::io::{self, ErrorKind, Read, Write};
-use std::os::fd::OwnedFd;
 use std::os::unix::net::UnixStream;
-use std::process::{Child, Command, Stdio};
+use std::process::{Child, ChildStdin, Command};
 use std::time::{Duration, Instant};
 
 /// What a program writes as its first line once it listens.
@@ -79,17 +79,58 @@ fn command_for(
     if words.is_empty() {
         return Err(StartFault::NoCommand);
     }
-    let port = match address_of(target).rsplit_once(':') {
+    let mut command = Command::new(rt.alloc(), "setsid")?;
+    prepare(rt, &mut command, words, generation, key, target)?;
+    Ok(command)
+}
+
+/// Gives a program its words and its environment.
+fn prepare(
+    rt: &HostRuntime,
+    command: &mut Command,
+    words: &[Text],
+    generation: u64,
+    key: &ServerKey,
+    target: &Target,
+) -> Result<(), StartFault> {
+    add_words(rt.alloc(), command, words, key, port_of(target))?;
+    hide_secrets(rt, command)?;
+    add_mark(rt.alloc(), command, generation, target)?;
+    Ok(())
+}
+
+/// The port of a target.
+fn port_of(target: &Target) -> &str {
+    match address_of(target).rsplit_once(':') {
         Some((_, port)) => port,
         None => "",
-    };
-    let mut command = Command::new(rt.alloc(), "setsid")?;
-    for word in words {
-        command.arg(word_for(rt.alloc(), word.as_str(), key, port)?.as_str())?;
     }
-    hide_secrets(rt, &mut command)?;
-    command.env(MARK, mark_of(rt.alloc(), generation, target)?.as_str())?;
-    Ok(command)
+}
+
+/// Adds the words of a command, for a server at a port.
+fn add_words(
+    alloc: Global,
+    command: &mut Command,
+    words: &[Text],
+    key: &ServerKey,
+    port: &str,
+) -> Result<(), AllocError> {
+    for word in words {
+        let word = word_for(alloc, word.as_str(), key, port)?;
+        add(command, word.as_str())?;
+    }
+    Ok(())
+}
+
+/// Says in the environment of the program for what it is started.
+fn add_mark(
+    alloc: Global,
+    command: &mut Command,
+    generation: u64,
+    target: &Target,
+) -> Result<(), AllocError> {
+    let mark = mark_of(alloc, generation, target)?;
+    set(command, MARK, mark.as_str())
 }
 
 /// Takes what is secret out of the environment that the program gets.
@@ -98,9 +139,15 @@ fn hide_secrets(rt: &HostRuntime, command: &mut Command) -> Result<(), StartFaul
         return Err(StartFault::System(ErrorKind::InvalidData));
     };
     for (name, _) in vars {
-        if is_secret(name.as_str()) {
-            command.env_remove(name.as_str())?;
-        }
+        hide_secret(command, name.as_str())?;
+    }
+    Ok(())
+}
+
+/// Takes a variable out of the environment, if it is secret.
+fn hide_secret(command: &mut Command, name: &str) -> Result<(), AllocError> {
+    if is_secret(name) {
+        unset(command, name)?;
     }
     Ok(())
 }
@@ -125,8 +172,15 @@ pub(crate) fn start_program(
     target: &Target,
 ) -> Result<(Child, UnixStream), StartFault> {
     let mut command = command_for(rt, words, generation, key, target)?;
+    let started = start(rt, &mut command);
+    drop(command);
+    Ok(started?)
+}
+
+/// Starts a program with a pair of sockets.
+fn start(rt: &HostRuntime, command: &mut Command) -> io::Result<(Child, UnixStream)> {
     let (near, far) = UnixStream::pair(rt)?;
-    command.stdin(Stdio::piped()).stdout(OwnedFd::from(far));
+    connect(command, far);
     Ok((command.spawn(rt)?, near))
 }
 
@@ -136,14 +190,25 @@ pub(crate) fn tell_secret(
     child: &mut Child,
     secret: &Text,
 ) -> Result<(), StartFault> {
-    let Some(mut input) = child.stdin.take() else {
-        return Err(StartFault::Ended);
-    };
-    let mut line = secret.copy(alloc)?;
-    line.push_str("\n")?;
-    match input.write_all(line.as_bytes()) {
+    let line = line_of(alloc, secret)?;
+    match child.stdin.take() {
+        Some(input) => tell(input, line.as_bytes()),
+        None => Err(StartFault::Ended),
+    }
+}
+
+/// A text and a line's end.
+fn line_of(alloc: Global, text: &Text) -> Result<String, AllocError> {
+    let text = text.as_str();
+    format!(in alloc; "{text}\n")
+}
+
+/// Writes to a program and closes its input.
+fn tell(mut input: ChildStdin, line: &[u8]) -> Result<(), StartFault> {
+    match input.write_all(line) {
+        Ok(()) => Ok(()),
         Err(error) if error.kind() == ErrorKind::BrokenPipe => Err(StartFault::Ended),
-        written => Ok(written?),
+        Err(error) => Err(StartFault::from(error)),
     }
 }
 
@@ -151,14 +216,24 @@ pub(crate) fn tell_secret(
 pub(crate) fn await_ready(rt: &HostRuntime, output: &UnixStream) -> Result<(), StartFault> {
     let begun = Instant::now(rt)?;
     for want in READY {
-        match next_byte(rt, output, begun)? {
-            Some(byte) if byte == *want => {}
-            Some(_) => return Err(StartFault::OtherLine),
-            None => return Err(StartFault::Ended),
-        }
+        await_byte(rt, output, begun, *want)?;
     }
     output.set_read_timeout(None)?;
     Ok(())
+}
+
+/// Waits for the next byte, which has to be this one.
+fn await_byte(
+    rt: &HostRuntime,
+    output: &UnixStream,
+    begun: Instant,
+    want: u8,
+) -> Result<(), StartFault> {
+    match next_byte(rt, output, begun)? {
+        Some(byte) if byte == want => Ok(()),
+        Some(_) => Err(StartFault::OtherLine),
+        None => Err(StartFault::Ended),
+    }
 }
 
 /// The next byte that a program writes which began at an instant, or `None` at the end.
@@ -167,16 +242,13 @@ fn next_byte(
     output: &UnixStream,
     begun: Instant,
 ) -> Result<Option<u8>, StartFault> {
-    let mut input = output;
-    let mut byte = [0u8; 1];
     for _ in 0..u64::MAX {
         let Some(left) = time_left(rt, begun, Duration::from_secs(READY_SECONDS))? else {
             break;
         };
         output.set_read_timeout(Some(left))?;
-        match input.read(&mut byte) {
-            Ok(0) => return Ok(None),
-            Ok(_) => return Ok(Some(byte[0])),
+        match read_byte(output) {
+            Ok(byte) => return Ok(byte),
             Err(error) if error.kind() == ErrorKind::WouldBlock => break,
             Err(error) if error.kind() == ErrorKind::Interrupted => {}
             Err(error) => return Err(StartFault::from(error)),
@@ -185,15 +257,29 @@ fn next_byte(
     Err(StartFault::Late)
 }
 
+/// Reads a byte, or `None` at the end.
+fn read_byte(mut input: &UnixStream) -> io::Result<Option<u8>> {
+    let mut byte = [0u8; 1];
+    match input.read(&mut byte)? {
+        0 => Ok(None),
+        _ => Ok(Some(byte[0])),
+    }
+}
+
 /// Reads what a program writes until its output is closed, so that it never waits.
 pub(crate) fn drain(output: UnixStream) {
-    let mut buf = [0u8; 4096];
-    let mut input = &output;
     for _ in 0..u64::MAX {
-        match input.read(&mut buf) {
-            Ok(0) => return,
-            Err(error) if error.kind() != ErrorKind::Interrupted => return,
-            _ => {}
+        if !goes_on(&output) {
+            return;
         }
+    }
+}
+
+/// Reads what a program has written, and says whether more may come.
+fn goes_on(mut input: &UnixStream) -> bool {
+    let mut buf = [0u8; 4096];
+    match input.read(&mut buf) {
+        Ok(count) => count != 0,
+        Err(error) => error.kind() == ErrorKind::Interrupted,
     }
 }

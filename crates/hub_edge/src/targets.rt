@@ -2,24 +2,27 @@
 use crate::connection::{SocketSink, SocketSource, sides};
 use crate::limits::{CONNECT_SECONDS, LET_GO_SECONDS, LOOK_AGAIN_MILLIS, TARGET_READ_SECONDS};
 use crate::listener::set_options;
-use crate::waiting::time_left;
+use crate::waiting::is_over;
 use hub_kit::target::Target;
 use std::io::{self, ErrorKind};
-use std::net::{TcpStream, ToSocketAddrs};
+use std::net::{SocketAddr, TcpStream, ToSocketAddrs};
 use std::thread;
 use std::time::{Duration, Instant};
 
 /// `HOST:PORT` of a target.
 pub(crate) fn address_of(target: &Target) -> &str {
     let text = target.as_text().as_str();
-    text.strip_prefix("http://").unwrap_or(text)
+    match text.strip_prefix("http://") {
+        Some(address) => address,
+        None => text,
+    }
 }
 
 /// A stream to the first address of the target that answers, or the last error.
 fn stream_to(rt: &HostRuntime, target: &Target) -> io::Result<TcpStream> {
     let mut last = io::Error::from(ErrorKind::InvalidInput);
     for address in address_of(target).to_socket_addrs(rt)? {
-        match TcpStream::connect_timeout(rt, &address, Duration::from_secs(CONNECT_SECONDS)) {
+        match stream_at(rt, address) {
             Ok(stream) => return Ok(stream),
             Err(error) => last = error,
         }
@@ -27,10 +30,18 @@ fn stream_to(rt: &HostRuntime, target: &Target) -> io::Result<TcpStream> {
     Err(last)
 }
 
+/// A stream to an address.
+fn stream_at(rt: &HostRuntime, address: SocketAddr) -> io::Result<TcpStream> {
+    TcpStream::connect_timeout(rt, &address, Duration::from_secs(CONNECT_SECONDS))
+}
+
 /// Whether somebody listens at the target. It isn't known where no connection is made, and none is refused.
 pub(crate) fn is_served(rt: &HostRuntime, target: &Target) -> io::Result<bool> {
     match stream_to(rt, target) {
-        Ok(_) => Ok(true),
+        Ok(stream) => {
+            drop(stream);
+            Ok(true)
+        }
         Err(error) if error.kind() == ErrorKind::ConnectionRefused => Ok(false),
         Err(error) => Err(error),
     }
@@ -43,7 +54,7 @@ pub(crate) fn is_held(rt: &HostRuntime, target: &Target) -> io::Result<bool> {
         if !is_served(rt, target)? {
             return Ok(false);
         }
-        if time_left(rt, begun, Duration::from_secs(LET_GO_SECONDS))?.is_none() {
+        if is_over(rt, begun, Duration::from_secs(LET_GO_SECONDS))? {
             break;
         }
         thread::sleep(rt, Duration::from_millis(LOOK_AGAIN_MILLIS));
@@ -54,7 +65,6 @@ pub(crate) fn is_held(rt: &HostRuntime, target: &Target) -> io::Result<bool> {
 /// A connection to a target.
 pub fn connect(rt: HostRuntime, target: &Target) -> io::Result<(SocketSource, SocketSink)> {
     let stream = stream_to(&rt, target)?;
-    set_options(&stream)?;
-    stream.set_read_timeout(Some(Duration::from_secs(TARGET_READ_SECONDS)))?;
+    set_options(&stream, TARGET_READ_SECONDS)?;
     Ok(sides(rt, stream, None)?)
 }

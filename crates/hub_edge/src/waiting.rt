@@ -1,9 +1,9 @@
 //! Waits with a limit.
 use libc::net::{POLLIN, poll};
 use libc::types::pollfd;
-use std::io;
 use std::os::fd::{AsRawFd, RawFd};
 use std::time::{Duration, Instant};
+use std::{io, thread};
 
 /// What is left of a time that began at an instant. `None`: it is over.
 pub(crate) fn time_left(
@@ -15,6 +15,17 @@ pub(crate) fn time_left(
         Some(left) if !left.is_zero() => Some(left),
         _ => None,
     })
+}
+
+/// Whether a time that began at an instant is over.
+pub(crate) fn is_over(rt: &HostRuntime, begun: Instant, limit: Duration) -> io::Result<bool> {
+    Ok(time_left(rt, begun, limit)?.is_none())
+}
+
+/// Sleeps so many milliseconds, and says how many it should be the next time: twice as many, up to 50.
+pub(crate) fn pause(rt: &HostRuntime, millis: u64) -> u64 {
+    thread::sleep(rt, Duration::from_millis(millis));
+    millis.saturating_mul(2).min(50)
 }
 
 /// A descriptor whose bytes, connections or end are waited for.
