@@ -1,5 +1,5 @@
 -- A GET by a token is read as that alone.
-use Rattle.std.proofs.Common.{◌≡◌, ◌<◌, arith, ℕ, Bool, true, false, not, ◌&&◌, List, [], ◌∷◌, ◌++◌, length, reverse, filter, map, nat_lt, codes, Option, Some, None, All, append_assoc, refl, sym, ap, ◌∙◌, subst, if◌then◌else◌}
+use Rattle.std.proofs.Common.{◌≡◌, ◌<◌, ◌≤◌, arith, ℕ, Bool, true, false, not, ◌&&◌, List, [], ◌∷◌, ◌++◌, length, reverse, filter, map, nat_lt, codes, Option, Some, None, All, append_assoc, refl, sym, ap, ◌∙◌, subst, if◌then◌else◌}
 use Rattle.std.specs.List.{list_all}
 use Rattle.std.proofs.lemmas.Bool.{lt-ltb}
 use Rattle.std.proofs.lemmas.List.{append-nil, reverse-append, length-reverse}
@@ -10,9 +10,9 @@ use Rattle.httparse.specs.Grammar.{Field, IsField, crlf, print_section, is_token
 use Rattle.httparse.proofs.GrammarLemmas.{request_unique}
 use Rattle.httparse.proofs.TrimLemmas.{AllPass-reverse, trim_ows_space}
 use Rattle.http_wire.specs.Head.{head_of, header_of}
-use Rattle.http_wire.specs.Request.{request_of}
+use Rattle.http_wire.specs.Request.{request_of, IsRequestText}
 use Rattle.http_wire.specs.Token.{token_of, token_in}
-use Rattle.http_wire.specs.Wire.{HasPath}
+use Rattle.http_wire.specs.Wire.{HasPath, head_limit}
 use Rattle.http_wire.specs.Words.{is_blank, words}
 use Rattle.access_laws.specs.Asks.{OnlyReads, get_text, get_of, IsWord, IsTarget}
 
@@ -162,3 +162,22 @@ gets_read target token t w other text more is same =
     is.value
     ∙ (ap (λ (h : RequestHead). request_of (head_of h) other.body) one.0
     ∙ (ap (λ (b : List ℕ). request_of (head_of head) b) (front_empty other.body more one.1) ∙ made target token w))
+
+-- ---- the bytes as a text of the request
+
+pub gets_are_texts : (target token : List ℕ) → IsTarget target → IsWord token → length (get_text target token) ≤ head_limit
+    → IsRequestText (get_of target token) (get_text target token)
+unfolding trim_ows
+gets_are_texts target token t w short =
+    let head = head_for target token in record {
+      head = head;
+      served = record {
+        valid = head_is target token t w;
+        path = t.path;
+        size = subst (λ (b : List ℕ). length b ≤ head_limit) (printed target token) short;
+        headers = omega arith;
+      };
+      due = refl;
+      value = sym (made target token w);
+      printed = printed target token ∙ sym (append-nil (print_request head));
+    }

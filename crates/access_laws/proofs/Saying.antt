@@ -20,6 +20,7 @@ use Rattle.scope_filters.specs.declared.scope.RawScope.{RawScope}
 use Rattle.scope_names.specs.declared.action.Action.TheVariants.{AccessServers, ReadUsers, ReadUsersGroups, ReadUsersActivity, ReadRolesUsers, ReadServers, ReadRolesServices}
 use Rattle.request_parts.specs.Bodies.{◌>>=◌, if_object, object_in, body_object, truth_at}
 use Rattle.guard.specs.Access.{access_in}
+use Rattle.access_laws.specs.Bodies.{SaysSo}
 use Rattle.hub_kit.specs.declared.names.ServerKey.{ServerKey}
 use Rattle.hub_kit.specs.MomentTexts.{moment_text}
 use Rattle.hub_view.specs.Fields.{Rights, user_identity, service_identity, user_members, service_members, scopes_member, servers_member, shown_servers, named_server, is_shown, has_any}
@@ -30,7 +31,7 @@ use Rattle.hub_view.specs.declared.facts.ServerFacts.{ServerFacts}
 use Rattle.hub_view.specs.declared.facts.UserFacts.{UserFacts}
 use Rattle.server_life.specs.declared.life.Phase.{Phase}
 use Rattle.server_life.specs.declared.life.Phase.TheVariants.{Stopped, Adopting, Spawning, Routing, Ready}
-use Rattle.access_laws.proofs.Trees.{IsTree, line_tree, truth_tree, nothing_tree, maybe_tree, lines_tree, MembersTree, ValueIsTree, members_tree, pairs_tree, all_then, all_member, all_map}
+use Rattle.access_laws.proofs.Trees.{IsTree, line_tree, truth_tree, nothing_tree, maybe_tree, lines_tree, MembersTree, MembersNumberless, members_numbers, members_read, ValueIsTree, members_tree, pairs_tree, all_then, all_member, all_map}
 
 abbrev pub access : List ℕ
 access = codes "access"
@@ -179,63 +180,60 @@ front_stays json.no_members d rest m others is = (rest, cc is)
 front_stays (json.member k j ms) d rest m others is =
     put_behind k d rest ms m others.0 (λ e read. front_stays ms d (put k e rest) m others.1 read) (of_json j) is
 
-same_truth : (a b : Bool) → Some a ≡ Some b → b ≡ a
-same_truth a b e = cc e
-
-object_says : (b said : Bool) (ms : json.Members) → AreOthers ms
-    → ((option_map object (of_members ms (member access (boolean b) no_members)) >>= if_object) >>= truth_at access) ≡ Some said → said ≡ b
+object_says : (b : Bool) (ms : json.Members) → AreOthers ms → MembersNumberless ms
+    → ((option_map object (of_members ms (member access (boolean b) no_members)) >>= if_object) >>= truth_at access) ≡ Some b
 unfolding truth_at
-object_says b said ms others is = after (of_members ms (member access (boolean b) no_members)) refl is
-  where
-    after : (read : Option Members) → of_members ms (member access (boolean b) no_members) ≡ read
-        → ((option_map object read >>= if_object) >>= truth_at access) ≡ Some said → said ≡ b
-    after None there is = absurd (cc is)
-    after (Some m) there is =
-        let front = front_stays ms (boolean b) no_members m others there in
-        same_truth b said (sym (ap (λ (found : Members). get_member access found >>= as_bool) front.1) ∙ is)
+object_says b ms others none =
+    let (m, there) = members_read ms (member access (boolean b) no_members) none in
+    let front = front_stays ms (boolean b) no_members m others there in
+    ap (λ (read : Option Members). (option_map object read >>= if_object) >>= truth_at access) there
+    ∙ ap (λ (found : Members). get_member access found >>= as_bool) front.1
 
 -- a text that isn't UTF-8 says nothing
-if_utf8 : (good : Bool) (found : Option Data) (said : Bool) → ((if good then found else None) >>= truth_at access) ≡ Some said → (found >>= truth_at access) ≡ Some said
-if_utf8 true found said is = is
-if_utf8 false found said is = absurd (cc is)
+if_utf8 : (good : Bool) (found : Option Data) (b : Bool) → (found >>= truth_at access) ≡ Some b
+    → ((if good then found else None) >>= truth_at access) ≡ (if good then Some b else None)
+if_utf8 true found b is = is
+if_utf8 false found b is = refl
 
-pub body_says : (b : Bool) (ms : List Member) → AllByRecursion IsBeside ms → (said : Bool) → access_in (print (pairs ((access, truth b) ∷ ms))) ≡ Some said → said ≡ b
+pub body_says : (b : Bool) (ms : List Member) → AllByRecursion IsBeside ms → SaysSo (print (pairs ((access, truth b) ∷ ms))) b
 unfolding body_object print_from
-body_says b ms all said is =
+body_says b ms all =
     let beside = members_tree ms 3 (trees ms all) in
     let tree : json.Json = json.object (json.member access (json.boolean b) beside.tree) in
     let text : List ℕ = print (pairs ((access, truth b) ∷ ms)) in
     let same : pairs ((access, truth b) ∷ ms) ≡ json_tokens tree = ap (λ ts. token.begin_object ∷ token.key access ∷ token.boolean b ∷ ts) beside.is in
     let all_tokens : tokens text ≡ json_tokens tree ++ [] =
-    ap (λ (ts : Json). tokens (print ts)) same ∙ (tokens-print (json_tokens tree) (ArePrintable-json_tokens tree (tt, beside.numbers)) ∙ sym (append-nil (json_tokens tree))) in
+    ap (λ (ts : Json). tokens (print ts)) same
+    ∙ (tokens-print (json_tokens tree) (ArePrintable-json_tokens tree (tt, members_numbers beside.tree beside.numbers)) ∙ sym (append-nil (json_tokens tree))) in
     let reads : read text ≡ of_json tree =
     ap (λ (ts : Json). option_and_then of_json (option_and_then (λ p. json.if_last p.0 p.1) (json.value max_depth ts))) all_tokens
     ∙ ap (λ r. option_and_then of_json (option_and_then (λ p. json.if_last p.0 p.1) r)) (value-json_tokens tree max_depth [] (omega (arith, beside.shallow))) in
-    object_says b said beside.tree (names ms all)
-    (sym (ap (λ (r : Option Data). (r >>= if_object) >>= truth_at access) reads) ∙ if_utf8 (is_utf8 text) (object_in text) said is)
+    if_utf8 (is_utf8 text) (object_in text) b
+    (ap (λ (r : Option Data). (r >>= if_object) >>= truth_at access) reads ∙ object_says b beside.tree (names ms all) beside.numbers)
 
-pub user_says : (may : Rights) (u : UserFacts) (scopes : List RawScope) (server : ServerKey) (said : Bool)
-    → access_in (print (user_identity may u scopes (Some server))) ≡ Some said → said ≡ may AccessServers (Ob.Server server)
-user_says may u scopes server said =
+pub user_says : (may : Rights) (u : UserFacts) (scopes : List RawScope) (server : ServerKey)
+    → SaysSo (print (user_identity may u scopes (Some server))) (may AccessServers (Ob.Server server))
+user_says may u scopes server =
     body_says (may AccessServers (Ob.Server server)) (user_members may true u ++ scopes_member scopes ++ servers_member may u)
     (all_then IsBeside (user_members may true u ++ scopes_member scopes) (servers_member may u)
     (all_then IsBeside (user_members may true u) (scopes_member scopes) (user_beside may u) (scopes_beside scopes))
-    (servers_beside may u)) said
+    (servers_beside may u))
 
-pub service_says : (may : Rights) (service : List ℕ) (roles : List (List ℕ)) (scopes : List RawScope) (server : ServerKey) (said : Bool)
-    → access_in (print (service_identity may service roles scopes (Some server))) ≡ Some said → said ≡ may AccessServers (Ob.Server server)
-service_says may service roles scopes server said =
+pub service_says : (may : Rights) (service : List ℕ) (roles : List (List ℕ)) (scopes : List RawScope) (server : ServerKey)
+    → SaysSo (print (service_identity may service roles scopes (Some server))) (may AccessServers (Ob.Server server))
+service_says may service roles scopes server =
     body_says (may AccessServers (Ob.Server server)) (service_members may true service roles ++ scopes_member scopes)
-    (all_then IsBeside (service_members may true service roles) (scopes_member scopes) (service_beside may service roles) (scopes_beside scopes)) said
+    (all_then IsBeside (service_members may true service roles) (scopes_member scopes) (service_beside may service roles) (scopes_beside scopes))
 
 -- ---- null
 
-null_says : (said : Bool) → ((of_json json.null >>= if_object) >>= truth_at access) ≡ Some said → ⊥
-null_says said is = cc is
+if_none : (good : Bool) (found : Option Data) → (found >>= truth_at access) ≡ None → ((if good then found else None) >>= truth_at access) ≡ None
+if_none true found is = is
+if_none false found is = refl
 
-pub nothing_says : (said : Bool) → access_in (print nothing) ≡ Some said → ⊥
+pub nothing_says : access_in (print nothing) ≡ None
 unfolding body_object print_from
-nothing_says said is =
+nothing_says =
     let tree : json.Json = json.null in
     let text : List ℕ = print nothing in
     let all_tokens : tokens text ≡ json_tokens tree ++ [] =
@@ -243,5 +241,4 @@ nothing_says said is =
     let reads : read text ≡ of_json tree =
     ap (λ (ts : Json). option_and_then of_json (option_and_then (λ p. json.if_last p.0 p.1) (json.value max_depth ts))) all_tokens
     ∙ ap (λ r. option_and_then of_json (option_and_then (λ p. json.if_last p.0 p.1) r)) (value-json_tokens tree max_depth [] (omega arith)) in
-    null_says said
-    (sym (ap (λ (r : Option Data). (r >>= if_object) >>= truth_at access) reads) ∙ if_utf8 (is_utf8 text) (object_in text) said is)
+    if_none (is_utf8 text) (object_in text) (ap (λ (r : Option Data). (r >>= if_object) >>= truth_at access) reads)

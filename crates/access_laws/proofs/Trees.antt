@@ -1,15 +1,80 @@
--- The tokens of a body as those of a tree: no number stands in them, and they nest no deeper than so.
-use Rattle.std.proofs.Common.{◌≡◌, ℕ, suc, ◌≤◌, arith, Bool, true, false, List, [], ◌∷◌, ◌++◌, map, Option, Some, None, refl, ap, ◌∙◌}
+-- The tokens of a body as those of a tree: no number stands in them, so they are read, and they nest no deeper than so.
+use Rattle.std.proofs.Common.{◌≡◌, ℕ, suc, ◌≤◌, arith, Bool, true, false, List, [], ◌∷◌, ◌++◌, map, Option, Some, None, option_map, option_and_then, refl, ap, ◌∙◌}
 use Rattle.std.specs.List.{AllByRecursion}
 use Rattle.json.specs.Token as token
 use Rattle.json.specs.Json as json
 use Rattle.json.specs.Tree.{json_tokens, items_tokens, members_tokens, depth, items_depth, members_depth, HasNumbers, ItemsHaveNumbers, MembersHaveNumbers}
+use Rattle.serde_json.specs.Data.{Data, null, boolean, string, array, object, Items, no_items, item, Members, no_members, put}
+use Rattle.serde_json.specs.Read.{of_json, of_items, of_members}
 use Rattle.hub_view.specs.Json.{Json, Member, line, lines, truth, nothing, maybe, items_on, pairs, pairs_on, member}
+
+-- no number stands in it
+abbrev mutual
+  pub IsNumberless : json.Json → Type 0
+  IsNumberless json.null = Unit {0}
+  IsNumberless (json.boolean b) = Unit {0}
+  IsNumberless (json.number s) = ⊥
+  IsNumberless (json.string s) = Unit {0}
+  IsNumberless (json.array js) = ItemsNumberless js
+  IsNumberless (json.object ms) = MembersNumberless ms
+
+  pub ItemsNumberless : json.Items → Type 0
+  ItemsNumberless json.no_items = Unit {0}
+  ItemsNumberless (json.item j js) = IsNumberless j × ItemsNumberless js
+
+  pub MembersNumberless : json.Members → Type 0
+  MembersNumberless json.no_members = Unit {0}
+  MembersNumberless (json.member k j ms) = IsNumberless j × MembersNumberless ms
+
+mutual
+  json_numbers : (j : json.Json) → IsNumberless j → HasNumbers j
+  json_numbers json.null none = tt
+  json_numbers (json.boolean b) none = tt
+  json_numbers (json.number s) none = absurd none
+  json_numbers (json.string s) none = tt
+  json_numbers (json.array js) none = items_numbers js none
+  json_numbers (json.object ms) none = members_numbers ms none
+
+  items_numbers : (js : json.Items) → ItemsNumberless js → ItemsHaveNumbers js
+  items_numbers json.no_items none = tt
+  items_numbers (json.item j js) none = (json_numbers j none.0, items_numbers js none.1)
+
+  pub members_numbers : (ms : json.Members) → MembersNumberless ms → MembersHaveNumbers ms
+  members_numbers json.no_members none = tt
+  members_numbers (json.member k j ms) none = (json_numbers j none.0, members_numbers ms none.1)
+
+-- so it is read whatever it says
+mutual
+  json_reads : (j : json.Json) → IsNumberless j → (d : Data) × (of_json j ≡ Some d)
+  json_reads json.null none = (null, refl)
+  json_reads (json.boolean b) none = (boolean b, refl)
+  json_reads (json.number s) none = absurd none
+  json_reads (json.string s) none = (string s, refl)
+  json_reads (json.array js) none = let (read, is) = items_read js none in (array read, ap (λ (o : Option Items). option_map array o) is)
+  json_reads (json.object ms) none =
+      let (read, is) = members_read ms no_members none in (object read, ap (λ (o : Option Members). option_map object o) is)
+
+  items_read : (js : json.Items) → ItemsNumberless js → (read : Items) × (of_items js ≡ Some read)
+  items_read json.no_items none = (no_items, refl)
+  items_read (json.item j js) none =
+      let (d, first) = json_reads j none.0 in
+      let (more, rest) = items_read js none.1 in (
+        item d more,
+        ap (λ (o : Option Data). option_and_then (λ e. option_map (item e) (of_items js)) o) first
+            ∙ ap (λ (o : Option Items). option_map (item d) o) rest,
+      )
+
+  pub members_read : (ms : json.Members) (found : Members) → MembersNumberless ms → (read : Members) × (of_members ms found ≡ Some read)
+  members_read json.no_members found none = (found, refl)
+  members_read (json.member k j ms) found none =
+      let (d, first) = json_reads j none.0 in
+      let (read, rest) = members_read ms (put k d found) none.1 in
+      (read, ap (λ (o : Option Data). option_and_then (λ e. of_members ms (put k e found)) o) first ∙ rest)
 
 pub record IsTree (ts : Json) (d : ℕ) : Type 0 where
   pub tree : json.Json
   pub is : ts ≡ json_tokens tree
-  pub numbers : HasNumbers tree
+  pub numbers : IsNumberless tree
   pub shallow : depth tree ≤ d
 
 pub line_tree : (s : List ℕ) (d : ℕ) → IsTree (line s) d
@@ -30,7 +95,7 @@ maybe_tree f d each (Some x) = each x
 pub record ItemsTree (js : List Json) (d : ℕ) : Type 0 where
   pub tree : json.Items
   pub is : items_on js ≡ items_tokens tree
-  pub numbers : ItemsHaveNumbers tree
+  pub numbers : ItemsNumberless tree
   pub shallow : items_depth tree ≤ d
 
 line_items : (ss : List (List ℕ)) (d : ℕ) → ItemsTree (map line ss) d
@@ -57,7 +122,7 @@ lines_tree ss d =
 pub record MembersTree (ms : List Member) (d : ℕ) : Type 0 where
   pub tree : json.Members
   pub is : pairs_on ms ≡ members_tokens tree
-  pub numbers : MembersHaveNumbers tree
+  pub numbers : MembersNumberless tree
   pub shallow : members_depth tree ≤ d
 
 abbrev pub ValueIsTree : ℕ → Member → Type 0

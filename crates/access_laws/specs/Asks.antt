@@ -1,5 +1,5 @@
 -- The requests that have a path and a token, and nothing else.
-use Rattle.std.specs.Prelude.{◌≡◌, ◌<◌, ℕ, true, false, not, List, [], ◌++◌, length, codes, Some, None, IsUtf8}
+use Rattle.std.specs.Prelude.{◌≡◌, ◌<◌, ◌≤◌, ◌+◌, ℕ, true, false, not, List, [], ◌++◌, length, codes, Some, None, IsUtf8}
 use Rattle.std.specs.List.{list_all}
 use Rattle.std.specs.Str.{is_utf8}
 use Rattle.guard.specs.Access.{access_request}
@@ -8,7 +8,7 @@ use Rattle.http_wire.specs.Head.{head_of}
 use Rattle.http_wire.specs.Request.{IsRequestText}
 use Rattle.http_wire.specs.Target.{path_of, query_of}
 use Rattle.http_wire.specs.Token.{token_of}
-use Rattle.http_wire.specs.Wire.{HasPath}
+use Rattle.http_wire.specs.Wire.{HasPath, head_limit}
 use Rattle.http_wire.specs.Words.{is_blank}
 use Rattle.http_wire.specs.declared.request.Request.{Request}
 use Rattle.hub_kit.specs.Names.{IsName, IsServerName}
@@ -52,6 +52,12 @@ pub record IsTarget (target : List ℕ) : Type 0 where
 abbrev pub GetsRead : Type 0
 GetsRead = (target token : List ℕ) → IsTarget target → IsWord token → OnlyReads (get_text target token) (get_of target token)
 
+-- and where they are no more than a head may be, they are a text of that request
+abbrev pub GetsAreTexts : Type 0
+GetsAreTexts =
+    (target token : List ℕ) → IsTarget target → IsWord token → length (get_text target token) ≤ head_limit
+    → IsRequestText (get_of target token) (get_text target token)
+
 -- ---- the ask of a guard
 
 abbrev pub access_target : ServerKey → List ℕ
@@ -62,3 +68,14 @@ abbrev pub AccessIsAsked : Type 0
 AccessIsAsked =
     (key : ServerKey) (head : RequestHead) (token : List ℕ) → IsName key.user → IsServerName key.server → IsRequestHead head
     → token_of (head_of head).headers ≡ Some token → OnlyReads (access_request key token) (get_of (access_target key) token)
+
+-- so many bytes its head has beside the names and the token
+abbrev pub ask_size : ℕ
+ask_size = 89
+
+-- where it is no more than a head may be, it is a text of that request
+abbrev pub AccessIsText : Type 0
+AccessIsText =
+    (key : ServerKey) (head : RequestHead) (token : List ℕ) → IsName key.user → IsServerName key.server → IsRequestHead head
+    → token_of (head_of head).headers ≡ Some token → ask_size + length key.user + length key.server + length token ≤ head_limit
+    → IsRequestText (get_of (access_target key) token) (access_request key token)
