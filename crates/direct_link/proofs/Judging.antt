@@ -1,10 +1,11 @@
 -- What the hub's reply to an ask for access says of the state that it was answered in.
-use Rattle.std.proofs.Common.{◌≡◌, ◌↔◌, ◌==◌, if◌then◌else◌, inl, inr, ℕ, Bool, true, false, IsTrue, List, length, Option, Some, None, Result, Ok, Err, refl, sym, ap, ◌∙◌, subst}
+use Rattle.std.proofs.Common.{◌≡◌, ◌↔◌, ◌⊎◌, ◌<◌, ◌^◌, ◌==◌, if◌then◌else◌, inl, inr, ℕ, Bool, true, false, IsTrue, List, length, Option, Some, None, Result, Ok, Err, refl, sym, ap, ◌∙◌, subst}
 use Rattle.std.specs.FinMap.{get}
+use Rattle.std.specs.Str.{is_utf8}
 use mathlib.Core.List.{IsPrefix}
 use Rattle.json.specs.Print.{print}
 use Rattle.http_wire.specs.declared.request.Request.{Request}
-use Rattle.guard.specs.Access.{access_in, access_said, access_by, access_of, IsAccessOf}
+use Rattle.guard.specs.Access.{access_in, access_said, access_by, IsAccessOf}
 use Rattle.guard.specs.declared.access.Access.{Access}
 use Rattle.guard.specs.declared.access.Access.TheVariants.{Yes, No, NoToken, BadReply}
 use Rattle.access_laws.specs.Bodies.{UsersBodySays, ServicesBodySays, NothingSays}
@@ -17,7 +18,7 @@ use Rattle.hub_core.specs.Judged.{JudgesCaller, JudgesToken}
 use Rattle.hub_core.specs.Visits.{Entry, Reached}
 use Rattle.hub_core.specs.declared.start.Start.{Start}
 use Rattle.hub_kit.specs.declared.names.ServerKey.{ServerKey}
-use Rattle.hub_link.specs.Replies.{IsReply, Says}
+use Rattle.hub_link.specs.Replies.{IsReply, IsNoReply}
 use Rattle.hub_machine.specs.Replies.{Answer, Reply, refuses, refuses_with, gives, changes, works, good_reply, refusal_reply, refusal_body, answered, working, outcome_of}
 use Rattle.hub_machine.specs.Replies as replies
 use Rattle.hub_machine.specs.State.{Hub}
@@ -31,7 +32,8 @@ use Rattle.hub_calls.specs.Facts.{facts_of}
 use Rattle.hub_rows.specs.declared.records.Token.{Token}
 use Rattle.hub_rows.specs.declared.records.User.{User}
 use Rattle.hub_tables.specs.Lookups.{roles_naming_service}
-use Rattle.hub_view.specs.Fields.{Rights}
+use Rattle.hub_view.specs.Fields.{Rights, user_identity, service_identity}
+use Rattle.hub_view.specs.Json.{Json, nothing}
 use Rattle.roles.specs.Rights.{IsAllowed}
 use Rattle.scope_filters.specs.declared.holder.Owner.{Owner}
 use Rattle.scope_filters.specs.declared.holder.Owner.TheVariants as Own
@@ -45,8 +47,8 @@ use Rattle.hub_run.specs.declared.routed.Way.{Way}
 use Rattle.hub_run.specs.Complete.{IsOf}
 use Rattle.reply_texts.specs.ReplyText.{reply_text, has_body}
 use Rattle.direct_link.specs.Answered.{IsTurnOf}
-use Rattle.direct_link.specs.Verdicts.{HoldsAt, Admits, Judges}
-use Rattle.direct_link.proofs.Replied.{read_as, is_200, is_403}
+use Rattle.direct_link.specs.Verdicts.{HoldsAt, Admits, IsGone, IsMute, Judges}
+use Rattle.direct_link.proofs.Replied.{short, read_as, reply_is, is_200, is_403}
 
 abbrev pub ask : List ℕ → ServerKey → Asked
 ask token server = record { token = Some token; seen = None; call = GetIdentity (Some server) }
@@ -237,17 +239,47 @@ let_in s now token server k may admitted good allowed is = (
       is ∙ allowed.1 (subst (λ (h : Token). IsAllowed s.tables h AccessServers (Ob.Server server)) same enters.allowed),
 )
 
+none_some_said : (said : Bool) (o : Option Bool) → o ≡ None → o ≡ Some said → ⊥
+none_some_said said o one two = cc
+
+said_is : (good may said : Bool) → (if good then Some may else None) ≡ Some said → said ≡ may
+said_is true may said is = cc is
+said_is false may said is = absurd (cc is)
+
+no_text : (good may : Bool) → (if good then Some may else None) ≡ None → good ≡ false
+no_text true may is = absurd (cc is)
+no_text false may is = refl
+
 module _ (users : UsersBodySays) (services : ServicesBodySays) (nothings : NothingSays) where
   -- the body says what the rights say
   of_user : (may : Rights) (s : Hub) (k : Token) (server : ServerKey) (found : Option User) (said : Bool)
       → access_in (print (identity_of_user may s k (Some server) found)) ≡ Some said → said ≡ may AccessServers (Ob.Server server)
-  of_user may s k server None said is = absurd (nothings said is)
-  of_user may s k server (Some u) said is = users may (facts_of s u) k.scopes server said is
+  of_user may s k server None said is = absurd (none_some_said said (access_in (print nothing)) nothings is)
+  of_user may s k server (Some u) said is =
+      said_is (is_utf8 (print (user_identity may (facts_of s u) k.scopes (Some server)))) (may AccessServers (Ob.Server server)) said
+      (sym (users may (facts_of s u) k.scopes server) ∙ is)
 
   of_owner : (may : Rights) (s : Hub) (k : Token) (server : ServerKey) (owner : Owner) (said : Bool)
       → access_in (print (identity may s k (Some server) owner)) ≡ Some said → said ≡ may AccessServers (Ob.Server server)
   of_owner may s k server (Own.User u) said is = of_user may s k server (get s.tables.users u) said is
-  of_owner may s k server (Own.Service v) said is = services may v (roles_naming_service s.tables v) k.scopes server said is
+  of_owner may s k server (Own.Service v) said is =
+      said_is (is_utf8 (print (service_identity may v (roles_naming_service s.tables v) k.scopes (Some server)))) (may AccessServers (Ob.Server server)) said
+      (sym (services may v (roles_naming_service s.tables v) k.scopes server) ∙ is)
+
+  -- where it says nothing, there is no such user, or it is no text
+  mute_user : (may : Rights) (s : Hub) (k : Token) (server : ServerKey) (found : Option User) → access_in (print (identity_of_user may s k (Some server) found)) ≡ None
+      → (found ≡ None) ⊎ (is_utf8 (print (identity_of_user may s k (Some server) found)) ≡ false)
+  mute_user may s k server None is = inl refl
+  mute_user may s k server (Some u) is =
+      inr (no_text (is_utf8 (print (user_identity may (facts_of s u) k.scopes (Some server)))) (may AccessServers (Ob.Server server))
+      (sym (users may (facts_of s u) k.scopes server) ∙ is))
+
+  mute_owner : (may : Rights) (s : Hub) (k : Token) (server : ServerKey) (owner : Owner) → access_in (print (identity may s k (Some server) owner)) ≡ None
+      → IsGone s owner ⊎ (is_utf8 (print (identity may s k (Some server) owner)) ≡ false)
+  mute_owner may s k server (Own.User u) is = mute_user may s k server (get s.tables.users u) is
+  mute_owner may s k server (Own.Service v) is =
+      inr (no_text (is_utf8 (print (service_identity may v (roles_naming_service s.tables v) k.scopes (Some server)))) (may AccessServers (Ob.Server server))
+      (sym (services may v (roles_naming_service s.tables v) k.scopes server) ∙ is))
 
   has_user : (may : Rights) (s : Hub) (k : Token) (server : ServerKey) (found : Option User) → has_body (identity_of_user may s k (Some server) found) ≡ true
   has_user may s k server None = refl
@@ -267,6 +299,11 @@ module _ (users : UsersBodySays) (services : ServicesBodySays) (nothings : Nothi
   no_of (Some true) e = absurd (cc e)
   no_of (Some false) e = refl
 
+  bad_of : (o : Option Bool) → BadReply ≡ access_said o → o ≡ None
+  bad_of None e = refl
+  bad_of (Some true) e = absurd (cc e)
+  bad_of (Some false) e = absurd (cc e)
+
   no_token_of : (o : Option Bool) → NoToken ≡ access_said o → ⊥
   no_token_of None e = cc e
   no_token_of (Some true) e = cc e
@@ -277,7 +314,7 @@ module _ (users : UsersBodySays) (services : ServicesBodySays) (nothings : Nothi
     out none Yes is = absurd (cc is)
     out none No is = absurd (cc is)
     out none NoToken is = at_visit start x y v s (Admits token server false) visits reached (kept_out s v.moment token server none)
-    out none BadReply is = tt
+    out none BadReply is = absurd (cc is)
 
     inside : (k : Token) (j : Judgement) → good_token s.tables v.moment (Some token) ≡ Some k → JudgesToken s.tables k (GetIdentity (Some server)) j
         → (access : Access) → access ≡ access_said (access_in (print (identity j.may s k (Some server) k.owner))) → Judges start x y token server access
@@ -290,54 +327,67 @@ module _ (users : UsersBodySays) (services : ServicesBodySays) (nothings : Nothi
         (let_in s v.moment token server k (j.may AccessServers (Ob.Server server)) false good (judged.may AccessServers (Ob.Server server))
         (of_owner j.may s k server k.owner false (no_of (access_in (print (identity j.may s k (Some server) k.owner))) is)))
     inside k j good judged NoToken is = absurd (no_token_of (access_in (print (identity j.may s k (Some server) k.owner))) is)
-    inside k j good judged BadReply is = tt
+    inside k j good judged BadReply is =
+        inr (at_visit start x y v s (IsMute token server) visits reached (record {
+          holder = k;
+          good = good;
+          rights = j.may;
+          exact = judged.may;
+          none = mute_owner j.may s k server k.owner (bad_of (access_in (print (identity j.may s k (Some server) k.owner))) is);
+        }))
 
   -- by what the reply says
-  said_access : (start : Start) (x y : View) (token : List ℕ) (server : ServerKey) (bytes : List ℕ) (status : ℕ) (body : List ℕ) (access : Access)
-      → Visited start x (ask token server) bytes y → IsReply bytes status body → access ≡ access_by status body → Judges start x y token server access
-  said_access start x y token server bytes status body access seen reply is = by found.0 found.1 found.2
-    where
-      v : Visit
-      v = seen.visit
+  module _ (start : Start) (x y : View) (token : List ℕ) (server : ServerKey) (bytes : List ℕ) (seen : Visited start x (ask token server) bytes y) where
+    abbrev v : Visit
+    v = seen.visit
 
-      s : Hub
-      s = (seen.said).state
+    abbrev s : Hub
+    s = (seen.said).state
 
-      n : ℕ
-      n = length (seen.visit).after
+    abbrev n : ℕ
+    n = length (seen.visit).after
 
-      found : (k : Option Token) × (good_token s.tables v.moment (Some token) ≡ k) × Identified s v.moment token server k (seen.said).answer
-      found = identified s v.moment v.draw token server (seen.said).answer (seen.said).answers
+    found : (k : Option Token) × (good_token s.tables v.moment (Some token) ≡ k) × Identified s v.moment token server k (seen.said).answer
+    found = identified s v.moment v.draw token server (seen.said).answer (seen.said).answers
 
-      by : (k : Option Token) → good_token s.tables v.moment (Some token) ≡ k → Identified s v.moment token server k (seen.said).answer → Judges start x y token server access
-      by None good a =
-          let same : seen.reply ≡ refusal_reply n NoValidToken =
-          same_reply seen.reply (refusal_reply n NoValidToken) ((seen.said).is ∙ ap (outcome_of n) a) in
-          let read = read_as 403 (refusal_body NoValidToken) (Some n) bytes status body refl is_403
-          (seen.is ∙ ap (λ (r : Reply). reply_text r true) same) reply in
-          out start x y v token server s seen.visits (seen.said).reached good access (is ∙ ap (λ (m : ℕ). access_by m body) read.0)
-      by (Some k) good (j, judged, a) =
-          let shown = identity j.may s k (Some server) k.owner in
-          let same : seen.reply ≡ good_reply n (replies.good 200 shown) =
-          same_reply seen.reply (good_reply n (replies.good 200 shown)) ((seen.said).is ∙ ap (outcome_of n) a) in
-          let read = read_as 200 shown (Some n) bytes status body (has_owner j.may s k server k.owner) is_200
-          (seen.is ∙ ap (λ (r : Reply). reply_text r true) same) reply in
-          inside start x y v token server s seen.visits (seen.said).reached k j good judged access
-          (is ∙ (ap (λ (m : ℕ). access_by m body) read.0 ∙ ap (λ (b : List ℕ). access_by 200 b) read.1))
+    refused_text : (seen.said).answer ≡ refuses NoValidToken → bytes ≡ reply_text (short 403 (refusal_body NoValidToken) (Some n)) true
+    refused_text a =
+        let same : seen.reply ≡ refusal_reply n NoValidToken = same_reply seen.reply (refusal_reply n NoValidToken) ((seen.said).is ∙ ap (outcome_of n) a) in
+        seen.is ∙ ap (λ (r : Reply). reply_text r true) same
 
-  pub judged : (start : Start) (x y : View) (token : List ℕ) (server : ServerKey) (bytes : List ℕ) (access : Access)
-      → Visited start x (ask token server) bytes y → IsAccessOf bytes access → Judges start x y token server access
-  judged start x y token server bytes access seen (said, says, is) = by said says is
-    where
-      bad : (access : Access) → access ≡ BadReply → Judges start x y token server access
-      bad Yes is = absurd (cc is)
-      bad No is = absurd (cc is)
-      bad NoToken is = absurd (cc is)
-      bad BadReply is = tt
+    given_text : (shown : Json) → (seen.said).answer ≡ gives (replies.good 200 shown) → bytes ≡ reply_text (short 200 shown (Some n)) true
+    given_text shown a =
+        let same : seen.reply ≡ good_reply n (replies.good 200 shown) =
+        same_reply seen.reply (good_reply n (replies.good 200 shown)) ((seen.said).is ∙ ap (outcome_of n) a) in
+        seen.is ∙ ap (λ (r : Reply). reply_text r true) same
 
-      by : (said : Option (ℕ × List ℕ)) → Says bytes said → access ≡ access_of said → Judges start x y token server access
-      by None says is = bad access is
-      by (Some (status, body)) says is = said_access start x y token server bytes status body access seen says is
+    said_access : (status : ℕ) (body : List ℕ) (access : Access) → IsReply bytes status body → access ≡ access_by status body → Judges start x y token server access
+    said_access status body access reply is = by found.0 found.1 found.2
+      where
+        by : (k : Option Token) → good_token s.tables v.moment (Some token) ≡ k → Identified s v.moment token server k (seen.said).answer → Judges start x y token server access
+        by None good a =
+            let read = read_as 403 (refusal_body NoValidToken) (Some n) bytes status body refl is_403 (refused_text a) reply in
+            out start x y v token server s seen.visits (seen.said).reached good access (is ∙ ap (λ (m : ℕ). access_by m body) read.0)
+        by (Some k) good (j, judged, a) =
+            let shown = identity j.may s k (Some server) k.owner in
+            let read = read_as 200 shown (Some n) bytes status body (has_owner j.may s k server k.owner) is_200 (given_text shown a) reply in
+            inside start x y v token server s seen.visits (seen.said).reached k j good judged access
+            (is ∙ (ap (λ (m : ℕ). access_by m body) read.0 ∙ ap (λ (b : List ℕ). access_by 200 b) read.1))
+
+    -- the bytes are a reply
+    is_one : length bytes < 2 ^ 64 → IsNoReply bytes → ⊥
+    is_one fits none = by found.0 found.2
+      where
+        by : (k : Option Token) → Identified s v.moment token server k (seen.said).answer → ⊥
+        by None a =
+            none 403 (print (refusal_body NoValidToken)) (reply_is 403 (refusal_body NoValidToken) (Some n) bytes refl is_403 (refused_text a) fits)
+        by (Some k) (j, judged, a) =
+            let shown = identity j.may s k (Some server) k.owner in
+            none 200 (print shown) (reply_is 200 shown (Some n) bytes (has_owner j.may s k server k.owner) is_200 (given_text shown a) fits)
+
+    pub judged : (access : Access) → length bytes < 2 ^ 64 → IsAccessOf bytes access → Judges start x y token server access
+    judged access fits (None, says, is) = absurd (is_one fits says)
+    judged access fits (Some (status, body), says, is) = said_access status body access says is
 
 -- an ask for access changes nothing
 pub asks_nothing : (token : List ℕ) (server : ServerKey) → ChangesNothing (ask token server)

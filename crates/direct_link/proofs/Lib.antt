@@ -3,6 +3,7 @@ pub mod Chains
 pub mod Turned
 pub mod Unread
 pub mod Replied
+pub mod Fronts
 pub mod Judging
 pub mod Calls
 pub mod Deciding

@@ -1,12 +1,21 @@
 -- The one turn of an ask.
-use Rattle.std.proofs.Common.{◌≡◌, ◌≢◌, ◌⊎◌, inl, inr, ◌++◌, ℕ, Bool, true, false, List, [], ◌∷◌, Option, Some, Result, Ok, append_assoc, refl, sym, ap, ◌∙◌, subst}
+use Rattle.std.proofs.Common.{◌≡◌, ◌≢◌, ◌⊎◌, inl, inr, arith, ◌++◌, ℕ, Bool, true, false, List, [], ◌∷◌, Option, Some, Result, Ok, Err, append_assoc, append-nil, refl, sym, ap, ◌∙◌, subst}
 use Rattle.std.specs.List.{flat_map}
 use Rattle.std.proofs.lemmas.List.Elements.{recursion_from_All}
 use Rattle.hub_devices.specs.Streams.{Appends}
+use Rattle.http_wire.specs.Body.{RequestRefusedAt, WithinRequest}
+use Rattle.http_wire.specs.Request.{IsRequestText}
+use Rattle.http_wire.specs.Requests.{RequestNext}
+use Rattle.http_wire.specs.Told.{IsOfBytes}
 use Rattle.http_wire.specs.Took.{Took}
+use Rattle.http_wire.specs.declared.error.WireError.{WireError}
+use Rattle.http_wire.specs.declared.error.WireError.TheVariants as wire
+use Rattle.http_wire.proofs.RequestLemmas.{request_next, next_request_once}
 use Rattle.http_wire.specs.declared.error.SessionFault.{SessionFault}
 use Rattle.http_wire.specs.declared.request.Request.{Request}
+use Rattle.hub_api.specs.Refusals.{wire_refusal}
 use Rattle.hub_core.specs.declared.start.Start.{Start}
+use Rattle.hub_machine.specs.Replies.{Reply}
 use Rattle.hub_run.specs.Complete.{IsOf}
 use Rattle.hub_run.specs.Connections.{ConnectionEnds, Ran, IsOpenTurn, IsLast}
 use Rattle.hub_run.specs.Turns.{Turn, View, Turns, TurnAt, IsRight, Moves, closes, turn_text, refusal_text, request_bytes, visited, worked, declined, undrawn, refused, unsaid, unfinished, wanting, routed, unrouted}
@@ -14,7 +23,7 @@ use Rattle.hub_run.specs.declared.served.Served.{Served}
 use Rattle.hub_run.specs.declared.served.Served.TheVariants.{Ended, Cut, Closed}
 use Rattle.reply_texts.specs.ReplyText.{no_memory}
 use Rattle.access_laws.specs.Asks.{OnlyReads}
-use Rattle.direct_link.specs.Answered.{IsTurnOf, IsUnread}
+use Rattle.direct_link.specs.Answered.{IsTurnOf, IsUnread, IsRefused}
 use Rattle.direct_link.specs.Direct.{Direct, Connects}
 
 -- ---- what was taken and said
@@ -87,17 +96,43 @@ no_turn start q request left held left' held' (t ∷ ts) ahead tail only close i
     absurd (none_open start q request ((flat_map request_bytes ts ++ ahead) ++ more) t only close (first_of request t ts ahead more front)
     (recursion_from_All (IsOpenTurn start) (t ∷ ts) ran.each).0)
 
+-- ---- what is refused is no text of a request
+
+-- the request got its turn, or was no text of one
+abbrev pub Comes : Start → View → View → Request → List ℕ → List ℕ → Type 0
+Comes start x y q request bytes = IsTurnOf start x q bytes y ⊎ IsRefused request q bytes
+
+of_bytes : (e : WireError) (r : Reply) → wire_refusal e ≡ Some r → IsOfBytes e
+of_bytes wire.BadHead r is = tt
+of_bytes (wire.TooLarge n) r is = tt
+of_bytes wire.Coding r is = tt
+of_bytes wire.Ended r is = tt
+of_bytes wire.Cut r is = tt
+of_bytes wire.ReadFault r is = cc is
+of_bytes wire.Memory r is = cc is
+
+never_both_next : (a b : Result Request WireError) (q : Request) (e : WireError) → a ≡ Ok q → b ≡ Err e → a ≡ b → ⊥
+never_both_next a b q e one two same = cc
+
+no_text : (q : Request) (request gone rest : List ℕ) (left : Option (List ℕ)) (e : WireError) → IsOfBytes e → WithinRequest gone
+    → Took (Some request) [] left (gone ++ rest) → RequestRefusedAt left (gone ++ rest) e → IsRequestText q request → ⊥
+no_text q request gone rest left e decided within took why text =
+    let there : RequestNext request (Err e) =
+    request_next request [] rest (Some request) left (Err e) tt (gone, within, took, why) refl decided in
+    let here : RequestNext request (Ok q) = (request, [], text, sym (append-nil request)) in
+    never_both_next (Ok q) (Err e) q e refl refl (next_request_once request (Ok q) (Err e) here there)
+
 -- ---- the last turn
 
 behind : (request ahead text rest more : List ℕ) → request ≡ ahead ++ more → ahead ≡ text ++ rest → request ≡ text ++ (rest ++ more)
 behind request ahead text rest more is at = is ∙ (ap (λ b. b ++ more) at ∙ append_assoc text rest more)
 
 last_turn : (start : Start) (x y z : View) (q : Request) (request bytes ahead rest more : List ℕ) (left : Option (List ℕ)) (t : Turn)
-    → OnlyReads request q → request ≡ ahead ++ more → TurnAt start left ahead t rest → Moves x t z → y ≡ z → bytes ≡ turn_text t true → bytes ≢ no_memory
-    → IsTurnOf start x q bytes y ⊎ IsUnread bytes
-last_turn start x y z q request bytes ahead rest more left t only is at moves same said kept = by t at moves said
+    → OnlyReads request q → request ≡ ahead ++ more → Took (Some request) [] left ahead → TurnAt start left ahead t rest → Moves x t z → y ≡ z → bytes ≡ turn_text t true → bytes ≢ no_memory
+    → Comes start x y q request bytes
+last_turn start x y z q request bytes ahead rest more left t only is took at moves same said kept = by t at moves said
   where
-    turned : (t : Turn) → IsRight start t → ahead ≡ request_bytes t ++ rest → Moves x t z → bytes ≡ turn_text t true → IsTurnOf start x q bytes y ⊎ IsUnread bytes
+    turned : (t : Turn) → IsRight start t → ahead ≡ request_bytes t ++ rest → Moves x t z → bytes ≡ turn_text t true → Comes start x y q request bytes
     turned t right stands moves said = inl (record {
       turn = t;
       of = right_of start q request (rest ++ more) t only (behind request ahead (request_bytes t) rest more is stands) right;
@@ -106,13 +141,18 @@ last_turn start x y z q request bytes ahead rest more left t only is at moves sa
       said = said;
     })
 
-    by : (t : Turn) → TurnAt start left ahead t rest → Moves x t z → bytes ≡ turn_text t true → IsTurnOf start x q bytes y ⊎ IsUnread bytes
+    by : (t : Turn) → TurnAt start left ahead t rest → Moves x t z → bytes ≡ turn_text t true → Comes start x y q request bytes
     by (visited text p v r) at moves said = turned (visited text p v r) at.0 at.1 moves said
     by (worked text p v e r) at moves said = turned (worked text p v e r) at.0 at.1 moves said
     by (routed text p v a r) at moves said = turned (routed text p v a r) at.0 at.1 moves said
     by (declined text p e) at moves said = turned (declined text p e) at.0 at.1 moves said
     by (undrawn text p) at moves said = turned (undrawn text p) at.0 at.1 moves said
-    by (refused e) at moves said = inr (inr (e, at.0, at.2, said ∙ ap (λ o. refusal_text o true) at.2))
+    by (refused e) at moves said = inr (
+      inr (e, at.0, at.2, said ∙ ap (λ o. refusal_text o true) at.2),
+      λ text.
+          no_text q request at.1 rest left e (of_bytes e at.0 at.2) at.3 (subst (λ (b : List ℕ). Took (Some request) [] left b) at.4 took)
+          (subst (λ (b : List ℕ). RequestRefusedAt left b e) at.4 at.5) text,
+    )
     by (unsaid text p v) at moves said = absurd (kept said)
     by (unfinished text p v e) at moves said = absurd (kept said)
     by (unrouted text p v a) at moves said = absurd (kept said)
@@ -122,39 +162,47 @@ last_turn start x y z q request bytes ahead rest more left t only is at moves sa
 
 module _ (start : Start) (x y : View) (q : Request) (request bytes : List ℕ) (only : OnlyReads request q) (close : q.close ≡ true) where
   -- without a turn nothing was written
-  unturned : (left : Option (List ℕ)) (said : List ℕ) (turns : List Turn) (ahead : List ℕ) → bytes ≡ said
-      → Ran start (Some request) (Some []) left (Some said) turns ahead [] → IsTurnOf start x q bytes y ⊎ IsUnread bytes
-  unturned left said turns ahead is ran =
+  unturned : (left : Option (List ℕ)) (said : List ℕ) (turns : List Turn) (ahead : List ℕ) (e : WireError) → IsOfBytes e → RequestRefusedAt left ahead e
+      → bytes ≡ said → Ran start (Some request) (Some []) left (Some said) turns ahead [] → Comes start x y q request bytes
+  unturned left said turns ahead e decided why is ran =
       let none : turns ≡ [] = no_turn start q request (Some request) (Some []) left (Some said) turns ahead [] only close refl ran in
       let here : Ran start (Some request) (Some []) left (Some said) [] ahead [] =
       subst (λ (ts : List Turn). Ran start (Some request) (Some []) left (Some said) ts ahead []) none ran in
-      inr (inl (is ∙ said_of said [] here.wrote))
+      inr (inl (is ∙ said_of said [] here.wrote), λ text. no_text q request [] ahead left e decided (inl refl) here.took why text)
 
   turned : (left : Option (List ℕ)) (said : List ℕ) (turns : List Turn) (last : Turn) (ahead rest : List ℕ) → bytes ≡ said → said ≢ no_memory
       → Ran start (Some request) (Some []) left (Some said) turns ahead (turn_text last true) → Turns x (turns ++ last ∷ []) y → IsLast start left ahead last rest
-      → IsTurnOf start x q bytes y ⊎ IsUnread bytes
+      → Comes start x y q request bytes
   turned left said turns last ahead rest is kept ran moved at =
       let none : turns ≡ [] = no_turn start q request (Some request) (Some []) left (Some said) turns ahead (turn_text last true) only close refl ran in
       let here : Ran start (Some request) (Some []) left (Some said) [] ahead (turn_text last true) =
       subst (λ (ts : List Turn). Ran start (Some request) (Some []) left (Some said) ts ahead (turn_text last true)) none ran in
       let one : Turns x (last ∷ []) y = subst (λ (ts : List Turn). Turns x (ts ++ last ∷ []) y) none moved in
       let (more, front) = front_of request ahead left here.took in
-      last_turn start x y one.0 q request bytes ahead rest more left last only front at.0 one.1 one.2
+      last_turn start x y one.0 q request bytes ahead rest more left last only front here.took at.0 one.1 one.2
       (is ∙ said_of said (turn_text last true) here.wrote) (λ e. kept (sym is ∙ e))
 
   ended : (left : Option (List ℕ)) (said : List ℕ) (served : Served) → bytes ≡ said → said ≢ no_memory
-      → ConnectionEnds start x (Some request) (Some []) y left (Some said) (Ok served) → IsTurnOf start x q bytes y ⊎ IsUnread bytes
-  ended left said (Ended n) is kept (turns, after, ran, moved, end) = unturned left said turns [] is ran
-  ended left said (Cut n) is kept (turns, part, after, ran, moved, why) = unturned left said turns part is ran
+      → ConnectionEnds start x (Some request) (Some []) y left (Some said) (Ok served) → Comes start x y q request bytes
+  ended left said (Ended n) is kept (turns, after, ran, moved, end) = unturned left said turns [] wire.Ended tt (inl (omega arith, (refl, end))) is ran
+  ended left said (Cut n) is kept (turns, part, after, ran, moved, why) = unturned left said turns part wire.Cut tt why is ran
   ended left said (Closed n) is kept (turns, last, ahead, rest, count, most, ran, moved, at, closed) =
       turned left said turns last ahead rest is kept ran moved at
 
-  connected : Connects start x request (Ok bytes) y → IsTurnOf start x q bytes y ⊎ IsUnread bytes
+  connected : Connects start x request (Ok bytes) y → Comes start x y q request bytes
   connected c =
-      let (served, how, is, kept) = c.replies in
+      let (served, how, is, kept, short) = c.replies in
       ended c.left c.said served is kept
       (subst (λ (e : Result Served SessionFault). ConnectionEnds start x (Some request) (Some []) y c.left (Some c.said) e) how c.ends)
 
+pub turn_comes : (start : Start) (x y : View) (request bytes : List ℕ) (q : Request) → x.pass.base ≡ Some start → OnlyReads request q
+    → q.close ≡ true → Direct x request (Ok bytes) y → Comes start x y q request bytes
+turn_comes start x y request bytes q base only close direct = connected start x y q request bytes only close (direct.gives start base)
+
 pub its_turn : (start : Start) (x y : View) (request bytes : List ℕ) (q : Request) → x.pass.base ≡ Some start → OnlyReads request q
     → q.close ≡ true → Direct x request (Ok bytes) y → IsTurnOf start x q bytes y ⊎ IsUnread bytes
-its_turn start x y request bytes q base only close direct = connected start x y q request bytes only close (direct.gives start base)
+its_turn start x y request bytes q base only close direct = by (turn_comes start x y request bytes q base only close direct)
+  where
+    by : Comes start x y q request bytes → IsTurnOf start x q bytes y ⊎ IsUnread bytes
+    by (inl turn) = inl turn
+    by (inr over) = inr over.0

@@ -1,5 +1,5 @@
 -- What one ask of a direct link does.
-use Rattle.std.specs.Prelude.{◌≡◌, ◌≢◌, ◌⊎◌, ℕ, List, [], Option, Some, Result, Ok, Err}
+use Rattle.std.specs.Prelude.{◌≡◌, ◌≢◌, ◌⊎◌, ◌<◌, ◌^◌, ℕ, List, [], length, Option, Some, Result, Ok, Err}
 use Rattle.http_wire.specs.declared.error.SessionFault.{SessionFault}
 use Rattle.hub_core.specs.declared.start.Start.{Start}
 use Rattle.hub_devices.specs.declared.link_error.LinkError.{LinkError}
@@ -9,9 +9,10 @@ use Rattle.hub_run.specs.Turns.{View}
 use Rattle.hub_run.specs.declared.served.Served.{Served}
 use Rattle.reply_texts.specs.ReplyText.{no_memory}
 
--- what is given of a connection that ended so and wrote that: a reply where it had no fault and wrote no 507
+-- what is given of a connection that ended so and wrote that: a reply where it had no fault and wrote no 507, of a length that a `u64` counts
 abbrev pub Replies : Result (List ℕ) LinkError → Result Served SessionFault → List ℕ → Type 0
 Replies (Ok reply) ended said = (served : Served) × (ended ≡ Ok served) × (reply ≡ said) × (said ≢ no_memory)
+    × (length reply < 2 ^ 64)
 Replies (Err Failed) ended said = ⊥
 Replies (Err Memory) ended said = Unit {0}
 

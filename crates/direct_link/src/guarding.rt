@@ -2,7 +2,6 @@
 ghost use Rattle.std.specs.Prelude.{◌≡◌, ◌≤◌, ◌++◌, ℕ, List, [], Some};
 ghost use Rattle.httparse.specs.Grammar.{RequestHead, print_request};
 ghost use Rattle.http_wire.specs.Head.{head_of};
-ghost use Rattle.http_wire.specs.Token.{token_of};
 ghost use Rattle.http_wire.specs.Wire.{IsServedHead};
 ghost use Rattle.hub_core.specs.declared.start.Start.{Start};
 ghost use Rattle.hub_link.specs.Links.{Exchange, Chain};
@@ -32,7 +31,8 @@ use upstreams::upstream::Upstream;
 
 /// Guards one request as `guard_one` does, with a link that makes at most one connection to the hub, by its own pass and devices. It is
 /// passed on, and anything goes to the server, only where its token may enter the server at a place of the history at or past all that the
-/// pass had seen, and at the moment of its clock; it is answered 403 only without a token, or where at such a place it may not.
+/// pass had seen, and at the moment of its clock; it is answered 403 exactly without a token, or where at such a place it may not, but for
+/// want of memory, a body of no length that is served, a failing stream, and a token of which the hub tells nothing, which is a 502.
 pub fn guard_direct<
     'a,
     K: Keeper,
@@ -81,8 +81,9 @@ pub fn guard_direct<
     ensures decided { (start : Start) (head : RequestHead) (more : List ℕ) → link.old.pass.now.base ≡ Some start → IsServedHead head
         → I.left input.old ≡ Some (print_request head ++ more)
         → Decided start (view_of C.to_come R.left S.calls P.calls R.faults S.faults P.faults link.old.pass.now link.old.kit.now)
-        (view_of C.to_come R.left S.calls P.calls R.faults S.faults P.faults link.new.pass.now link.new.kit.now)
-        key.now (token_of (head_of head).headers) (U.told up.old) (U.told up.new) result }
+        (view_of C.to_come R.left S.calls P.calls R.faults S.faults P.faults link.new.pass.now link.new.kit.now) key.now (head_of head)
+        (record { told = U.told up.old; reads = I.faults input.old; writes = O.faults output.old })
+        (record { told = U.told up.new; reads = I.faults input.new; writes = O.faults output.new }) result }
     ensures reads { I.faults input.old ≤ I.faults input.new }
     ensures links { U.faults up.old ≤ U.faults up.new }
     ensures writes { O.faults output.old ≤ O.faults output.new }

@@ -7,6 +7,7 @@ use Rattle.http_wire.specs.Head.{head_of}
 use Rattle.http_wire.specs.Token.{token_of}
 use Rattle.http_wire.specs.Wire.{IsServedHead}
 use Rattle.http_wire.specs.declared.error.SessionFault.{SessionFault}
+use Rattle.http_wire.specs.declared.head.Head.{Head}
 use Rattle.hub_core.specs.declared.start.Start.{Start}
 use Rattle.hub_devices.specs.declared.link_error.LinkError.{LinkError}
 use Rattle.hub_kit.specs.declared.names.ServerKey.{ServerKey}
@@ -16,7 +17,7 @@ use Rattle.hub_run.specs.Turns.{View}
 use Rattle.proxy_core.specs.declared.refusals.Forwarded.{Forwarded}
 use Rattle.proxy_core.specs.Passes.{Place}
 use Rattle.guard.specs.Guards.{GuardEnds}
-use Rattle.direct_link.specs.Decided.{Decided}
+use Rattle.direct_link.specs.Decided.{Decided, Around, IsLetIn, IsKeptOut}
 use Rattle.direct_link.specs.Direct.{Direct}
 use Rattle.direct_link.specs.Verdicts.{Admits, HoldsAt}
 use Rattle.direct_link.proofs.Chains.{chain_seen, chain_keeps}
@@ -25,7 +26,6 @@ use Rattle.access_laws.proofs.Reading.{gets_read}
 use Rattle.hub_kit.specs.Names.{IsName, IsServerName}
 use Rattle.load_asks.specs.Numbers.{name}
 use Rattle.load_asks.specs.Posts.{Reached}
-use Rattle.upstreams.specs.Upstream.{Told}
 use Rattle.load_asks.specs.Requests.{get_request, guarded_request}
 use Rattle.hub_loading.proofs.HeadLemmas.{head_for, printed, served, token_there}
 use Rattle.hub_loading.proofs.GetLemmas.{user_target, same_text, target_is}
@@ -92,16 +92,21 @@ found_seen asked does view each old new said token user found finds is word name
 
 -- ---- the guard
 
-verdict_of : (start : Start) (x y : View) (token : List ℕ) (key : ServerKey) (told told' : Option Told) (ended : Result Forwarded SessionFault) (admitted : Bool)
-    → Decided start x y key (Some token) told told' ended → ended ≡ guard_end admitted → HoldsAt start x y (Admits token key admitted)
-verdict_of start x y token key told told' ended true decided is = decided.passed is
-verdict_of start x y token key told told' ended false decided is = decided.refused is
+abbrev around : Place → Around
+around p = record { told = p.told; reads = p.reads; writes = p.writes }
+
+verdict_of : (start : Start) (x y : View) (token : List ℕ) (key : ServerKey) (head : Head) (old new : Around) (ended : Result Forwarded SessionFault) (admitted : Bool)
+    → token_of head.headers ≡ Some token → Decided start x y key head old new ended → ended ≡ guard_end admitted → HoldsAt start x y (Admits token key admitted)
+verdict_of start x y token key head old new ended true has decided is =
+    subst (λ (t : Option (List ℕ)). IsLetIn start x y key t) has (decided.passed is)
+verdict_of start x y token key head old new ended false has decided is =
+    subst (λ (t : Option (List ℕ)). IsKeptOut start x y key t) has (decided.refused is)
 
 pub guarded : {E : Type 0} (r : Result Bool E) (x y : View) (token : List ℕ) (key : ServerKey) (target : List ℕ) (asks : List Exchange) (old new : Place)
     (ended : Result Forwarded SessionFault) → IsName key.user → IsServerName key.server → IsWord token → length token ≤ 1000 → old.left ≡ Some (guarded_request token) → old.kept ≡ [] → Chain Direct x asks y
     → GuardEnds key target asks 0 0 old new ended
     → ((start : Start) (head : RequestHead) (more : List ℕ) → x.pass.base ≡ Some start → IsServedHead head → old.left ≡ Some (print_request head ++ more)
-    → Decided start x y key (token_of (head_of head).headers) old.told new.told ended)
+    → Decided start x y key (head_of head) (around old) (around new) ended)
     → IfOk r (λ admitted. ended ≡ guard_end admitted) → IfOk r (λ admitted. Guarded x token key target admitted y)
 guarded r x y token key target asks old new ended user server word short came kept chain ends decided known =
     IfOk-weaker r (λ admitted. ended ≡ guard_end admitted) (λ admitted. Guarded x token key target admitted y)
@@ -113,7 +118,7 @@ guarded r x y token key target asks old new ended user server word short came ke
       kept = kept;
       chain = chain;
       ends = subst (λ (e : Result Forwarded SessionFault). GuardEnds key target asks 0 0 old new e) is ends;
-      verdict = λ start base. verdict_of start x y token key old.told new.told ended admitted (here start base) is;
+      verdict = λ start base. verdict_of start x y token key (head_of head) (around old) (around new) ended admitted (token_there token word) (here start base) is;
       unnoted = λ start base alone.
           quiet_guard start x y base alone key user server target asks chain old new admitted
           (subst (λ (e : Result Forwarded SessionFault). GuardEnds key target asks 0 0 old new e) is ends);
@@ -125,10 +130,8 @@ guarded r x y token key target asks old new ended user server word short came ke
     stands : old.left ≡ Some (print_request head ++ [])
     stands = came ∙ ap (λ (bytes : List ℕ). Some bytes) (printed token ∙ sym (append-nil (print_request head)))
 
-    here : (start : Start) → x.pass.base ≡ Some start → Decided start x y key (Some token) old.told new.told ended
-    here start base =
-        subst (λ (t : Option (List ℕ)). Decided start x y key t old.told new.told ended) (token_there token word)
-        (decided start head [] base (served token word short) stands)
+    here : (start : Start) → x.pass.base ≡ Some start → Decided start x y key (head_of head) (around old) (around new) ended
+    here start base = decided start head [] base (served token word short) stands
 
 pub guarded_as : (x y : View) (said token : List ℕ) (made key : ServerKey) (target : List ℕ) (admitted : Bool) → said ≡ token → made ≡ key
     → Guarded x said made target admitted y → Guarded x token key target admitted y

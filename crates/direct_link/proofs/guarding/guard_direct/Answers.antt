@@ -1,6 +1,6 @@
 use Rattle.hub_run.specs.Turns.{view_of}
 use Rattle.direct_link.specs.Direct.{Direct}
-use Rattle.access_laws.proofs.Asked.{access_is_asked}
+use Rattle.access_laws.proofs.Asked.{access_is_asked, access_is_text}
 use Rattle.access_laws.proofs.Saying.{user_says, service_says, nothing_says}
 use Rattle.direct_link.proofs.Deciding.{decided}
 use Rattle.direct_link.proofs.Chains.{chain_seen, chain_keeps}
@@ -33,5 +33,5 @@ returns-clause-decided g c = λ start head more base served left.
     let chain = chain_seen c.args.link.now c.guard_one.new.link asks
     (λ l. view_of g.C.Clock.to_come g.R.Random.left g.S.Spawner.calls g.P.RouteLink.calls g.R.Random.faults g.S.Spawner.faults g.P.RouteLink.faults l.pass.now l.kit.now)
     Direct _ (λ a b request given does. does.2) asked.meets in
-    decided user_says service_says nothing_says access_is_asked start _ _ c.args.key.now c.args.target.now asks _ _ c.guard_one.result base
+    decided user_says service_says nothing_says access_is_asked access_is_text start _ _ c.args.key.now c.args.target.now asks _ _ c.guard_one.result base
     c.as_str-user.ensures.name c.as_str-server.ensures.name chain head more left served ends
