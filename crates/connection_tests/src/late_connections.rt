@@ -1,8 +1,8 @@
 //! Connections of the tests of what fails or is late: one is served to its end, and what was written is compared.
 ghost use Rattle.std.specs.Prelude.{◌≡◌};
 
-use crate::hubs::{BookOver, open_desk};
-use crate::late_hubs::LateKit;
+use crate::hubs::{BookOver, NEVER, open_desk};
+use crate::late_hubs::{DRAWS, LateKit, late_kit, late_routes};
 use desk::{Desk, Pass};
 use http_wire::error::SessionFault;
 use hub_devices::mem_bytes::{MemSink, MemSource};
@@ -43,6 +43,22 @@ pub fn served_over<R: Abort + Wait, K: Keeper>(
     let (desk, mut pass) = open_desk(rt, alloc, book);
     let end = served(rt, alloc, &desk, &mut pass, kit, source, sink);
     (end, desk.close(rt, pass))
+}
+
+/// The same where the hub's devices are new and do all that is asked, but for the draw with this number.
+pub fn end_over<R: Abort + Wait, K: Keeper>(
+    rt: &R,
+    alloc: Global,
+    book: BookOver<K>,
+    source: MemSource,
+    sink: &mut MemSink,
+    draw: u64,
+) -> (Result<Served, SessionFault>, BookOver<K>) {
+    let routes = late_routes(rt, alloc, &[]);
+    let mut kit = late_kit(rt, alloc, routes, NEVER, draw, &DRAWS);
+    let ended = served_over(rt, alloc, book, &mut kit, source, sink);
+    drop(kit);
+    ended
 }
 
 /// Whether the replies on the wire have these statuses.

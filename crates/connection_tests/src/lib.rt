@@ -1,7 +1,7 @@
 //! Tests of hubs over devices in memory, with requests and replies written by hand as they stand on the wire: files of configuration that
 //! are read or explained, kept rows that keep their rules or break one, whole connections, servers that start and stop, two passes that
-//! meet, adoptions, the routes of a proxy, tokens and shares; and what holds when messages are lost or late, calls fail and the input
-//! breaks off. A crate of their own, since a crate that has tests is proved twice. Nothing stands above it.
+//! meet, adoptions, the routes of a proxy, tokens and shares; and what holds when messages are lost or late, calls fail, the input breaks
+//! off and disks stop. A crate of their own, since a crate that has tests is proved twice. Nothing stands above it.
 #![tactic(auto)]
 
 #[cfg(test)]
@@ -20,6 +20,8 @@ mod of_adopt;
 mod of_broken;
 #[cfg(test)]
 mod of_config;
+#[cfg(test)]
+mod of_disks;
 #[cfg(test)]
 mod of_failures;
 #[cfg(test)]

@@ -2,8 +2,8 @@
 //! read, write, draw and commit fails in turn.
 use crate::check::{check, failing};
 use crate::hubs::NEVER;
-use crate::late_connections::{are_statuses, has, served_over};
-use crate::late_hubs::{DRAWS, book_failing, late_kit, late_routes};
+use crate::late_connections::{are_statuses, end_over, has};
+use crate::late_hubs::book_failing;
 use http_wire::error::SessionFault;
 use hub_devices::mem_bytes::{MemSink, MemSource};
 use hub_kit::bytes::Bytes;
@@ -247,12 +247,9 @@ fn end_of<R: Abort + Wait>(
     draw: u64,
     commit: u64,
 ) -> Result<Served, SessionFault> {
-    let routes = late_routes(rt, alloc, &[]);
-    let mut kit = late_kit(rt, alloc, routes, NEVER, draw, &DRAWS);
     let book = book_failing(rt, alloc, commit);
-    let (end, book) = served_over(rt, alloc, book, &mut kit, source, sink);
+    let (end, book) = end_over(rt, alloc, book, source, sink, draw);
     drop(book);
-    drop(kit);
     end
 }
 
