@@ -1,8 +1,9 @@
 """The site's front: Debian's nginx with basic auth. A browser's requests to the hub get the token of the user who signed in, and who comes
 with a token of the hub needs no password. The page and the hub's calls stand at one port, servers and services at another one: so a page
-of somebody's notebook can't call the hub in the name of who looks at it. Passwords and tokens never go on to a server."""
+of somebody's notebook can't call the hub in the name of who looks at it. Passwords and tokens never go on to a server. Where site.toml has
+names for the two, browsers are sent to these."""
 import base64, hashlib, json, os, secrets
-from parts import HOME, HUB, PROXY, SERVERS, SITE, drawn, read, token, write
+from parts import HOME, HUB, LISTEN, PROXY, PUBLIC, PUBLIC_SERVERS, SERVERS, SITE, drawn, read, token, write
 
 CONFIGURATION = r"""@USER@worker_processes 1; daemon off; pid @SITE@/nginx.pid; error_log @SITE@/log/nginx;
 events { worker_connections 2048; }
@@ -19,11 +20,11 @@ http {
   map $http_authorization $to_server { default $upgrades_token; "~*^(token|bearer) " $http_authorization; }
   map $http_upgrade $hop { default upgrade; "" close; }
   # a page of another place may send a browser here, but may not call in its user's name
-  map "$http_origin|http://$http_host" $foreign { default 1; "~^\|" 0; "~^(.+)\|\1$" 0; }
+  map "$http_origin|@SCHEME@://$http_host" $foreign { default 1; "~^\|" 0; "~^(.+)\|\1$" 0; }
   proxy_http_version 1.1; proxy_set_header Host $http_host; proxy_set_header Upgrade $http_upgrade; proxy_set_header Connection $hop;
   proxy_read_timeout 120s; limit_conn_zone $server_port zone=starts:64k; limit_conn_status 429;
   server {
-    listen 127.0.0.1:@HOME@; auth_basic $realm; auth_basic_user_file @SITE@/htpasswd;
+    listen @LISTEN@:@HOME@; auth_basic $realm; auth_basic_user_file @SITE@/htpasswd;
     location / { root @SITE@/page; }
     proxy_set_header Host $http_host; proxy_set_header Authorization $to_hub;
     # nginx goes by the path that it has simplified: a user's token goes on only where the path as it came is the hub's too
@@ -34,13 +35,14 @@ http {
     # a start holds one of the hub's 16 workers until the program is ready: so many at a time leave some to the guards
     location ~ ^/hub/api/users/[^/]+/servers? { if ($is_hub != 1) { return 403; } limit_conn starts 8; proxy_pass http://127.0.0.1:@HUB@; }
     location = /hub/api/oauth2/token { auth_basic off; proxy_set_header Authorization ""; proxy_pass http://127.0.0.1:@HUB@; }
-    location ~ ^/(user|services)/ { return 302 http://127.0.0.1:@SERVERS@$request_uri; }
+    location ~ ^/(user|services)/ { return 302 @PUBLIC_SERVERS@$request_uri; }
   }
   server {
-    listen 127.0.0.1:@SERVERS@; proxy_set_header Host $http_host; proxy_set_header Upgrade $http_upgrade; proxy_set_header Connection $hop;
+    listen @LISTEN@:@SERVERS@; proxy_set_header Host $http_host; proxy_set_header Upgrade $http_upgrade; proxy_set_header Connection $hop;
     proxy_set_header Authorization $to_server; proxy_read_timeout 1d; proxy_send_timeout 1d;
-    location ~ ^/(user|services)/ { proxy_pass http://127.0.0.1:@PROXY@; }
-    location / { return 302 http://127.0.0.1:@HOME@/; }
+    # a guard sends a browser to sign in where it asks the hub itself, which is no address for a browser
+    location ~ ^/(user|services)/ { proxy_pass http://127.0.0.1:@PROXY@; proxy_redirect http://127.0.0.1:@HUB@/ @PUBLIC@/; }
+    location / { return 302 @PUBLIC@/; }
   }
 }
 """
@@ -53,7 +55,7 @@ PAGE = r"""<!DOCTYPE html>
 <p><input id="code" placeholder="a code that you were given" size="40"> <button id="use">Use the code</button></p>
 <h2>Shared with you</h2><table id="shared"></table>
 <script>
-const servers = 'http://127.0.0.1:@SERVERS@', show = text => document.getElementById('said').textContent = text
+const servers = '@PUBLIC_SERVERS@', show = text => document.getElementById('said').textContent = text
 const seconds = many => new Promise(done => setTimeout(done, many * 1000))
 async function ask(method, path, body, tries = 60) {
   const reply = await fetch('/hub/api' + path, {method, body: body && JSON.stringify(body)}), text = await reply.text()
@@ -120,7 +122,9 @@ def hashed(password):
 
 def filled(text):
     user = "user root; " if os.geteuid() == 0 else ""
-    for name, value in {"USER": user, "SITE": SITE, "HOME": HOME, "HUB": HUB, "SERVERS": SERVERS, "PROXY": PROXY}.items():
+    values = {"USER": user, "SITE": SITE, "LISTEN": LISTEN, "HOME": HOME, "HUB": HUB, "SERVERS": SERVERS, "PROXY": PROXY, "PUBLIC": PUBLIC,
+              "PUBLIC_SERVERS": PUBLIC_SERVERS, "SCHEME": PUBLIC.partition(":")[0]}
+    for name, value in values.items():
         text = text.replace(f"@{name}@", str(value))
     return text
 

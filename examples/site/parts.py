@@ -1,17 +1,14 @@
 """What the scripts of this folder share: where a site's files and ports are, its secrets, its programs, and how its hub is asked.
-A site is one folder (SITE, ~/gorewhahu-site where that isn't set) and one row of ports from SITE_PORT on (8000). All of it is at 127.0.0.1.
+A site is one folder (SITE, ~/gorewhahu-site where that isn't set) and one row of ports from SITE_PORT on (8000), all at 127.0.0.1. The file
+site.toml in its folder gives it names for browsers, an address for its front, and ports: examples/house/chem.toml has the keys.
 Each program of a site has the variable GOREWHAHU_SITE, which names the folder: by it they are found, and ended."""
-import json, os, secrets, signal, socket, sys, time, urllib.error, urllib.request
+import json, os, re, secrets, signal, socket, sys, time, tomllib, urllib.error, urllib.request
 
 HERE = os.path.dirname(os.path.realpath(__file__))
 SITE = os.path.realpath(os.environ.get("SITE") or os.path.expanduser("~/gorewhahu-site"))
 PROGRAM = os.path.realpath(os.environ.get("HUB") or f"{HERE}/../../crates/hub/out/hub")
 ADDRESS, MARK = "127.0.0.1", "GOREWHAHU_SITE"
 SEATS = 36
-PROXY = int(os.environ.get("SITE_PORT") or 8000)
-API, HOME, HUB, SERVERS, ROLL, FIRST = (PROXY + more for more in (1, 80, 81, 90, 95, 1001))
-# a server's guard listens at its target's port, and the notebook behind it so much higher
-BEHIND = 100
 
 
 def url(port, path=""):
@@ -20,6 +17,34 @@ def url(port, path=""):
 
 def stop_here(why):
     sys.exit(f"{os.path.basename(sys.argv[0])}: {why}")
+
+
+def settings():
+    """What the site's own file says, and nothing where there is none."""
+    try:
+        with open(f"{SITE}/site.toml", "rb") as file:
+            told = tomllib.load(file)
+    except FileNotFoundError:
+        return {}
+    except ValueError as fault:
+        stop_here(f"{SITE}/site.toml: {fault}")
+    if unknown := set(told) - {"public", "servers", "listen", "port"}:
+        stop_here(f"{SITE}/site.toml: no key is {', '.join(sorted(unknown))}: examples/house/chem.toml has the keys")
+    names = [told[key] for key in ("public", "servers") if key in told]
+    if not all(re.fullmatch(r"https?://(127\.0\.0\.1|[a-z0-9.-]*[a-z][a-z0-9.-]*)(:[0-9]+)?", str(name)) for name in names):
+        stop_here(f"{SITE}/site.toml: public and servers are as https://chem.example.org, a name, and no path behind it")
+    if len(set(names)) != (2 if told.keys() & {"public", "servers", "listen"} else 0):
+        stop_here(f"{SITE}/site.toml: public and servers are given together, also with listen, and differ")
+    return told
+
+
+TOLD = settings()
+PROXY = int(os.environ.get("SITE_PORT") or TOLD.get("port") or 8000)
+API, HOME, HUB, SERVERS, ROLL, FIRST = (PROXY + more for more in (1, 80, 81, 90, 95, 1001))
+# a server's guard listens at its target's port, and the notebook behind it so much higher
+BEHIND = 100
+# where the front listens, and where browsers find its page and its servers
+LISTEN, PUBLIC, PUBLIC_SERVERS = TOLD.get("listen", ADDRESS), TOLD.get("public", url(HOME)), TOLD.get("servers", url(SERVERS))
 
 
 def read(name):
@@ -97,9 +122,9 @@ def comes(holds, most):
         time.sleep(0.1)
 
 
-def is_open(port):
+def is_open(port, address=ADDRESS):
     try:
-        socket.create_connection((ADDRESS, port), 2).close()
+        socket.create_connection((address, port), 2).close()
         return True
     except OSError:
         return False
