@@ -10,13 +10,14 @@ class Lost(Exception):
 
 
 class Browser:
-    def __init__(self, most=60):
+    def __init__(self, most=60, any_certificate=False):
         self.folder = tempfile.mkdtemp(prefix="browser-")
         self.last, self.loop = 0, asyncio.new_event_loop()
         words = ["chromium", "--headless=new", "--remote-debugging-port=0", f"--user-data-dir={self.folder}", "--no-first-run",
                  "--disable-gpu", "--disable-dev-shm-usage", "--window-size=1100,800", "--no-proxy-server",
                  "--disable-extensions", "--mute-audio"]
         words += ["--no-sandbox"] if os.geteuid() == 0 else []
+        words += ["--ignore-certificate-errors"] if any_certificate else []
         quiet = {"stdin": subprocess.DEVNULL, "stdout": subprocess.DEVNULL, "stderr": subprocess.DEVNULL}
         self.process = subprocess.Popen([*words, "about:blank"], **quiet, env={**os.environ, "HOME": self.folder})
         try:
