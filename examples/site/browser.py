@@ -1,7 +1,7 @@
 """A headless Chromium of Debian, driven by its DevTools protocol over python3-websockets: pages of people who don't share cookies, what
 stands on them, presses of buttons, and pictures. Each call has a time limit, and a script that fails in a page says so with the page's own
 words."""
-import asyncio, base64, json, os, shutil, subprocess, tempfile, time
+import asyncio, base64, json, os, re, shutil, subprocess, tempfile, time
 import websockets
 
 
@@ -13,6 +13,8 @@ class Browser:
     def __init__(self, most=60, any_certificate=False):
         self.folder = tempfile.mkdtemp(prefix="browser-")
         self.last, self.loop = 0, asyncio.new_event_loop()
+        # each address that a page asked, without the password that may stand in it
+        self.asked = set()
         words = ["chromium", "--headless=new", "--remote-debugging-port=0", f"--user-data-dir={self.folder}", "--no-first-run",
                  "--disable-gpu", "--disable-dev-shm-usage", "--window-size=1100,800", "--no-proxy-server",
                  "--disable-extensions", "--mute-audio"]
@@ -46,6 +48,9 @@ class Browser:
         await self.line.send(json.dumps(message))
         while True:
             reply = json.loads(await self.line.recv())
+            if reply.get("method") in ("Network.requestWillBeSent", "Network.webSocketCreated"):
+                told = reply["params"]
+                self.asked.add(re.sub("//[^/@]*@", "//", told.get("url") or told["request"]["url"]))
             if reply.get("id") == message["id"]:
                 return reply
 
@@ -85,6 +90,7 @@ class Page:
         target = browser.call("Target.createTarget", url="about:blank", browserContextId=context)["targetId"]
         self.session = browser.call("Target.attachToTarget", targetId=target, flatten=True)["sessionId"]
         self.call("Page.enable")
+        self.call("Network.enable")
 
     def call(self, method, most=30, **given):
         return self.browser.call(method, self.session, most, **given)
