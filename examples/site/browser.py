@@ -78,7 +78,11 @@ class Browser:
             self.process.kill()
             self.process.wait()
         self.loop.close()
-        shutil.rmtree(self.folder, ignore_errors=True)
+        # another process of the browser may write there once more
+        until = time.monotonic() + 5
+        while os.path.isdir(self.folder) and time.monotonic() < until:
+            shutil.rmtree(self.folder, ignore_errors=True)
+            time.sleep(0.2)
 
 
 class Page:
