@@ -1,5 +1,9 @@
 //! Stores in files of SQLite.
-ghost use Rattle.std.specs.Prelude.{◌≡◌, IfOk};
+ghost use Rattle.std.specs.Prelude.{◌≡◌, IsTrue, true, false, IfOk};
+ghost use Rattle.sqlite.specs.Files.{file_state, IsOpened};
+ghost use Rattle.sqlite.specs.Start.{FindsIn};
+ghost use Rattle.sqlite.specs.State.{HasCleanDisk};
+ghost use Rattle.sqlite_std_file.specs.File.{file_is_usable, IsFresh};
 ghost use Rattle.sqlite_wal.specs.Files.{image_at};
 ghost use Rattle.hub_store.specs.Files.{IsOver, IsResumed};
 
@@ -7,9 +11,15 @@ use crate::places::{Places, ProgramPlaces};
 use hub_kit::text::Text;
 use keeper::keeper::KeeperError;
 use keeper_sqlite::sqlite_keeper::SqliteKeeper;
-use sqlite::{Alter, Connection, Error, ErrorCode, FileFrom, FileStore, Start};
+use sqlite::{Alter, Connection, Error, ErrorCode, FileFrom, FileStore, Files, Options, Start};
+use sqlite_std_file::OpenError;
 use std::alloc::Global;
 use std::fmt;
+use std::hash::{BuildHasher, RandomState};
+use std::io::ErrorKind;
+
+/// How many pages of 4,096 bytes that were read are kept in memory: two megabytes, as much as SQLite keeps by itself.
+const CACHE_PAGES: usize = 500;
 
 /// Why a file isn't taken as a store. All but want of memory are faults.
 #[derive(Clone, Copy, Debug, PartialEq, Eq)]
@@ -127,9 +137,60 @@ pub fn close<S: Start>(kept: FileKeeper<S>) -> Result<(), FileError> {
 fn open_file<S: Start>(rt: &HostRuntime, path: &str, start: S) -> Result<FileKeeper<S>, FileError>
     ensures { IfOk result (λ kept. IsOver (image_at S.Start) kept.connection kept.faults kept.is_own) }
 {
-    match Connection::open_from(rt, path, false, start) {
+    match open_database(rt, path, start) {
         Ok(connection) => keeper_over(rt.alloc(), connection),
+        Err(error) => Err(error),
+    }
+}
+
+/// The database at a path, as the library's own call for a path opens it, but for the size of the cache.
+fn open_database<S: Start>(
+    rt: &HostRuntime,
+    path: &str,
+    start: S,
+) -> Result<Connection<FileStore<FileFrom<S>>>, FileError>
+    ensures opened { IfOk result (λ c. HasCleanDisk (file_state c) → IsOpened c) }
+    ensures found { IfOk result (λ c. HasCleanDisk (file_state c) → FindsIn (image_at S.Start) (file_state c)) }
+{
+    let options = options(rt)?;
+    let files = open_pair(rt, path, start)?;
+    match Connection::open_files(rt.alloc(), files, options) {
+        Ok(connection) => Ok(connection),
         Err((error, _)) => Err(refusal_of(error)),
+    }
+}
+
+/// What a connection keeps in memory. Its log begins at random.
+fn options(rt: &HostRuntime) -> Result<Options, FileError> {
+    let Ok(state) = RandomState::new(rt) else {
+        return Err(FileError::CannotOpen);
+    };
+    Ok(Options {
+        cache_pages: CACHE_PAGES,
+        ..Options::new(state.hash_one(&0u8))
+    })
+}
+
+/// The file at a path and its log, which no other process has open. A path that SQLite reads in another way isn't opened.
+fn open_pair<S: Start>(
+    rt: &HostRuntime,
+    path: &str,
+    start: S,
+) -> Result<Files<FileFrom<S>>, FileError>
+    ensures usable { IfOk result (λ files. IsTrue (file_is_usable S.Start files.log) × IsTrue (file_is_usable S.Start files.db)) }
+    ensures fresh { IfOk result (λ files. IsFresh true files.log × IsFresh false files.db) }
+{
+    if path == ":memory:" || path.starts_with("file:") {
+        return Err(FileError::CannotOpen);
+    }
+    match sqlite_std_file::open(rt, path, start) {
+        Ok(files) => Ok(files),
+        Err(OpenError::OutOfMemory) => Err(FileError::Memory),
+        Err(OpenError::Busy) => Err(FileError::Busy),
+        Err(OpenError::Io(error)) if error.kind() == ErrorKind::OutOfMemory => {
+            Err(FileError::Memory)
+        }
+        Err(_) => Err(FileError::CannotOpen),
     }
 }
 
