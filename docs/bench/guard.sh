@@ -4,7 +4,8 @@
 # usage: docs/bench/guard.sh [PROGRAM] [behave] [browser] [socket] [measure]
 # `behave` sees to the tokens: nobody's, another's, one that is taken away, and a hub that ends. `browser` starts a guarded page of a Python
 # server from a hub and signs in there with headless Chromium, by nginx as a front that adds the user's token. `socket` sends through a guard
-# what a WebSocket sends. `measure` takes processor time and latency, three seconds a row. Without a word it does all four.
+# what a WebSocket sends. `measure` takes processor time, the caller's own too, and latency, three seconds a row. Without a word it does all
+# four.
 # PROGRAM is crates/hub/out/hub where it isn't given. It needs Debian's curl, nginx-light, chromium, python3-websockets and wrk; what lacks is
 # named and left out. It stands outside the gate, writes to a new folder under /tmp alone, has a time limit on each step, ends what it started,
 # and ends with status 1 at the first thing that isn't as it should be.
@@ -239,15 +240,17 @@ def spent(process):
 
 
 def load(what, port, path, callers, *processes):
-    before = [spent(it) for it in processes]
+    before, callers_before = [spent(it) for it in processes], os.times()
     words = ["wrk", "-t1", f"-c{callers}", "-d3s", "--latency", "-H", "Connection: close", "-H", f"Authorization: token {ANN}", f"http://127.0.0.1:{port}{path}"]
     said = subprocess.run(words, stdout=subprocess.PIPE, text=True, timeout=60).stdout
     count = int(re.search(r"(\d+) requests in", said)[1])
     if "Non-2xx" in said or not count:
         sys.exit(f"not as it should be: {what}: {said}")
     each = [1e6 * (spent(it) - then) / count for it, then in zip(processes, before)]
+    now = os.times()
+    caller = 1e6 * (now.children_user + now.children_system - callers_before.children_user - callers_before.children_system) / count
     half, most = (re.search(rf"{part}%\s+(\S+)", said)[1] for part in (50, 99))
-    print(f"{what}, {callers} callers: {' and '.join(f'{it:.0f}' for it in each)} microseconds of processor time a request, {count / 3:.0f} a second,"
+    print(f"{what}, {callers} callers: {' and '.join(f'{it:.0f}' for it in each)} microseconds of processor time a request, {caller:.0f} of the caller, {count / 3:.0f} a second,"
           f" half within {half}, 99 of 100 within {most}", flush=True)
 
 
