@@ -1,25 +1,31 @@
--- What an upstream tells, and what its calls make of it. An upstream that tells nothing has no conditions on it.
-use Rattle.std.specs.Prelude.{◌≡◌, ℕ, Bool, true, false, List, [], ◌++◌, Option, Some}
+-- What an upstream tells, and what its calls make of it. An upstream that tells nothing has no conditions on it, and goes on telling nothing.
+use Rattle.std.specs.Prelude.{◌≡◌, ℕ, Bool, true, false, List, [], ◌∷◌, ◌++◌, Option, Some, None}
 
--- the target connected to, what was sent, what is left to receive, and whether it is finished
+-- the targets connected to, one after the other, what was sent, what is left to receive, and whether a connection is open
 pub record Told : Type 0 where
-  pub connected : Option (List ℕ)
+  pub connected : List (List ℕ)
   pub sent : List ℕ
   pub left : List ℕ
-  pub finished : Bool
+  pub is_open : Bool
 
--- it is connected to the target, and not finished
+-- a connection is open
+pub record IsOpen (told : Option Told) : Type 0 where
+  pub opened : (t : Told) → told ≡ Some t → t.is_open ≡ true
+
+-- it was connected once more, to the target, and is open
 pub record Connects (before : Option Told) (target : List ℕ) (after : Option Told) : Type 0 where
-  pub sets : (t : Told) → before ≡ Some t → after ≡ Some (record t { connected = Some target; finished = false })
+  pub sets : (t : Told) → before ≡ Some t → after ≡ Some (record t { connected = t.connected ++ target ∷ []; is_open = true })
+  pub silent : before ≡ None → after ≡ None
 
 -- these bytes were sent, and those were received from what was left
 pub record Moves (before : Option Told) (gave got : List ℕ) (after : Option Told) : Type 0 where
   pub leaves : (t : Told) → before ≡ Some t
       → (rest : List ℕ) × (t.left ≡ got ++ rest) × (after ≡ Some (record t { sent = t.sent ++ gave; left = rest }))
+  pub silent : before ≡ None → after ≡ None
 
--- all is as it was, and it is finished
+-- all is as it was, and no connection is open
 pub record Finishes (before : Option Told) (after : Option Told) : Type 0 where
-  pub ends : (t : Told) → before ≡ Some t → after ≡ Some (record t { finished = true })
+  pub ends : (t : Told) → before ≡ Some t → after ≡ Some (record t { is_open = false })
 
 -- nothing is left to receive
 pub record IsSpent (told : Option Told) : Type 0 where

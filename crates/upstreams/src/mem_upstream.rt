@@ -2,7 +2,7 @@
 ghost use Rattle.std.specs.Prelude.{◌≡◌, ℕ, ◌<◌, ◌≤◌, ◌-◌, List, [], ◌++◌, length, take, drop, min, max, Option, Some, None, false, true, is_err, IfOk, OnOk, OnErr, IsErr};
 ghost use Rattle.hub_devices.specs.FailingCalls.{is_failing, after_call, new_script};
 ghost use Rattle.hub_devices.specs.Faults.{Rises};
-ghost use Rattle.upstreams.specs.Upstream.{Told, Connects, Moves, Finishes, IsSpent};
+ghost use Rattle.upstreams.specs.Upstream.{Told, IsOpen, Connects, Moves, Finishes, IsSpent};
 
 use crate::tunnelled::Tunnelled;
 use crate::upstream::Upstream;
@@ -14,7 +14,7 @@ use hub_kit::target::Target;
 use std::alloc::Global;
 use tunnel::gate::Gate;
 
-/// Gives at most `cut` bytes for each receive, and keeps the target, what was sent and whether it is finished. It fails at
+/// Gives at most `cut` bytes for each receive, and keeps the targets, what was sent and whether a connection is open. It fails at
 /// the calls that `failing` numbers, the first call being 0, and where it finds no memory; a `send` that is to fail keeps
 /// the first half of the bytes.
 pub struct MemUpstream {
@@ -22,9 +22,9 @@ pub struct MemUpstream {
     given: Bytes,
     at: usize,
     cut: usize,
-    target: Option<Target>,
+    targets: Vec<Target>,
     sent: Bytes,
-    finished: bool,
+    is_open: bool,
     script: FailingCalls,
     ghost in_range: { at ≤ length given },
     ghost gives: { 0 < cut },
@@ -37,9 +37,9 @@ impl Drop for MemUpstream {
             given: _,
             at: _,
             cut: _,
-            target: _,
+            targets: _,
             sent: _,
-            finished: _,
+            is_open: _,
             script: _,
         } = self;
     }
@@ -49,7 +49,7 @@ impl MemUpstream {
     /// A `cut` of 0 counts as 1.
     pub fn new(alloc: Global, given: Bytes, cut: usize, failing: Vec<u64>) -> MemUpstream
         ensures told { ⟦<MemUpstream as Upstream>⟧.told result
-            ≡ Some (record { connected = None; sent = []; left = given; finished = false }) }
+            ≡ Some (record { connected = []; sent = []; left = given; is_open = false }) }
         ensures cut { result.cut ≡ max cut 1 }
         ensures script { result.script ≡ new_script failing.items }
     {
@@ -58,9 +58,9 @@ impl MemUpstream {
             given,
             at: 0,
             cut: cut.max(1),
-            target: None,
+            targets: Vec::new(alloc),
             sent: Bytes::new(alloc),
-            finished: false,
+            is_open: false,
             script: FailingCalls::new(failing),
         }
     }
@@ -72,16 +72,16 @@ impl MemUpstream {
         self.sent.as_slice()
     }
 
-    /// Whether it is finished.
-    pub fn is_finished(&self) -> bool
-        ensures { result ≡ self.now.finished }
+    /// Whether a connection is open.
+    pub fn is_open(&self) -> bool
+        ensures { result ≡ self.now.is_open }
     {
-        self.finished
+        self.is_open
     }
 }
 
 impl Upstream for MemUpstream {
-    ghost told = { λ u. Some (record { connected = u.target; sent = u.sent; left = drop u.at u.given; finished = u.finished }) };
+    ghost told = { λ u. Some (record { connected = u.targets.items; sent = u.sent; left = drop u.at u.given; is_open = u.is_open }) };
 
     ghost faults = { λ u. u.script.faults };
 
@@ -93,8 +93,11 @@ impl Upstream for MemUpstream {
             self.script.fail();
             return Err(Failed);
         };
-        self.target = Some(target);
-        self.finished = false;
+        if self.targets.push(target).is_err() {
+            self.script.fail();
+            return Err(Failed);
+        }
+        self.is_open = true;
         Ok(())
     }
 
@@ -124,7 +127,7 @@ impl Upstream for MemUpstream {
     }
 
     fn finish(&mut self) {
-        self.finished = true;
+        self.is_open = false;
     }
 }
 

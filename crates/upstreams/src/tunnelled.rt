@@ -2,7 +2,7 @@
 ghost use Rattle.std.specs.Prelude.{◌≡◌, ◌≤◌, ℕ, List, [], IfOk, OnErr};
 ghost use Rattle.std.specs.Option.{option_map};
 ghost use Rattle.hub_devices.specs.Faults.{Rises};
-ghost use Rattle.upstreams.specs.Upstream.{Told};
+ghost use Rattle.upstreams.specs.Upstream.{Told, IsOpen};
 
 use crate::upstream::Upstream;
 use hub_devices::source::{Failed, Source};
@@ -17,6 +17,7 @@ pub trait Tunnelled: Upstream {
     /// Gives the side that has all that is left to receive, and the side that holds nothing yet. What the upstream tells stays as it
     /// is; from then on its bytes go by the sides alone.
     fn halves(&mut self) -> Result<(Self::Reads, Self::Writes), Failed>
+        requires { IsOpen (Self.told self.old) }
         ensures told { Self.told self.new ≡ Self.told self.old }
         ensures left { IfOk result (λ sides. Self.Reads.left sides.0 ≡ option_map (λ (t : Told). t.left) (Self.told self.old)) }
         ensures held { IfOk result (λ sides. Self.Writes.held sides.1 ≡ option_map (λ (t : Told). []) (Self.told self.old)) }
