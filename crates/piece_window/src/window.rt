@@ -3,7 +3,7 @@ ghost use Rattle.std.specs.Prelude.{◌≡◌, ℕ, ◌+◌, ◌-◌, ◌<◌, �
 ghost use Rattle.hub_devices.specs.Streams.{IsEnd};
 ghost use Rattle.hub_devices.specs.Faults.{Rises};
 ghost use Rattle.http_wire.specs.Took.{Took};
-ghost use Rattle.upstreams.specs.Upstream.{Moves, IsSpent};
+ghost use Rattle.upstreams.specs.Upstream.{IsOpen, Moves, IsSpent};
 ghost use Rattle.piece_window.specs.Window.{inside, IsInside, Came};
 
 use http_wire::body::take_bytes;
@@ -134,7 +134,8 @@ pub fn fill_window<I: Source>(
 
 /// Receives once, behind the end.
 fn receive_behind<U: Upstream>(up: &mut U, bytes: &mut [u8], end: usize) -> Result<usize, Failed>
-    requires { end ≤ length bytes.old }
+    requires within { end ≤ length bytes.old }
+    requires open { IsOpen (U.told up.old) }
     ensures ok { IfOk result (λ n. (end + n ≤ length bytes.old)
         × Moves (U.told up.old) [] (take n (drop end bytes.new)) (U.told up.new)) }
     ensures front { take end bytes.new ≡ take end bytes.old }
@@ -152,7 +153,8 @@ fn receive_behind<U: Upstream>(up: &mut U, bytes: &mut [u8], end: usize) -> Resu
 
 /// Receives once, as much as there is room for. What came stands behind what was held.
 pub fn receive_window<U: Upstream>(up: &mut U, window: &mut Window) -> Result<usize, Failed>
-    requires { length window.old < 16384 }
+    requires room { length window.old < 16384 }
+    requires open { IsOpen (U.told up.old) }
     ensures ok { IfOk result (λ n. Came window.old window.new (U.told up.old) (U.told up.new) n) }
     ensures end { IfOk result (λ n. n ≡ 0 → IsSpent (U.told up.new)) }
     ensures err { OnErr result ((window.new ≡ window.old) × (U.told up.new ≡ U.told up.old)) }
