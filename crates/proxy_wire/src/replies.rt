@@ -3,7 +3,7 @@ ghost use Rattle.std.specs.Prelude.{◌≡◌, ◌≤◌, [], ℕ, List, length,
 ghost use Rattle.httparse.specs.Grammar.{ResponseHead, status_code};
 ghost use Rattle.httparse.specs.Spans.{IsResponseWithin, IsResponseOf};
 ghost use Rattle.hub_devices.specs.Faults.{Rises};
-ghost use Rattle.upstreams.specs.Upstream.{Moves};
+ghost use Rattle.upstreams.specs.Upstream.{IsOpen, Moves};
 ghost use Rattle.proxy_wire.specs.Heads.{reply_passed, is_switched};
 ghost use Rattle.proxy_wire.specs.Replies.{BeginsReply, IsReplyFront, IsStep, IsKind, IsNoReply};
 
@@ -180,7 +180,8 @@ pub fn read_reply<U: Upstream>(
     up: &mut U,
     window: &mut Window,
 ) -> Result<Reply, ReplyError>
-    requires { window.old ≡ [] }
+    requires empty { window.old ≡ [] }
+    requires open { IsOpen (U.told up.old) }
     ensures ok { IfOk result (λ reply. (r : ResponseHead) × (got : List ℕ) × (reply.text ≡ reply_passed r)
         × (reply.switched ≡ is_switched (status_code r)) × BeginsReply upgrade method.now got r reply.framing window.new
         × Moves (U.told up.old) [] got (U.told up.new)) }

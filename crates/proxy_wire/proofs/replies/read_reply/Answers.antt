@@ -1,6 +1,6 @@
 use Rattle.std.proofs.Common.{◌≡◌, [], ◌++◌, List, ℕ, sym, subst, arith, length}
 use Rattle.upstreams.specs.Upstream.{Moves}
-use Rattle.upstreams.proofs.MoveLemmas.{Moves_none, Moves_then}
+use Rattle.upstreams.proofs.MoveLemmas.{Moves_none, Moves_then, Moves_open}
 use Rattle.proxy_wire.specs.Replies.{BeginsReply}
 use Rattle.proxy_wire.proofs.ReplyLemmas.{spent_more, skipped_none, skipped_head, begins, bad_reply, full_reply, unframed_reply}
 use Rattle.proxy_wire.proofs.replies.read_reply.Goals as goal
@@ -9,7 +9,7 @@ pub heads-init : goal.heads-init
 heads-init g c = record {
   skipped = skipped_none c.args.window.now;
   fits = omega arith;
-  moved = subst (λ (x : List ℕ). Moves (g.U.Upstream.told c.args.up.now) [] x (g.U.Upstream.told c.args.up.now)) (sym c.requires) (Moves_none (g.U.Upstream.told c.args.up.now));
+  moved = subst (λ (x : List ℕ). Moves (g.U.Upstream.told c.args.up.now) [] x (g.U.Upstream.told c.args.up.now)) (sym c.requires.empty) (Moves_none (g.U.Upstream.told c.args.up.now));
   counted = omega arith;
 }
 
@@ -61,3 +61,6 @@ returns-in-Ok-eq0-clause-err g c =
           (c.in-Ok-eq0.ensures.end c.in-Ok-eq0.field-0-test),
       Moves_then _ _ _ [] [] c.heads.window came.piece c.heads.invariant.moved came.moves,
     )
+
+pub receive_window-requires-clause-open : goal.receive_window-requires-clause-open
+receive_window-requires-clause-open g c = Moves_open _ _ [] c.heads.window c.requires.open c.heads.invariant.moved
