@@ -2,7 +2,7 @@
 ghost use Rattle.std.specs.Prelude.{◌≡◌, ◌≢◌, ◌<◌, ◌≤◌, ◌+◌, ◌++◌, ℕ, List, [], length, min, take, drop, Err, IfOk, IfErr, OnOk, OnErr};
 ghost use Rattle.hub_devices.specs.Faults.{Rises};
 ghost use Rattle.hub_devices.specs.Streams.{Appends};
-ghost use Rattle.upstreams.specs.Upstream.{Moves, IsSpent};
+ghost use Rattle.upstreams.specs.Upstream.{IsOpen, Moves, IsSpent};
 ghost use Rattle.chunk_parts.specs.Parts.{IsAt};
 ghost use Rattle.proxy_bodies.specs.Bodies.{IsOn};
 ghost use Rattle.proxy_bodies.specs.Backs.{StopsBack, StopsSized, IsBackEnd};
@@ -69,6 +69,7 @@ fn write_front<O: Sink>(window: &mut Window, output: &mut O, most: u64) -> Resul
 
 /// Sees to it that the window isn't empty.
 fn ready_back<U: Upstream>(up: &mut U, window: &mut Window) -> Result<(), BackEnd>
+    requires { IsOpen (U.told up.old) }
     ensures got { (got : List ℕ) × (window.old ++ got ≡ window.new) × Moves (U.told up.old) [] got (U.told up.new) }
     ensures ok { OnOk result (0 < length window.new) }
     ensures err { IfErr result (λ e. (window.new ≡ []) × StopsSized (U.told up.new) e) }
@@ -93,6 +94,7 @@ fn back_length<U: Upstream, O: Sink>(
     output: &mut O,
     count: u64,
 ) -> Result<(), BackEnd>
+    requires { IsOpen (U.told up.old) }
     ensures ok { OnOk result ((body got tail : List ℕ) × (length body ≡ count) × (window.old ++ got ≡ body ++ tail)
         × Moves (U.told up.old) [] got (U.told up.new) × Appends (O.held output.old) body (O.held output.new)) }
     ensures err { IfErr result (λ e. (body got tail : List ℕ) × (length body ≤ count) × (window.old ++ got ≡ body ++ tail)
@@ -127,6 +129,7 @@ fn back_part<U: Upstream, O: Sink>(
 ) -> Result<At, BackEnd>
     requires sane { IsAt at }
     requires room { length spans.old ≡ 5462 }
+    requires open { IsOpen (U.told up.old) }
     ensures ok { IfOk result (λ next. (piece got : List ℕ) × (window.old ++ got ≡ piece ++ window.new)
         × Moves (U.told up.old) [] got (U.told up.new) × Appends (O.held output.old) piece (O.held output.new)
         × IsOn at piece next × (0 < length piece + length got)) }
@@ -160,7 +163,8 @@ fn back_chunked<U: Upstream, O: Sink>(
     output: &mut O,
     spans: &mut [HeaderSpan],
 )
-    requires { length spans.old ≡ 5462 }
+    requires room { length spans.old ≡ 5462 }
+    requires open { IsOpen (U.told up.old) }
     ensures done { (body got tail : List ℕ) × (window.old ++ got ≡ body ++ tail)
         × Moves (U.told up.old) [] got (U.told up.new) × Appends (O.held output.old) body (O.held output.new)
         × IsBackEnd Framing.Chunked (U.told up.new) body tail
@@ -184,6 +188,7 @@ fn back_chunked<U: Upstream, O: Sink>(
 
 /// Passes back a body of so many bytes, or a part of it.
 fn back_sized<U: Upstream, O: Sink>(up: &mut U, window: &mut Window, output: &mut O, count: u64)
+    requires { IsOpen (U.told up.old) }
     ensures done { (body got tail : List ℕ) × (window.old ++ got ≡ body ++ tail)
         × Moves (U.told up.old) [] got (U.told up.new) × Appends (O.held output.old) body (O.held output.new)
         × IsBackEnd (Framing.Length count) (U.told up.new) body tail
@@ -199,6 +204,7 @@ fn back_sized<U: Upstream, O: Sink>(up: &mut U, window: &mut Window, output: &mu
 
 /// Passes back all that comes until the upstream ends, or a part of it.
 fn back_rest<U: Upstream, O: Sink>(up: &mut U, window: &mut Window, output: &mut O)
+    requires { IsOpen (U.told up.old) }
     ensures done { (body got tail : List ℕ) × (window.old ++ got ≡ body ++ tail)
         × Moves (U.told up.old) [] got (U.told up.new) × Appends (O.held output.old) body (O.held output.new)
         × IsBackEnd Framing.ToEnd (U.told up.new) body tail
@@ -221,7 +227,8 @@ pub fn back_body<U: Upstream, O: Sink>(
     output: &mut O,
     spans: &mut [HeaderSpan],
 )
-    requires { framing ≡ Framing.Chunked → length spans.old ≡ 5462 }
+    requires room { framing ≡ Framing.Chunked → length spans.old ≡ 5462 }
+    requires open { IsOpen (U.told up.old) }
     ensures done { (body got tail : List ℕ) × (window.old ++ got ≡ body ++ tail)
         × Moves (U.told up.old) [] got (U.told up.new) × Appends (O.held output.old) body (O.held output.new)
         × IsBackEnd framing (U.told up.new) body tail

@@ -2,7 +2,7 @@
 ghost use Rattle.std.specs.Prelude.{◌≡◌, ◌≢◌, Err, ◌<◌, ◌≤◌, ◌++◌, ℕ, List, [], length, min, take, drop, IfOk, IfErr, OnOk, OnErr};
 ghost use Rattle.hub_devices.specs.Faults.{Rises};
 ghost use Rattle.http_wire.specs.Took.{Took};
-ghost use Rattle.upstreams.specs.Upstream.{Moves};
+ghost use Rattle.upstreams.specs.Upstream.{IsOpen, Moves};
 ghost use Rattle.chunk_parts.specs.Parts.{IsAt};
 ghost use Rattle.proxy_bodies.specs.Bodies.{IsWholeBody, IsOn, IsEmptyAt, StopsBody, StopsPart, StopsRequest};
 
@@ -52,7 +52,8 @@ fn ready<I: Source>(
 
 /// Sends the first n bytes of the window.
 fn send_first<U: Upstream>(window: &mut Window, up: &mut U, n: usize) -> Result<(), Failed>
-    requires { n ≤ length window.old }
+    requires within { n ≤ length window.old }
+    requires open { IsOpen (U.told up.old) }
     ensures ok { OnOk result ((window.new ≡ drop n window.old) × Moves (U.told up.old) (take n window.old) [] (U.told up.new)) }
     ensures kept { OnErr result (window.new ≡ window.old) }
     ensures err { OnErr result ((part rest : List ℕ) × (take n window.new ≡ part ++ rest)
@@ -71,6 +72,7 @@ fn send_first<U: Upstream>(window: &mut Window, up: &mut U, n: usize) -> Result<
 
 /// Sends as much of the window as there is, up to `most` bytes.
 fn send_front<U: Upstream>(window: &mut Window, up: &mut U, most: u64) -> Result<u64, Failed>
+    requires { IsOpen (U.told up.old) }
     ensures ok { IfOk result (λ n. (piece : List ℕ) × (window.old ≡ piece ++ window.new) × (length piece ≡ n)
         × (n ≡ min most (length window.old)) × Moves (U.told up.old) piece [] (U.told up.new)) }
     ensures kept { OnErr result (window.new ≡ window.old) }
@@ -94,6 +96,7 @@ fn send_length<I: Source, U: Upstream>(
     up: &mut U,
     count: u64,
 ) -> Result<(), BodyEnd>
+    requires { IsOpen (U.told up.old) }
     ensures ok { OnOk result ((body : List ℕ) × (length body ≡ count)
         × Took (I.left input.old) (window.old ++ kept.old) (I.left input.new) (body ++ (window.new ++ kept.new))
         × Moves (U.told up.old) body [] (U.told up.new)) }
@@ -131,6 +134,7 @@ fn send_part<I: Source, U: Upstream>(
 ) -> Result<At, BodyEnd>
     requires sane { IsAt at }
     requires room { length spans.old ≡ 5462 }
+    requires open { IsOpen (U.told up.old) }
     ensures ok { IfOk result (λ next. (piece : List ℕ)
         × Took (I.left input.old) (window.old ++ kept.old) (I.left input.new) (piece ++ (window.new ++ kept.new))
         × Moves (U.told up.old) piece [] (U.told up.new) × IsOn at piece next) }
@@ -165,7 +169,8 @@ fn send_parts<I: Source, U: Upstream>(
     up: &mut U,
     spans: &mut [HeaderSpan],
 ) -> Result<(), BodyEnd>
-    requires { length spans.old ≡ 5462 }
+    requires room { length spans.old ≡ 5462 }
+    requires open { IsOpen (U.told up.old) }
     ensures ok { OnOk result ((body : List ℕ) × IsWholeBody Framing.Chunked body
         × Took (I.left input.old) (window.old ++ kept.old) (I.left input.new) (body ++ (window.new ++ kept.new))
         × Moves (U.told up.old) body [] (U.told up.new)) }
@@ -201,6 +206,7 @@ fn send_chunked<I: Source, U: Upstream>(
     window: &mut Window,
     up: &mut U,
 ) -> Result<(), BodyEnd>
+    requires { IsOpen (U.told up.old) }
     ensures ok { OnOk result ((body : List ℕ) × IsWholeBody Framing.Chunked body
         × Took (I.left input.old) (window.old ++ kept.old) (I.left input.new) (body ++ (window.new ++ kept.new))
         × Moves (U.told up.old) body [] (U.told up.new)) }
@@ -231,7 +237,8 @@ fn send_body<I: Source, U: Upstream>(
     window: &mut Window,
     up: &mut U,
 ) -> Result<(), BodyEnd>
-    requires { framing ≢ Framing.ToEnd }
+    requires sized { framing ≢ Framing.ToEnd }
+    requires open { IsOpen (U.told up.old) }
     ensures ok { OnOk result ((body : List ℕ) × IsWholeBody framing body
         × Took (I.left input.old) (window.old ++ kept.old) (I.left input.new) (body ++ (window.new ++ kept.new))
         × Moves (U.told up.old) body [] (U.told up.new)) }
@@ -268,7 +275,8 @@ pub fn send_request<I: Source, U: Upstream>(
     window: &mut Window,
     up: &mut U,
 ) -> Result<(), BodyEnd>
-    requires { framing ≢ Framing.ToEnd }
+    requires sized { framing ≢ Framing.ToEnd }
+    requires open { IsOpen (U.told up.old) }
     ensures ok { OnOk result ((body : List ℕ) × IsWholeBody framing body
         × Took (I.left input.old) (window.old ++ kept.old) (I.left input.new) (body ++ (window.new ++ kept.new))
         × Moves (U.told up.old) (text.now ++ body) [] (U.told up.new)) }

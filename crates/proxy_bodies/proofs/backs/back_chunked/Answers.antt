@@ -6,7 +6,7 @@ use Rattle.chunk_parts.specs.Chunks.{IsChunk}
 use Rattle.chunk_parts.proofs.OnLemmas.{begins}
 use Rattle.proxy_bodies.specs.Backs.{body_limit}
 use Rattle.proxy_wire.specs.declared.framing.Framing.TheVariants.{Chunked}
-use Rattle.upstreams.proofs.MoveLemmas.{Moves_none, Moves_more}
+use Rattle.upstreams.proofs.MoveLemmas.{Moves_none, Moves_more, Moves_open}
 use Rattle.proxy_bodies.proofs.PieceLemmas.{joined}
 use Rattle.proxy_bodies.proofs.SendLemmas.{stands_after}
 use Rattle.proxy_bodies.proofs.BackLemmas.{back_stop, later_end}
@@ -23,7 +23,7 @@ parts-init g c = record {
     Appends_none (g.O.Sink.held c.args.output.now),
     omega arith,
   );
-  room = c.requires;
+  room = c.requires.room;
   receives = omega arith;
   writes = omega arith;
 }
@@ -80,3 +80,8 @@ returns-in-Err-clause-done g c =
       later_end Chunked told (done.0 ++ e.0) s.0 (g.U.Upstream.faults c.args.up.now) links links' (g.O.Sink.faults c.args.output.now) writes writes'
           c.parts.invariant.receives c.back_part.ensures.receives c.parts.invariant.writes c.back_part.ensures.writes s.2,
     )
+
+pub back_part-requires-clause-open : goal.back_part-requires-clause-open
+back_part-requires-clause-open g c =
+    let done = c.parts.invariant.done in
+    Moves_open _ _ [] done.1 c.requires.open done.4

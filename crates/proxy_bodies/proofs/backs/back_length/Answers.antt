@@ -1,7 +1,7 @@
 use Rattle.std.proofs.Common.{◌≤◌, ◌++◌, List, ℕ, [], length, refl, sym, ap, ◌∙◌, arith, length-append}
 use Rattle.std.proofs.lemmas.List.{append-nil}
 use Rattle.hub_devices.proofs.StreamLemmas.{Appends_none, Appends_then}
-use Rattle.upstreams.proofs.MoveLemmas.{Moves_none, Moves_more}
+use Rattle.upstreams.proofs.MoveLemmas.{Moves_none, Moves_more, Moves_open}
 use Rattle.proxy_bodies.proofs.PieceLemmas.{joined, came}
 use Rattle.proxy_bodies.proofs.BackLemmas.{not_spent}
 use Rattle.proxy_bodies.proofs.backs.back_length.Goals as goal
@@ -65,3 +65,8 @@ returns-in-Err-write_front-clause-err g c =
 
 pub returns-in-Err-clause-write_fault : goal.returns-in-Err-clause-write_fault
 returns-in-Err-clause-write_fault g c = λ is. absurd (c.in-Err.ensures.other is)
+
+pub ready_back-requires : goal.ready_back-requires
+ready_back-requires g c =
+    let done = c.pieces.invariant.done in
+    Moves_open _ _ [] done.1 c.requires done.4

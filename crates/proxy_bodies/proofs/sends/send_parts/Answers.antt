@@ -1,6 +1,6 @@
 use Rattle.std.proofs.Common.{◌++◌, List, ℕ, [], refl, arith}
 use Rattle.http_wire.proofs.TookLemmas.{Took_behind}
-use Rattle.upstreams.proofs.MoveLemmas.{Moves_then}
+use Rattle.upstreams.proofs.MoveLemmas.{Moves_then, Moves_open}
 use Rattle.proxy_bodies.proofs.PieceLemmas.{Took_piece}
 use Rattle.proxy_bodies.proofs.SendLemmas.{stop_part, stands_after}
 use Rattle.proxy_bodies.proofs.sends.send_parts.Goals as goal
@@ -31,3 +31,8 @@ returns-in-Err-clause-err g c =
       Moves_then _ _ _ done.0 e.0 [] [] done.3 e.2,
       stop_part c.parts.at (g.I.Source.left c.send_part.new.input) c.send_part.new.window c.send_part.new.kept done.0 e.0 c.in-Err.e done.1 e.3,
     )
+
+pub send_part-requires-clause-open : goal.send_part-requires-clause-open
+send_part-requires-clause-open g c =
+    let done = c.parts.invariant.done in
+    Moves_open _ _ done.0 [] c.requires.open done.3
