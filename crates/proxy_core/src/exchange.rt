@@ -2,7 +2,7 @@
 ghost use Rattle.std.specs.Prelude.{◌≡◌, ◌≢◌, ◌++◌, ◌≤◌, ℕ, List, [], false, IfOk, IfErr};
 ghost use Rattle.httparse.specs.Grammar.{ResponseHead};
 ghost use Rattle.http_wire.specs.Took.{Took};
-ghost use Rattle.upstreams.specs.Upstream.{Moves};
+ghost use Rattle.upstreams.specs.Upstream.{IsOpen, Moves};
 ghost use Rattle.proxy_wire.specs.Heads.{reply_passed};
 ghost use Rattle.proxy_wire.specs.Replies.{BeginsReply};
 ghost use Rattle.proxy_core.specs.Passes.{IsSent, IsStop};
@@ -63,6 +63,7 @@ pub(crate) fn exchange<I: Source, U: Upstream>(
 ) -> Result<Reply, Stop>
     requires empty { back.old ≡ [] }
     requires sized { framing ≢ Framing.ToEnd }
+    requires open { IsOpen (U.told up.old) }
     ensures ok { IfOk result (λ reply. (body given got : List ℕ) × (r : ResponseHead)
         × Took (I.left input.old) (window.old ++ kept.old) (I.left input.new) (body ++ (window.new ++ kept.new))
         × Moves (U.told up.old) given got (U.told up.new)

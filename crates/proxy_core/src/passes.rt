@@ -1,5 +1,6 @@
 //! One request that is passed on to a target.
 ghost use Rattle.std.specs.Prelude.{◌≡◌, ◌≢◌, ◌≤◌, ◌++◌, ℕ, List, [], false};
+ghost use Rattle.upstreams.specs.Upstream.{IsOpen};
 ghost use Rattle.proxy_wire.specs.Heads as heads;
 ghost use Rattle.proxy_core.specs.Passes.{PassEnds, BackEnds, PassOn};
 
@@ -29,6 +30,7 @@ pub fn give_back<O: Sink, U: Upstream>(
     output: &mut O,
     up: &mut U,
 ) -> Result<Forwarded, SessionFault>
+    requires { IsOpen (U.told up.old) }
     ensures ends { BackEnds reply.now.text reply.now.framing back.old (O.held output.old) (O.held output.new)
         (U.told up.old) (U.told up.new) (U.faults up.old) (U.faults up.new) (O.faults output.old) (O.faults output.new) result }
     ensures links { U.faults up.old ≤ U.faults up.new }
@@ -56,7 +58,8 @@ fn pass_linked<I: Source, O: Sink, U: Upstream>(
     output: &mut O,
     up: &mut U,
 ) -> Result<Forwarded, SessionFault>
-    requires { framing ≢ Framing.ToEnd }
+    requires sized { framing ≢ Framing.ToEnd }
+    requires open { IsOpen (U.told up.old) }
     ensures ends { (rest : List ℕ) × PassEnds (record { upgrade = false; method = method.now; text = text.now; framing = framing })
         (record {
           left = I.left input.old;

@@ -1,4 +1,5 @@
 use Rattle.std.proofs.Common.{◌++◌, List, ℕ, false, subst, refl}
+use Rattle.upstreams.proofs.MoveLemmas.{Moves_open}
 use Rattle.proxy_core.specs.Passes.{Place, Going, BackEnds}
 use Rattle.proxy_core.proofs.EndLemmas.{ends_back, ends_refused, took_in_front, no_switch}
 use Rattle.proxy_core.proofs.passes.pass_linked.Goals as goal
@@ -85,3 +86,8 @@ returns-clause-ends g c =
           c.in-Refused.refusal e.0 e.1 e.2 c.refuse.result c.refuse.ensures.written
           (took_in_front _ _ c.new-window.result c.args.kept.now _ c.new-window.ensures e.3, e.4) e.5,
     )
+
+pub give_back-requires : goal.give_back-requires
+give_back-requires g c =
+    let x = c.in-Ok.ensures.ok in
+    Moves_open _ _ x.1 x.2 c.requires.open x.5

@@ -1,4 +1,5 @@
 use Rattle.std.proofs.Common.{[], ◌∙◌, refl, inl, inr}
+use Rattle.upstreams.proofs.MoveLemmas.{Connects_open}
 use Rattle.proxy_core.specs.declared.refusals.Refusal.TheVariants.{Memory, Link}
 use Rattle.proxy_core.proofs.EndLemmas.{ends_as}
 use Rattle.proxy_core.proofs.passes.pass_on.Goals as goal
@@ -33,3 +34,6 @@ returns-clause-ends g c =
         ends = ends_as _ _ _ _ _ _ _ _ _ _ _ _ _ _ _ _ c.as_bytes.ensures (c.as_slice.ensures ∙ c.in-Ok.ensures) c.finish.ensures.counted ends.1;
       }),
     )
+
+pub pass_linked-outcome-requires-clause-open : goal.pass_linked-outcome-requires-clause-open
+pass_linked-outcome-requires-clause-open g c = Connects_open _ _ c.args.target.now c.in-Ok-connect.ensures.ok
