@@ -1,5 +1,6 @@
 //! An upgrade, to an upstream that is connected.
 ghost use Rattle.std.specs.Prelude.{◌≡◌, ◌≤◌, ◌++◌, [], true};
+ghost use Rattle.upstreams.specs.Upstream.{IsOpen};
 ghost use Rattle.carries.specs.Carries.{LinkEnds, upgrade_of};
 
 use crate::asking::ask_switch;
@@ -26,6 +27,7 @@ pub(crate) fn carry_linked<R: Threads, I: Source + Send, O: Shuts, U: Tunnelled<
     output: &mut O,
     up: &mut U,
 ) -> Result<Carried<U::Reads, U::Writes>, SessionFault>
+    requires open { IsOpen (U.told up.old) }
     ensures ends { LinkEnds
         (λ reads writes. record {
           left = U.Reads.left reads;

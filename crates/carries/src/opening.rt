@@ -1,5 +1,6 @@
 //! A tunnel, behind a reply that switches over.
 ghost use Rattle.std.specs.Prelude.{◌≡◌, ◌≤◌};
+ghost use Rattle.upstreams.specs.Upstream.{IsOpen};
 ghost use Rattle.carries.specs.Carries.{OpenEnds};
 
 use crate::carried::{Carried, one_of};
@@ -25,6 +26,7 @@ pub(crate) fn open<R: Threads, I: Source + Send, O: Shuts, U: Tunnelled<Writes: 
     output: &mut O,
     up: &mut U,
 ) -> Result<Carried<U::Reads, U::Writes>, SessionFault>
+    requires open { IsOpen (U.told up.old) }
     ensures ends { OpenEnds
         (λ reads writes. record {
           left = U.Reads.left reads;

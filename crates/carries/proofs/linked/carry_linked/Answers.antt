@@ -1,4 +1,5 @@
 use Rattle.std.proofs.Common.{List, ℕ, refl, sym, ◌∙◌, subst, inl, inr}
+use Rattle.upstreams.proofs.MoveLemmas.{Moves_open}
 use Rattle.proxy_core.specs.Passes.{Place, BackEnds}
 use Rattle.carries.specs.Carries.{Sides}
 use Rattle.carries.proofs.CarryLemmas.{link_refused, link_back, link_switched}
@@ -104,3 +105,13 @@ returns-clause-ends g c =
           (subst (λ (t : List ℕ). BackEnds t c.in-Ok.reply.framing c.ask_switch.new.back mid.held new.held mid.told new.told mid.links new.links mid.writes new.writes c.give_back.result)
           x.3 c.give_back.ensures.ends),
     )
+
+pub open-requires-clause-open : goal.open-requires-clause-open
+open-requires-clause-open g c = λ lives outlived.
+    let x = c.in-Ok.ensures.ok in
+    Moves_open _ _ c.args.text.now x.0 c.requires.open x.2
+
+pub give_back-requires : goal.give_back-requires
+give_back-requires g c =
+    let x = c.in-Ok.ensures.ok in
+    Moves_open _ _ c.args.text.now x.0 c.requires.open x.2

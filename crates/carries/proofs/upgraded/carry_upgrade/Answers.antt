@@ -1,4 +1,5 @@
 use Rattle.std.proofs.Common.{[], ◌++◌, ◌∙◌, true, refl, sym, inl, inr}
+use Rattle.upstreams.proofs.MoveLemmas.{Connects_open}
 use Rattle.proxy_core.specs.declared.refusals.Refusal.TheVariants.{Memory, Link}
 use Rattle.proxy_core.specs.Passes.{Place}
 use Rattle.proxy_wire.specs.Heads.{request_text}
@@ -88,3 +89,6 @@ returns-clause-ends g c =
           (c.as_slice-2.ensures ∙ (all.0 ∙ sym (all_taken first c.args.kept.now c.take_kept.new.kept all.0 all.1))) c.finish.ensures.counted
           c.carry_linked-outcome.ensures.ends),
     )
+
+pub carry_linked-outcome-requires-clause-open : goal.carry_linked-outcome-requires-clause-open
+carry_linked-outcome-requires-clause-open g c = λ lives outlived. Connects_open _ _ c.args.target.now c.in-Ok-connect.ensures.ok
