@@ -1,4 +1,4 @@
--- What an upstream tells, and what its calls make of it. An upstream that tells nothing has no conditions on it, and goes on telling nothing.
+-- What an upstream tells, and what its calls make of it. An upstream that tells nothing has no conditions on it, and goes on so.
 use Rattle.std.specs.Prelude.{◌≡◌, ℕ, Bool, true, false, List, [], ◌∷◌, ◌++◌, Option, Some, None}
 
 -- the targets connected to, one after the other, what was sent, what is left to receive, and whether a connection is open
