@@ -18,8 +18,8 @@ use std::fmt;
 use std::hash::{BuildHasher, RandomState};
 use std::io::ErrorKind;
 
-/// How many pages of 4,096 bytes that were read are kept in memory: two megabytes, as much as SQLite keeps by itself.
-const CACHE_PAGES: usize = 500;
+/// How many pages of 4,096 bytes that were read are kept in memory: four megabytes, in which a file of 10,000 users stands.
+const CACHE_PAGES: usize = 1_000;
 
 /// Why a file isn't taken as a store. All but want of memory are faults.
 #[derive(Clone, Copy, Debug, PartialEq, Eq)]
