@@ -51,7 +51,9 @@ fn extra_text(alloc: Global, members: &Map<String, Value>) -> Result<Option<Text
     let value = Value::Object(others);
     let text = value.to_string(alloc);
     drop(value);
-    Ok(Some(Text::from_string(text?)))
+    // what is kept of many routes takes no more room than it needs, where a text that was written has room to grow
+    let written = Text::from_string(text?);
+    Ok(Some(written.copy(alloc)?))
 }
 
 /// The text of an object's other members, unless a number in them is read as a float, or the value is no object.
@@ -97,13 +99,29 @@ fn entry_to(
     ensures err { IfErr result (λ e. e ≢ ApiRefusal.Memory → spec.entry_to target.now serial extra ≡ Err e) }
 {
     match read_target(alloc, target.as_bytes()) {
+        Ok(target) => entry_kept(alloc, &target, serial, extra),
+        Err(TargetError::BadTarget) => Err(ApiRefusal::BadTarget),
+        Err(TargetError::Memory) => Err(ApiRefusal::Memory),
+    }
+}
+
+/// The entry of its parts. Its target takes no more room than it needs.
+fn entry_kept(
+    alloc: Global,
+    target: &Target,
+    serial: Option<u64>,
+    extra: Text,
+) -> Result<RouteEntry, ApiRefusal>
+    ensures ok { IfOk result (λ entry. entry ≡ record { target = target.now; serial = serial; extra = extra }) }
+    ensures err { IfErr result (λ e. e ≡ ApiRefusal.Memory) }
+{
+    match target.copy(alloc) {
         Ok(target) => Ok(RouteEntry {
             target,
             serial,
             extra,
         }),
-        Err(TargetError::BadTarget) => Err(ApiRefusal::BadTarget),
-        Err(TargetError::Memory) => Err(ApiRefusal::Memory),
+        Err(_) => Err(ApiRefusal::Memory),
     }
 }
 
