@@ -12,7 +12,7 @@ use Rattle.hub_main.specs.Told.{Sides}
 use Rattle.hub_main.specs.Opened.{AreNames, IsOpened, Opens, Stays}
 use Rattle.hub_main.specs.Served.{EndsOver}
 use Rattle.hub_main.specs.Sessions.{EndsChosen, EndsOpened}
-use Rattle.hub_main.proofs.Moved.{set_up_before}
+use Rattle.hub_main.proofs.Moved.{names_before, set_up_before}
 
 -- a history without entries
 no_entries : (history : Option (List Change)) (n : ℕ) → n ≡ 0 → ((h : List Change) → history ≡ Some h → length h ≡ n) → listed history n ≡ []
@@ -26,7 +26,7 @@ module _ {K : Type 0} (Tells : K → Type 0) (rows : K → Rows) (faults : K →
       → ((h : List Change) → history ≡ Some h → length h ≡ 0)
       → HasOpened config now (Tells mid) (rows mid) history (faults mid) b → Opens config now history (rows k) (faults k) b
   opens config now history k mid b stays less names new opened = record {
-    names = (names.0, (λ has. names.1 (opened.was_told has)), names.2);
+    names = names_before (IsTrue b.start.has_rows) (Tells mid) (rows k) (rows k) (λ has. (opened.was_told has, λ kind key. refl)) true config names;
     set_up = set_up_before (IsTrue b.start.has_rows) (IsTrue b.start.has_rows) (rows mid) (rows k) (λ has. (has, (stays (opened.was_told has)).1)) config now b.start.machine opened.set_up;
     tells = opened.tells;
     entries =
@@ -40,7 +40,7 @@ module _ {K : Type 0} (Tells : K → Type 0) (rows : K → Rows) (faults : K →
       → Opens config now history (rows k) (faults k) b → is_some history ≡ not config.no_trail → (Tells k' → IsTrue b.start.has_rows)
       → IsOpened config now (Tells k') (rows k) (faults k) b.start b.faults
   opened_by_end config now history k k' b opened trail had = record {
-    names = (opened.names.0, (λ told. opened.names.1 (had told)), opened.names.2);
+    names = names_before (Tells k') (IsTrue b.start.has_rows) (rows k) (rows k) (λ told. (had told, λ kind key. refl)) true config opened.names;
     set_up = set_up_before (Tells k') (IsTrue b.start.has_rows) (rows k) (rows k) (λ told. (had told, λ kind key. refl)) config now b.start.machine opened.set_up;
     tells = opened.tells ∙ trail;
     counts = opened.counts;

@@ -79,7 +79,8 @@ unlike : (b : Bool) → b ≡ true → b ≡ false → ⊥
 unlike b known unknown = absurd cc
 
 names_good : (config : HubConfig) (now : ℕ) (has : Rows) (Tells : Type 0) → Tells → Fits config now has → AreNames false config Tells has → ⊥
-names_good config now has Tells told fits names = unlike (are_known config names.0) (fits.names names.0 (names.1 told)) names.2
+names_good config now has Tells told fits (inl configured) = unlike false configured.0 refl
+names_good config now has Tells told fits (inr names) = unlike (are_known config names.0) (fits.names names.0 (names.1 told)) names.2
 
 module _ {K : Type 0} (Tells : K → Type 0) (rows : K → Rows) (faults : K → ℕ) where
   not_opened_good : (config : HubConfig) (now : ℕ) (k k' : K) (e : OpenError) → Tells k' → Stands (faults k) (faults k') → Fits config now (rows k)

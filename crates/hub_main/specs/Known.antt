@@ -9,7 +9,6 @@ use Rattle.scope_filters.specs.declared.holder.Owner.{Owner}
 use Rattle.scope_filters.specs.declared.holder.Owner.TheVariants.{User, Service}
 use Rattle.hub_rows.specs.declared.records.Group.{Group}
 use Rattle.hub_rows.specs.declared.records.Role.{Role}
-use Rattle.hub_opening.specs.declared.config.ConfigToken.{ConfigToken}
 use Rattle.hub_opening.specs.declared.config.HubConfig.{HubConfig}
 use Rattle.keeper.specs.declared.keeper.Row.{Row}
 use Rattle.hub_main.specs.declared.known_names.Names.{Names}

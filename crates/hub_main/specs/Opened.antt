@@ -1,5 +1,5 @@
 -- The book of a session: over which store it is opened, with which names, and why it isn't.
-use Rattle.std.specs.Prelude.{◌≡◌, ℕ, ◌≤◌, Bool, IsTrue, true, false, not, List, [], Option, None, is_some, ⊤}
+use Rattle.std.specs.Prelude.{◌≡◌, ◌⊎◌, ℕ, ◌≤◌, Bool, IsTrue, true, false, not, List, [], Option, None, is_some, ⊤}
 use Rattle.hub_devices.specs.Faults.{Rises}
 use Rattle.keeper.specs.Rows.{Rows, AreSame, Lists}
 use Rattle.keeper.specs.declared.keeper.Row.{Row}
@@ -16,9 +16,10 @@ use Rattle.hub_main.specs.Known.{are_known}
 use Rattle.hub_main.specs.declared.cause.Cause.{Cause}
 use Rattle.hub_main.specs.declared.cause.Cause.TheVariants.{Words, Memory, NoFile, NoConfig, UnknownName, NoStore, NotOpened}
 
--- whether the names are known by the rows that a store has, if it tells them
+-- whether the names in the lists of a configuration are known: all are configured, or they are by the rows that a store has, if it tells them
 abbrev pub AreNames : (known : Bool) → HubConfig → (Tells : Type 0) → Rows → Type 0
-AreNames known config Tells has = (kept : List Row) × (Tells → Lists has kept) × (are_known config kept ≡ known)
+AreNames known config Tells has =
+    ((known ≡ true) × (are_known config [] ≡ true)) ⊎ ((kept : List Row) × (Tells → Lists has kept) × (are_known config kept ≡ known))
 
 -- ---- why there is no book
 

@@ -1,8 +1,9 @@
 //! The book of a command: the store that is chosen for it, and what it is opened with.
-ghost use Rattle.std.specs.Prelude.{◌≡◌, ◌≤◌, ◌^◌, ℕ, true, IfOk, IfErr, OnOk, OnErr};
+ghost use Rattle.std.specs.Prelude.{◌≡◌, ◌≤◌, ◌^◌, ℕ, true, [], IfOk, IfErr, OnOk, OnErr};
 ghost use Rattle.hub_opening.specs.Kept.{MakeTable};
 ghost use Rattle.hub_opening.specs.declared.config.HubConfig.{HubConfig};
 ghost use Rattle.keeper.specs.Rows.{Lists};
+ghost use Rattle.hub_main.specs.Known.{are_known};
 ghost use Rattle.hub_main.specs.Opened as spec;
 
 use crate::cause::Cause;
@@ -44,8 +45,19 @@ fn load<K: Keeper>(store: &mut K) -> Result<Vec<Row>, Cause>
     }
 }
 
+/// Whether each name in a list of the configuration is configured itself.
+fn are_configured(alloc: Global, config: &HubConfig) -> Result<bool, Cause>
+    ensures ok { IfOk result (λ all. all ≡ are_known config.now []) }
+    ensures err { IfErr result (λ cause. cause ≡ Cause.Memory) }
+{
+    match unknown_name(alloc, config, &[]) {
+        Ok(unknown) => Ok(unknown.is_none()),
+        Err(_) => Err(Cause::Memory),
+    }
+}
+
 /// Refuses a configuration with a name in a list that is neither configured nor that of a row of the store.
-fn refuse_unknown<K: Keeper>(alloc: Global, store: &mut K, config: &HubConfig) -> Result<(), Cause>
+fn refuse_unkept<K: Keeper>(alloc: Global, store: &mut K, config: &HubConfig) -> Result<(), Cause>
     ensures ok { OnOk result (spec.AreNames true config.now (K.Tells store.new) (K.rows store.old)) }
     ensures err { (now : ℕ) → IfErr result (spec.IsUnopened K.Tells K.rows K.faults config.now now store.old store.new) }
     ensures stays { spec.Stays K.Tells K.rows store.old store.new }
@@ -61,6 +73,20 @@ fn refuse_unknown<K: Keeper>(alloc: Global, store: &mut K, config: &HubConfig) -
         Ok(None) => Ok(()),
         Ok(Some(name)) => Err(Cause::UnknownName(name)),
         Err(_) => Err(Cause::Memory),
+    }
+}
+
+/// The same. The rows, of which there may be many, are read where a name isn't configured alone.
+fn refuse_unknown<K: Keeper>(alloc: Global, store: &mut K, config: &HubConfig) -> Result<(), Cause>
+    ensures ok { OnOk result (spec.AreNames true config.now (K.Tells store.new) (K.rows store.old)) }
+    ensures err { (now : ℕ) → IfErr result (spec.IsUnopened K.Tells K.rows K.faults config.now now store.old store.new) }
+    ensures stays { spec.Stays K.Tells K.rows store.old store.new }
+    ensures counted { K.faults store.old ≤ K.faults store.new }
+{
+    match are_configured(alloc, config) {
+        Ok(true) => Ok(()),
+        Ok(false) => refuse_unkept(alloc, store, config),
+        Err(cause) => Err(cause),
     }
 }
 
