@@ -1,12 +1,12 @@
 //! Grants: for each action a set of filters.
-ghost use Rattle.std.specs.Prelude.{◌≡◌, ◌<◌, ◌^◌, OnOk, OnErr};
+ghost use Rattle.std.specs.Prelude.{◌≡◌, ◌<◌, ◌^◌, length, OnOk, OnErr};
 ghost use Rattle.std.specs.Option.{option_copied};
 ghost use Rattle.std.specs.FinMap as map;
 ghost use Rattle.std.specs.BTreeMap as tree;
-ghost use Rattle.std.specs.BTreeMap.{IsOrdered};
-ghost use Rattle.std.specs.Map.Iter.{ShowsInOrder, deref, deref_pair};
+ghost use Rattle.std.specs.Iterator.{at_most};
+ghost use Rattle.std.specs.Map.Iter.{ShowsInOrder, TakesFirst, deref, deref_pair};
 ghost use Rattle.keyed_rows.specs.Rows.{map_of};
-ghost use Rattle.scope_filters.specs.FilterOrder.{filter_cmp};
+ghost use Rattle.scope_filters.specs.FilterSets.{set_of, IsInOrder};
 ghost use Rattle.scope_filters.specs.Admits.{any_admits};
 ghost use Rattle.scope_names.specs.ActionOrder.{action_cmp};
 ghost use Rattle.scope_filters.specs.Grants.{with_filter, AdmitsMore};
@@ -16,18 +16,24 @@ use crate::members::Members;
 use crate::object::Object;
 use scope_names::action::Action;
 use std::alloc::{AllocError, Global};
+use std::cmp::Ordering;
 use std::collections::BTreeMap;
 use std::collections::btree_map::{Iter, Keys};
 use std::marker::Model;
 
-/// A set of filters, fewer than 2^64.
+/// A set of filters, fewer than 2^64. Its least filter lies in the set itself and the others in a tree, since most sets of a grant have
+/// one filter alone, and a tree of one takes room for eleven.
 pub struct Filters {
-    items: BTreeMap<Filter, ()>,
+    first: Option<Filter>,
+    others: BTreeMap<Filter, ()>,
 }
 
 impl Drop for Filters {
     fn drop(self) {
-        let Filters { items: _ } = self;
+        let Filters {
+            first: _,
+            others: _,
+        } = self;
     }
 }
 
@@ -35,14 +41,17 @@ impl Model for Filters {
     ghost use Rattle.std.specs.FinSet.{FinSet};
     ghost use Rattle.std.specs.FinMap.{code};
     ghost use Rattle.std.specs.Coded.{codes};
-    ghost use Rattle.keyed_rows.specs.Rows.{map_of};
+    ghost use Rattle.std.specs.BTreeMap.{keys};
     ghost use Rattle.scope_filters.specs.FilterOrder.{filter_cmp};
+    ghost use Rattle.scope_filters.specs.FilterSets.{set_of, IsInOrder};
 
     ghost Value = { FinSet filter_cmp };
 
     ghost coded = { Prim.hlevel (codes, code) };
 
-    ghost view = { λ a. map_of filter_cmp a.items };
+    ghost view = { λ a. set_of a.first a.others };
+
+    ghost invariant = { λ a. IsInOrder a.first (keys a.others) };
 }
 
 impl Filters {
@@ -51,7 +60,8 @@ impl Filters {
         ensures { result ≡ map.empty }
     {
         Filters {
-            items: BTreeMap::new(alloc),
+            first: None,
+            others: BTreeMap::new(alloc),
         }
     }
 
@@ -60,48 +70,102 @@ impl Filters {
         ensures ok { OnOk result (self.new ≡ map.insert self.old filter tt) }
         ensures err { OnErr result (self.new ≡ self.old) }
     {
-        keyed_rows::insert_row(&mut self.items, filter, ())
+        insert_filter(&mut self.first, &mut self.others, filter)
     }
 
     /// The number of the filters.
     pub fn len(&self) -> usize
         ensures { result ≡ map.len self.now }
     {
-        number_of(&self.items)
+        number_of(&self.first, &self.others)
     }
 
     /// The filters, in their order.
-    pub fn iter(&self) -> Keys<'_, Filter, ()>
+    pub fn iter(&self) -> FilterIter<'_>
         ensures items { result ≡ map.keys self.now }
         ensures runs { ShowsInOrder (deref {X = Filter}) }
     {
-        self.items.keys()
+        FilterIter {
+            first: self.first.as_ref(),
+            others: self.others.keys(),
+        }
     }
 
     /// Whether one of the filters admits the action on the object. Takes no memory.
     pub fn admits<M: Members>(&self, action: Action, object: &Object, members: &M) -> bool
         ensures { result ≡ any_admits action (M.context members.now) (map.keys self.now) object.now }
     {
-        any_of(&self.items, action, object, members)
+        self.iter().any(|f| f.admits(action, object, members))
     }
 }
 
-fn any_of<M: Members>(
-    items: &BTreeMap<Filter, ()>,
-    action: Action,
-    object: &Object,
-    members: &M,
-) -> bool
-    ensures value { result ≡ any_admits action (M.context members.now) (tree.keys items.now) object.now }
-    ensures ordered { IsOrdered filter_cmp items.now }
-{
-    items.keys().any(|f| f.admits(action, object, members))
+/// The filters of a set, in their order, which contracts see as the list of those that are left.
+#[derive(Drop)]
+pub struct FilterIter<'a> {
+    first: Option<&'a Filter>,
+    others: Keys<'a, Filter, ()>,
 }
 
-fn number_of(items: &BTreeMap<Filter, ()>) -> usize
-    ensures { result ≡ map.len (map_of filter_cmp items.now) }
+impl<'a> Model for FilterIter<'a> {
+    ghost use Rattle.std.specs.Prelude.{List};
+    ghost use Rattle.std.specs.Option.{option_copied};
+    ghost use Rattle.scope_filters.specs.declared.filter.Filter.{Filter};
+    ghost use Rattle.scope_filters.specs.FilterSets.{in_front};
+
+    ghost Value = { List Filter };
+
+    ghost view = { λ a. in_front (option_copied a.first) a.others };
+}
+
+impl<'a> Iterator for FilterIter<'a> {
+    type Item = &'a Filter;
+
+    ghost next_gives = { TakesFirst deref };
+
+    ghost remaining = { λ s. at_most (length s) };
+
+    fn next(&mut self) -> Option<&'a Filter> {
+        match self.first.take() {
+            Some(filter) => Some(filter),
+            None => self.others.next(),
+        }
+    }
+}
+
+/// Adds a filter to those that are there. Without memory they are as they were.
+fn insert_filter(
+    first: &mut Option<Filter>,
+    others: &mut BTreeMap<Filter, ()>,
+    filter: Filter,
+) -> Result<(), AllocError>
+    requires { IsInOrder first.old (tree.keys others.old) }
+    ensures ok { OnOk result (set_of first.new others.new ≡ map.insert (set_of first.old others.old) filter tt) }
+    ensures err { OnErr result (set_of first.new others.new ≡ set_of first.old others.old) }
+    ensures order { IsInOrder first.new (tree.keys others.new) }
 {
-    items.len()
+    let Some(least) = *first else {
+        *first = Some(filter);
+        return Ok(());
+    };
+    match filter.cmp(&least) {
+        Ordering::Equal => Ok(()),
+        Ordering::Greater => keyed_rows::insert_row(others, filter, ()),
+        Ordering::Less => {
+            keyed_rows::insert_row(others, least, ())?;
+            *first = Some(filter);
+            Ok(())
+        }
+    }
+}
+
+fn number_of(first: &Option<Filter>, others: &BTreeMap<Filter, ()>) -> usize
+    requires { IsInOrder first.now (tree.keys others.now) }
+    ensures { result ≡ map.len (set_of first.now others.now) }
+{
+    match first {
+        Some(_) => others.len() + 1,
+        None => 0,
+    }
 }
 
 /// What may be done: an action on each object that a filter under the action admits.
