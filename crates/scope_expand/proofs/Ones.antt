@@ -45,9 +45,9 @@ one_left P [] ys h = absurd h
 one_left P (x ∷ xs) ys (inl h) = inl h
 one_left P (x ∷ xs) ys (inr h) = inr (one_left P xs ys h)
 
-pub one_last : {X : Type 0} (P : X → Type 0) (xs : List X) (y : X) → P y → OneOf P (xs ++ y ∷ [])
-one_last P [] y h = inl h
-one_last P (x ∷ xs) y h = inr (one_last P xs y h)
+pub one_right : {X : Type 0} (P : X → Type 0) (xs ys : List X) → OneOf P ys → OneOf P (xs ++ ys)
+one_right P [] ys h = h
+one_right P (x ∷ xs) ys h = inr (one_right P xs ys h)
 
 pub one_cases : {X : Type 0} (P : X → Type 0) (xs ys : List X) → OneOf P (xs ++ ys) → OneOf P xs ⊎ OneOf P ys
 one_cases P [] ys h = inr h

@@ -1,5 +1,5 @@
 -- What plain scopes grant: their filters, under each action that they cover; and the filters of two grants together.
-use Rattle.std.specs.Prelude.{◌≡◌, Bool, IsTrue, List, ◌↔◌, ◌&&◌, ◌||◌}
+use Rattle.std.specs.Prelude.{◌≡◌, Bool, IsTrue, List, ◌↔◌, ◌&&◌, ◌||◌, ◌⊎◌}
 use Rattle.std.specs.FinSet.{FinSet}
 use Rattle.std.specs.FinMap.{keys}
 use Rattle.std.specs.List.{list_any}
@@ -20,6 +20,11 @@ IsCovering table p a scope = Covers table scope.action a × IsTrue (p scope.filt
 -- a filter under an action passes a test exactly where one of a plain scope that covers the action does
 abbrev pub GrantsCovered : List CustomRow → List PlainScope → Rights → Type 0
 GrantsCovered table plain g = (p : Filter → Bool) (a : Action) → IsTrue (passes p g a) ↔ OneOf (IsCovering table p a) plain
+
+-- a filter under an action passes a test exactly where one did before or one of a plain scope that covers the action does
+abbrev pub CoversMore : List CustomRow → Rights → List PlainScope → Rights → Type 0
+CoversMore table old plain new =
+    (p : Filter → Bool) (a : Action) → IsTrue (passes p new a) ↔ (IsTrue (passes p old a) ⊎ OneOf (IsCovering table p a) plain)
 
 -- an entry of a grant stands under the action and one of its filters passes the test
 abbrev pub row_passes : (Filter → Bool) → Action → Action × FinSet filter_cmp → Bool

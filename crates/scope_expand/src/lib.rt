@@ -14,7 +14,7 @@ ghost use Rattle.scope_filters.specs.Grants.{grant_admits};
 ghost use Rattle.scope_expand.specs.Meaning.{means, plain_scopes, under, IsMeant};
 ghost use Rattle.scope_expand.specs.Meaning as spec;
 ghost use Rattle.scope_expand.specs.Passes.{passes, HasNoOwnerOf};
-ghost use Rattle.scope_expand.specs.Covering.{GrantsCovered, IsJoin, row_passes};
+ghost use Rattle.scope_expand.specs.Covering.{GrantsCovered, CoversMore, IsJoin, row_passes};
 
 use hub_kit::names::ServerKey;
 use scope_filters::filter::Filter;
@@ -25,7 +25,7 @@ use scope_names::action::Action;
 use scope_names::table::ScopeTable;
 use std::alloc::{AllocError, Global};
 
-/// A scope that names its filter: what a scope as written means for a holder.
+/// A scope that names its filter: what a scope as written means for a holder. Contracts alone speak of it.
 #[derive(Clone, Copy)]
 pub struct PlainScope {
     pub action: Action,
@@ -46,8 +46,7 @@ pub fn expand(
     ensures rows { IfOk result (GrantsCovered table.now (plain_scopes scopes.now holder.now)) }
     ensures owners { IfOk result HasNoOwnerOf }
 {
-    let plain = meaning(alloc, scopes, holder)?;
-    grant_of(alloc, table, &plain)
+    grant_of(alloc, table, scopes, holder)
 }
 
 /// Adds to a grant all that another grants. Without memory the grant is as it was.
@@ -61,43 +60,51 @@ pub fn join(into: &mut Grant, other: &Grant) -> Result<(), AllocError>
     Ok(())
 }
 
-/// What the scopes mean for the holder.
-fn meaning(
+/// The grant of all that the scopes mean for the holder.
+fn grant_of(
     alloc: Global,
+    table: &ScopeTable,
     scopes: &[RawScope],
     holder: &Holder,
-) -> Result<Vec<PlainScope>, AllocError>
-    ensures { IfOk result (λ plain. plain.items ≡ plain_scopes scopes.now holder.now) }
+) -> Result<Grant, AllocError>
+    ensures { IfOk result (λ grant. GrantsCovered table.now (plain_scopes scopes.now holder.now) grant) }
 {
-    let mut plain = Vec::new(alloc);
+    let mut grant = Grant::new(alloc);
     for scope in scopes {
-        push_meaning(&mut plain, scope, holder)?;
+        add_meaning(&mut grant, table, scope, holder)?;
     }
-    Ok(plain)
+    Ok(grant)
 }
 
-fn push_meaning(
-    plain: &mut Vec<PlainScope>,
+/// Adds what a scope means for the holder.
+fn add_meaning(
+    grant: &mut Grant,
+    table: &ScopeTable,
     scope: &RawScope,
     holder: &Holder,
 ) -> Result<(), AllocError>
-    ensures { OnOk result (plain.new.items ≡ plain.old.items ++ means scope.now holder.now) }
+    ensures { OnOk result (CoversMore table.now grant.old (means scope.now holder.now) grant.new) }
 {
     match scope {
         RawScope::Plain { action, filter } => {
-            push_under(plain, action, &filter_meant(filter, holder))
+            add_under(grant, table, action, &filter_meant(filter, holder))
         }
-        RawScope::SelfScope => push_profile(plain, &owning_user(&holder.owner)),
+        RawScope::SelfScope => add_profile(grant, table, &owning_user(&holder.owner)),
         RawScope::Inherit => Ok(()),
     }
 }
 
-/// Appends the scopes of an owner's own things, filtered, or nothing without a filter.
-fn push_profile(plain: &mut Vec<PlainScope>, filter: &Option<Filter>) -> Result<(), AllocError>
-    ensures { OnOk result (plain.new.items ≡ plain.old.items ++ flat_map (λ a. under a filter.now) spec.profile) }
+/// Adds the scopes of an owner's own things, filtered, or nothing without a filter.
+fn add_profile(
+    grant: &mut Grant,
+    table: &ScopeTable,
+    filter: &Option<Filter>,
+) -> Result<(), AllocError>
+    ensures { OnOk result (CoversMore table.now grant.old (flat_map (λ a. under a filter.now) spec.profile) grant.new) }
 {
-    push_each(
-        plain,
+    add_each_under(
+        grant,
+        table,
         &[
             Action::ReadUsers,
             Action::UsersActivity,
@@ -111,33 +118,33 @@ fn push_profile(plain: &mut Vec<PlainScope>, filter: &Option<Filter>) -> Result<
     )
 }
 
-fn push_each(
-    plain: &mut Vec<PlainScope>,
+fn add_each_under(
+    grant: &mut Grant,
+    table: &ScopeTable,
     actions: &[Action],
     filter: &Option<Filter>,
 ) -> Result<(), AllocError>
-    ensures { OnOk result (plain.new.items ≡ plain.old.items ++ flat_map (λ a. under a filter.now) actions.now) }
+    ensures { OnOk result (CoversMore table.now grant.old (flat_map (λ a. under a filter.now) actions.now) grant.new) }
 {
     for action in actions {
-        push_under(plain, action, filter)?;
+        add_under(grant, table, action, filter)?;
     }
     Ok(())
 }
 
-fn push_under(
-    plain: &mut Vec<PlainScope>,
+/// Adds a scope of the action, filtered, or nothing without a filter.
+fn add_under(
+    grant: &mut Grant,
+    table: &ScopeTable,
     action: &Action,
     filter: &Option<Filter>,
 ) -> Result<(), AllocError>
-    ensures { OnOk result (plain.new.items ≡ plain.old.items ++ under action.now filter.now) }
+    ensures { OnOk result (CoversMore table.now grant.old (under action.now filter.now) grant.new) }
 {
-    if let Some(filter) = filter {
-        plain.push(PlainScope {
-            action: *action,
-            filter: *filter,
-        })?;
+    match filter {
+        Some(filter) => add_each(grant, table.covered(*action), filter),
+        None => Ok(()),
     }
-    Ok(())
 }
 
 /// The filter that a filter as written means for the holder.
@@ -181,17 +188,6 @@ fn server_of_issue(issued_for: &Option<ServerKey>) -> Option<Filter>
         Some(server) => Some(Filter::Server(*server)),
         None => None,
     }
-}
-
-/// The grant of all that plain scopes cover.
-fn grant_of(alloc: Global, table: &ScopeTable, plain: &[PlainScope]) -> Result<Grant, AllocError>
-    ensures { IfOk result (λ grant. GrantsCovered table.now plain.now grant) }
-{
-    let mut grant = Grant::new(alloc);
-    for scope in plain {
-        add_each(&mut grant, table.covered(scope.action), &scope.filter)?;
-    }
-    Ok(grant)
 }
 
 /// Adds a filter under each of the actions.

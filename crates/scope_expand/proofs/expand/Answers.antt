@@ -1,12 +1,8 @@
-use Rattle.std.proofs.Common.{◌∙◌}
-use Rattle.scope_expand.proofs.Meanings.{covered_by, expanded, expanded_plain}
+use Rattle.scope_expand.proofs.Meanings.{expanded, expanded_plain}
 use Rattle.scope_expand.proofs.expand.Goals as goal
 
 pub returns-clause-admits : goal.returns-clause-admits
-returns-clause-admits c = expanded c.args.table.now c.args.scopes.now c.args.holder.now c.deref.result.now c.grant_of.result (c.deref.ensures.value ∙ c.in_ok-plain.ensures) c.grant_of.ensures
-
-pub returns-clause-rows : goal.returns-clause-rows
-returns-clause-rows c = covered_by c.args.table.now c.args.scopes.now c.args.holder.now c.deref.result.now c.grant_of.result (c.deref.ensures.value ∙ c.in_ok-plain.ensures) c.grant_of.ensures
+returns-clause-admits c = expanded c.args.table.now c.args.scopes.now c.args.holder.now c.grant_of.result c.grant_of.ensures
 
 pub returns-clause-owners : goal.returns-clause-owners
-returns-clause-owners c = expanded_plain c.args.table.now c.args.scopes.now c.args.holder.now c.deref.result.now c.grant_of.result (c.deref.ensures.value ∙ c.in_ok-plain.ensures) c.grant_of.ensures
+returns-clause-owners c = expanded_plain c.args.table.now c.args.scopes.now c.args.holder.now c.grant_of.result c.grant_of.ensures
