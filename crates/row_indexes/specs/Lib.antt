@@ -1,4 +1,5 @@
 pub mod Hashes
 pub mod Members
+pub mod Numbers
 pub mod Owned
 pub mod Servers

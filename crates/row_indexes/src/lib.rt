@@ -8,5 +8,6 @@
 pub mod grouped;
 pub mod hashed;
 pub mod members;
+pub mod numbers;
 pub mod owned;
 pub mod servers;

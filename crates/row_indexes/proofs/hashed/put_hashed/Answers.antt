@@ -1,11 +1,11 @@
-use Rattle.std.proofs.Common.{◌≡◌, ◌∙◌, sym, ap, subst, IfOk, IsOkAnd}
+use Rattle.std.proofs.Common.{◌∙◌, sym, ap}
 use Rattle.std.specs.Ordering.{nat_cmp}
 use Rattle.std.specs.Cmp.{nat_cmp_total}
-use Rattle.std.specs.FinMap.{contains_key, insert, remove}
-use Rattle.hub_kit.specs.KeyOrder.{name_cmp}
+use Rattle.std.specs.FinMap.{contains_key, remove}
 use Rattle.keyed_rows.specs.Rows.{map_of}
 use Rattle.keyed_rows.proofs.Finite.{kept_row}
-use Rattle.row_indexes.proofs.ByHash.{index_kept_put, index_new_put, index_same, undone}
+use Rattle.row_indexes.specs.Numbers.{number_of}
+use Rattle.row_indexes.proofs.ByHash.{index_kept_put, index_new_put, index_same, undone, when_ok, when_err}
 use Rattle.keyed_rows.proofs.Puts.{memory_after_ok}
 use Rattle.row_indexes.proofs.hashed.put_hashed.Goals as goal
 
@@ -14,11 +14,11 @@ returns-then-contains_key-clause-indexed g c =
     index_kept_put g.R.Keyed.key_of g.R.Hashed.hash_of _ _ c.requires.indexed c.args.value c.requires.fits _ c.put.result c.put.ensures.ok c.put.ensures.err
     (ap (contains_key (map_of nat_cmp c.args.rows.now)) (sym c.key.ensures) ∙ kept_row nat_cmp_total c.args.rows.now c.key.result.now ∙ sym c.contains_key.ensures ∙ c.if-contains_key.true)
 
-pub returns-then-add_hash-clause-indexed : goal.returns-then-add_hash-clause-indexed
-returns-then-add_hash-clause-indexed g c =
-    index_new_put g.R.Keyed.key_of g.R.Hashed.hash_of _ _ c.requires.indexed c.args.value c.requires.fits _ _ c.copy-hash.result c.in_ok-put.ensures.ok
-    (subst (λ hash. IfOk c.copy-hash.result (λ h. h ≡ hash)) c.hash.ensures c.copy-hash.ensures)
-    (subst (λ k. IsOkAnd c.copy-hash.result (λ h. map_of name_cmp c.add_hash.new.ids ≡ insert (map_of name_cmp c.args.ids.now) h k)) c.key.ensures (c.add_hash.ensures.ok c.if-add_hash.true))
+pub returns-then-is_ok-clause-indexed : goal.returns-then-is_ok-clause-indexed
+returns-then-is_ok-clause-indexed g c =
+    index_new_put g.R.Keyed.key_of g.R.Hashed.hash_of _ _ c.requires.indexed c.args.value _ _ _ _ c.in_ok-put.ensures.ok
+    (c.number_of-number.ensures ∙ ap number_of (c.as_bytes.ensures ∙ c.hash.ensures)) c.key.ensures
+    (when_ok c.note_id.result (sym c.is_ok.ensures.value ∙ c.if-is_ok.true) c.note_id.ensures.ok)
     (ap (contains_key (map_of nat_cmp c.args.rows.now)) (sym c.key.ensures) ∙ kept_row nat_cmp_total c.args.rows.now c.key.result.now ∙ sym c.contains_key.ensures ∙ c.if-contains_key.false)
 
 pub returns-clause-answer : goal.returns-clause-answer
@@ -34,4 +34,4 @@ returns-clause-err g c =
     (ap (contains_key (map_of nat_cmp c.args.rows.now)) (sym c.key.ensures) ∙ kept_row nat_cmp_total c.args.rows.now c.key.result.now ∙ sym c.contains_key.ensures ∙ c.if-contains_key.false)
 
 pub returns-clause-indexed : goal.returns-clause-indexed
-returns-clause-indexed g c = index_same g.R.Keyed.key_of g.R.Hashed.hash_of _ _ c.requires.indexed _ _ (returns-clause-err g c) (c.add_hash.ensures.failed c.if-add_hash.false)
+returns-clause-indexed g c = index_same g.R.Keyed.key_of g.R.Hashed.hash_of _ _ c.requires.indexed _ _ (returns-clause-err g c) (when_err c.note_id.result (sym c.is_ok.ensures.value ∙ c.if-is_ok.false) c.note_id.ensures.err)
