@@ -17,6 +17,8 @@ use Rattle.hub_tables.specs.declared.trees.Trees.{Trees}
 use Rattle.hub_tables.specs.Empty.{AreEmpty, IsEmptyIndex}
 use Rattle.hub_rows.specs.declared.records.Group.{Group}
 use Rattle.hub_rows.specs.declared.records.Role.{Role}
+use Rattle.hub_rows.specs.declared.records.ShareCode.{ShareCode}
+use Rattle.hub_rows.specs.declared.records.Token.{Token}
 use Rattle.hub_rows.specs.ShareOrder.{names_exact, share_cmp, share_exact}
 use Rattle.row_indexes.specs.Owned.{owned_cmp}
 use Rattle.row_indexes.specs.Members.{TellsMembers}
@@ -24,7 +26,7 @@ use Rattle.row_indexes.specs.declared.owned.OwnedKey.{OwnedKey}
 use Rattle.row_indexes.proofs.ByHash.{empty_indexed}
 use Rattle.row_indexes.proofs.Indexed.{empty_index}
 use Rattle.row_indexes.proofs.MemberKeys.{empty_members}
-use Rattle.hub_tables.specs.Parties.{party_cmp, is_token_of, is_share_of}
+use Rattle.hub_tables.specs.Parties.{party_cmp, is_numbered, is_share_of}
 use Rattle.hub_tables.specs.Kept.{Kind, IsKept, Users, Groups, Services, Roles, Tokens, Servers, Leases, Shares, Codes, Clients, GrantCodes, Nexts}
 
 abbrev pub AreKept : Trees → Type 0
@@ -56,8 +58,8 @@ empty_kept t e Roles = let none = ap (from_entries {R = name_cmp}) e.roles in re
 empty_kept t e Tokens = record {
   own = no_rows nat_cmp_total nat_cmp-IsAntisymmetric _ t.tokens e.tokens;
   ordered = e.tokens_ordered;
-  indexed = empty_indexed _ _ _ (ap (from_entries {R = nat_cmp}) e.tokens) (ap (from_entries {R = name_cmp}) e.token_ids);
-  owned = empty_index party_cmp nat_cmp is_token_of _ _ (ap (from_entries {R = nat_cmp}) e.tokens) (ap (from_entries {R = owned_cmp party_cmp nat_cmp}) e.token_owners);
+  indexed = empty_indexed (λ (row : Token). row.hash) _ (map_of nat_cmp t.token_ids) (ap (from_entries {R = nat_cmp}) e.tokens);
+  owned = empty_index nat_cmp nat_cmp is_numbered _ _ (ap (from_entries {R = nat_cmp}) e.tokens) (ap (from_entries {R = owned_cmp nat_cmp nat_cmp}) e.token_owners);
 }
 empty_kept t e Servers = no_rows server_key.total-law key_exact _ t.servers e.servers
 empty_kept t e Leases = no_rows nat_list_cmp_total names_exact _ t.leases e.leases
@@ -68,7 +70,7 @@ empty_kept t e Shares = record {
 empty_kept t e Codes = record {
   own = no_rows nat_cmp_total nat_cmp-IsAntisymmetric _ t.codes e.codes;
   ordered = e.codes_ordered;
-  indexed = empty_indexed _ _ _ (ap (from_entries {R = nat_cmp}) e.codes) (ap (from_entries {R = name_cmp}) e.code_ids);
+  indexed = empty_indexed (λ (row : ShareCode). row.hash) _ (map_of nat_cmp t.code_ids) (ap (from_entries {R = nat_cmp}) e.codes);
 }
 empty_kept t e Clients = no_rows nat_list_cmp_total names_exact _ t.clients e.clients
 empty_kept t e GrantCodes = no_rows nat_list_cmp_total names_exact _ t.grant_codes e.grant_codes

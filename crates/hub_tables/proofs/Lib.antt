@@ -2,4 +2,5 @@ pub mod Fresh
 pub mod GroupNames
 pub mod Kept
 pub mod Owners
+pub mod Picked
 pub mod RowsAt

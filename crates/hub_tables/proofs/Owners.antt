@@ -1,19 +1,27 @@
 -- The tokens, shares and servers of an owner, as a scan over all rows gives them.
 use Rattle.std.proofs.Common.{◌≡◌, ℕ, Bool, true, false, not, ◌&&◌, ◌||◌, List, Option, Some, None, is_some, is_ok, map, Result, Ok, Err, OnOk, OnErr, refl, sym, ap, ◌∙◌, subst}
-use Rattle.std.specs.Ordering.{nat_cmp, eq_by_cmp}
-use Rattle.std.specs.Cmp.{IsTotalOrder, nat_cmp_total, eq_by_cmp_equiv}
+use Rattle.std.specs.Ordering.{nat_cmp, eq_by_cmp, is_eq}
+use Rattle.std.specs.Cmp.{IsTotalOrder, nat_cmp_total, eq_by_cmp_equiv, tied_itself}
 use Rattle.std.specs.Cmp.Lexicographic.{nat_list_cmp_total, texts_ties}
 use Rattle.std.specs.declared.cmp.Ordering.{Ordering}
-use Rattle.std.specs.FinMap.{FinMap, keys, values, get, insert, remove, contains_key, IsAntisymmetric, nat_cmp-IsAntisymmetric}
+use Rattle.std.specs.FinMap.{FinMap, len, keys, values, get, insert, remove, contains_key, IsAntisymmetric, nat_cmp-IsAntisymmetric}
 use Rattle.std.specs.List.{filter}
 use Rattle.hub_kit.specs.KeyOrder.{name_cmp, key_cmp, key_exact}
 use Rattle.hub_kit.specs.contracts.names.ServerKeyOrd.TheImpl.Laws as server_key
-use Rattle.keyed_rows.specs.Rows.{OwnKeys}
-use Rattle.keyed_rows.proofs.Finite.{put_and_removed}
+use Rattle.keyed_rows.specs.Rows.{OwnKeys, is_kept_and}
+use Rattle.keyed_rows.specs.declared.PutError.{PutError}
+use Rattle.keyed_rows.specs.declared.Room.{Room}
+use Rattle.keyed_rows.specs.Puts.{IsAnswerIn, room_left}
+use Rattle.keyed_rows.proofs.Puts.{full_answer, new_answer}
+use Rattle.hub_tables.specs.Rooms.{for_memory}
+use Rattle.keyed_rows.proofs.Finite.{put_and_removed, tied}
 use Rattle.keyed_rows.proofs.InOrder.{own_keys}
 use Rattle.hub_rows.specs.declared.keys.ShareKey.{ShareKey}
 use Rattle.hub_tables.specs.Hashes.{FitsToken}
 use Rattle.hub_tables.specs.declared.parties.Party.{Party}
+use Rattle.hub_tables.specs.declared.parties.Party.TheVariants.{User, Group, Service}
+use Rattle.hub_tables.proofs.Picked.{found_among_found}
+use Rattle.row_indexes.specs.Numbers.{number_of}
 use Rattle.row_indexes.specs.Owned.{owned_cmp, under, keys_under, IsIndex, IsNoted, IsForgotten}
 use Rattle.row_indexes.proofs.Indexed.{tells, put_new, put_in_place, taken, none_taken, forgot_none, noted_twice, forgotten_twice, noted_forgotten}
 use Rattle.scope_filters.specs.Contexts.{same}
@@ -27,7 +35,7 @@ use Rattle.hub_rows.specs.declared.records.ServerRow.{ServerRow}
 use Rattle.hub_rows.specs.declared.records.Share.{Share}
 use Rattle.hub_rows.specs.declared.records.Token.{Token}
 use Rattle.hub_tables.specs.Lookups.{same_owner, same_recipient, is_given_by, is_share_with}
-use Rattle.hub_tables.specs.Parties.{party_cmp, party_exact, of_owner, of_recipient, giver_of, is_token_of, is_share_of}
+use Rattle.hub_tables.specs.Parties.{party_cmp, party_exact, of_owner, owner_number, of_recipient, giver_of, is_numbered, is_token_of, is_share_of}
 use Rattle.hub_tables.specs.contracts.parties.PartyOrd.TheImpl.Laws as party
 
 same_names : (a b : List ℕ) → eq_by_cmp name_cmp a b ≡ same b a
@@ -53,10 +61,31 @@ share_test : (to : Recipient) (share : Share) → is_share_of (of_recipient to) 
 share_test to share =
     ap (λ b. b || eq_by_cmp party_cmp (of_recipient to) (of_recipient share.key.to)) (giver_test to share) ∙ ap (λ b. is_given_by to share.key || b) (recipient_test to share.key.to)
 
-pub token_ids : (rows : FinMap nat_cmp Token) (index : _) → IsIndex party_cmp nat_cmp is_token_of rows index → OwnKeys (λ (row : Token). row.id) rows → (owner : Owner)
-    → keys_under party_cmp (of_owner owner) (keys index) ≡ map (λ (row : Token). row.id) (filter (λ (row : Token). same_owner row.owner owner) (values rows))
+-- ---- the tokens of an owner, among those of its number
+
+-- the number of the name in a party
+abbrev number_in : Party → ℕ
+number_in (User user) = number_of user
+number_in (Group group) = number_of group
+number_in (Service service) = number_of service
+
+owner_number_in : (w : Owner) → number_in (of_owner w) ≡ owner_number w
+owner_number_in (Of.User user) = refl
+owner_number_in (Of.Service service) = refl
+
+-- the tokens of an owner have its number
+numbered : (w : Owner) (row : Token) → is_token_of (of_owner w) row ≡ true → is_numbered (owner_number w) row ≡ true
+numbered w row h =
+    ap (eq_by_cmp nat_cmp (owner_number w)) (sym (owner_number_in row.owner) ∙ ap number_in (sym (party_exact (of_owner w) (of_owner row.owner) (tied (party_cmp (of_owner w) (of_owner row.owner)) h))) ∙ owner_number_in w)
+    ∙ ap is_eq (tied_itself nat_cmp_total (owner_number w))
+
+pub token_ids : (rows : FinMap nat_cmp Token) (index : _) → IsIndex nat_cmp nat_cmp is_numbered rows index → OwnKeys (λ (row : Token). row.id) rows → (owner : Owner)
+    → filter (λ id. is_kept_and (is_token_of (of_owner owner)) (get rows id)) (keys_under nat_cmp (owner_number owner) (keys index))
+    ≡ map (λ (row : Token). row.id) (filter (λ (row : Token). same_owner row.owner owner) (values rows))
 token_ids rows index x own owner =
-    tells party_cmp nat_cmp party.total-law party_exact nat_cmp_total nat_cmp-IsAntisymmetric (λ (row : Token). row.id) is_token_of rows index x own (of_owner owner)
+    ap (filter (λ id. is_kept_and (is_token_of (of_owner owner)) (get rows id)))
+    (tells nat_cmp nat_cmp nat_cmp_total nat_cmp-IsAntisymmetric nat_cmp_total nat_cmp-IsAntisymmetric (λ (row : Token). row.id) is_numbered rows index x own (owner_number owner))
+    ∙ found_among_found nat_cmp-IsAntisymmetric nat_cmp_total (λ (row : Token). row.id) (is_token_of (of_owner owner)) (is_numbered (owner_number owner)) (numbered owner) rows own
     ∙ ap (λ p. map (λ (row : Token). row.id) (filter p (values rows))) (λ i row. owner_test owner row.owner i)
 
 pub share_keys : (rows : FinMap share_cmp Share) (index : _) → IsIndex party_cmp share_cmp is_share_of rows index → OwnKeys (λ (row : Share). row.key) rows → (to : Recipient)
@@ -93,29 +122,34 @@ pub put_undone : {K X : Type 0} {R : K → K → Ordering} (total : IsTotalOrder
     → put ≡ insert {R = R} rows k v → after ≡ remove put k → contains_key rows k ≡ false → after ≡ rows
 put_undone total exact rows put after k v p a new = a ∙ ap (λ m. remove m k) p ∙ put_and_removed total exact rows k v new
 
-pub index_as_before : {K X : Type 0} {R : K → K → Ordering} (is_of : Party → X → Bool) (rows rows' : FinMap R X) (index index' : FinMap (owned_cmp party_cmp R) (Unit {0}))
-    → IsIndex party_cmp R is_of rows index → rows' ≡ rows → index' ≡ index → IsIndex party_cmp R is_of rows' index'
-index_as_before {R = R} is_of rows rows' index index' x e f = subst (λ m. IsIndex party_cmp R is_of m index') (sym e) (subst (IsIndex party_cmp R is_of rows) (sym f) x)
+-- where there is no memory for a row at a new key, whether it has room decides
+pub no_memory : {K X : Type 0} {R : K → K → Ordering} (rows : FinMap R X) (key : K) → contains_key rows key ≡ false → (room : Option Room) → IsAnswerIn room rows key (Err (for_memory (room_left (len rows) room)))
+no_memory rows key new room = elim (room_left (len rows) room) as (λ r. room_left (len rows) room ≡ r → IsAnswerIn room rows key (Err (for_memory r))) [
+  | Ok u ↦ λ e. (new_answer rows key new room e).1
+  | Err full ↦ λ e. full_answer rows key new room full e
+] refl
 
-module _ (rows rows' : FinMap nat_cmp Token) (index index' : FinMap (owned_cmp party_cmp nat_cmp) (Unit {0})) (x : IsIndex party_cmp nat_cmp is_token_of rows index) where
-  pub token_in_place : {E : Type 0} (v : Token) → FitsToken rows v → (r : Result (Unit {0}) E) → OnOk r (rows' ≡ insert rows v.id v) → OnErr r (rows' ≡ rows) → contains_key rows v.id ≡ true
-      → IsIndex party_cmp nat_cmp is_token_of rows' index
-  token_in_place v f r ok err kept =
-      put_in_place party_cmp nat_cmp nat_cmp_total is_token_of rows index x v.id rows' index v r ok err kept (λ old at o. ap (λ w. eq_by_cmp party_cmp o (of_owner w)) (sym (f.owner old at)))
+module _ (rows rows' : FinMap nat_cmp Token) (index index' : FinMap (owned_cmp nat_cmp nat_cmp) (Unit {0})) (x : IsIndex nat_cmp nat_cmp is_numbered rows index) where
+  pub tokens_as_before : rows' ≡ rows → index' ≡ index → IsIndex nat_cmp nat_cmp is_numbered rows' index'
+  tokens_as_before e f = subst (λ m. IsIndex nat_cmp nat_cmp is_numbered m index') (sym e) (subst (IsIndex nat_cmp nat_cmp is_numbered rows) (sym f) x)
 
-  pub token_noted : (v : Token) (w : Party) → w ≡ of_owner v.owner → rows' ≡ insert rows v.id v → contains_key rows v.id ≡ false → IsNoted party_cmp nat_cmp w v.id index index'
-      → IsIndex party_cmp nat_cmp is_token_of rows' index'
-  token_noted v w h e new noted =
-      put_new party_cmp nat_cmp nat_cmp_total is_token_of rows index x v.id rows' index' v e (none_kept (get rows v.id) new) (subst (λ p. IsNoted party_cmp nat_cmp p v.id index index') h noted)
+  pub token_in_place : (v : Token) → FitsToken rows v → rows' ≡ insert rows v.id v → contains_key rows v.id ≡ true → IsIndex nat_cmp nat_cmp is_numbered rows' index
+  token_in_place v f e kept =
+      put_in_place nat_cmp nat_cmp nat_cmp_total is_numbered rows index x v.id rows' index v (let r : Result (Unit {0}) PutError = Ok tt in r) e tt kept (λ old at o. ap (λ w. eq_by_cmp nat_cmp o (owner_number w)) (sym (f.owner old at)))
 
-  pub token_taken : (id : ℕ) (row : Token) (w : Party) → get rows id ≡ Some row → w ≡ of_owner row.owner → rows' ≡ remove rows id → IsForgotten party_cmp nat_cmp w id index index'
-      → IsIndex party_cmp nat_cmp is_token_of rows' index'
-  token_taken id row w at h e forgotten =
-      taken party_cmp nat_cmp nat_cmp_total is_token_of rows index x id rows' index' (λ o. eq_by_cmp party_cmp o w) e
-      (λ old kept o. ap (λ (k : Token). eq_by_cmp party_cmp o (of_owner k.owner)) (one_value kept at) ∙ ap (eq_by_cmp party_cmp o) (sym h)) forgotten
+  pub token_noted : (v : Token) (n : ℕ) → n ≡ owner_number v.owner → rows' ≡ insert rows v.id v → contains_key rows v.id ≡ false → IsNoted nat_cmp nat_cmp n v.id index index'
+      → IsIndex nat_cmp nat_cmp is_numbered rows' index'
+  token_noted v n h e new noted =
+      put_new nat_cmp nat_cmp nat_cmp_total is_numbered rows index x v.id rows' index' v e (none_kept (get rows v.id) new) (subst (λ p. IsNoted nat_cmp nat_cmp p v.id index index') h noted)
 
-  pub no_token_taken : (id : ℕ) → get rows id ≡ None → rows' ≡ remove rows id → IsIndex party_cmp nat_cmp is_token_of rows' index
-  no_token_taken id none e = none_taken party_cmp nat_cmp nat_cmp_total is_token_of rows index x id rows' index e none
+  pub token_taken : (id : ℕ) (row : Token) (n : ℕ) → get rows id ≡ Some row → n ≡ owner_number row.owner → rows' ≡ remove rows id → IsForgotten nat_cmp nat_cmp n id index index'
+      → IsIndex nat_cmp nat_cmp is_numbered rows' index'
+  token_taken id row n at h e forgotten =
+      taken nat_cmp nat_cmp nat_cmp_total is_numbered rows index x id rows' index' (λ o. eq_by_cmp nat_cmp o n) e
+      (λ old kept o. ap (λ (k : Token). eq_by_cmp nat_cmp o (owner_number k.owner)) (one_value kept at) ∙ ap (eq_by_cmp nat_cmp o) (sym h)) forgotten
+
+  pub no_token_taken : (id : ℕ) → get rows id ≡ None → rows' ≡ remove rows id → IsIndex nat_cmp nat_cmp is_numbered rows' index
+  no_token_taken id none e = none_taken nat_cmp nat_cmp nat_cmp_total is_numbered rows index x id rows' index e none
 
 abbrev is_party : ShareKey → Party → Bool
 is_party key party = eq_by_cmp party_cmp party (giver_of key) || eq_by_cmp party_cmp party (of_recipient key.to)

@@ -19,7 +19,7 @@ use Rattle.row_indexes.specs.Hashes.{IsIndexed}
 use Rattle.row_indexes.specs.Owned.{owned_cmp, IsIndex}
 use Rattle.row_indexes.specs.declared.owned.OwnedKey.{OwnedKey}
 use Rattle.hub_tables.specs.declared.parties.Party.{Party}
-use Rattle.hub_tables.specs.Parties.{party_cmp, is_token_of, is_share_of}
+use Rattle.hub_tables.specs.Parties.{party_cmp, is_numbered, is_share_of}
 use Rattle.hub_tables.specs.State.{State}
 
 -- the state that the trees hold
@@ -42,17 +42,17 @@ state_of t limits scopes = record {
 }
 
 -- rows under their ids, with an index of their hashes
-pub record IsKeptByHash {X : Type 0} (id_of : X → ℕ) (hash_of : X → List ℕ) (rows : BTreeMap ℕ X) (ids : BTreeMap (List ℕ) ℕ) : Type 0 where
+pub record IsKeptByHash {X : Type 0} (id_of : X → ℕ) (hash_of : X → List ℕ) (rows : BTreeMap ℕ X) (ids : BTreeMap ℕ ℕ) : Type 0 where
   pub own : OwnKeys id_of (map_of nat_cmp rows)
   pub ordered : IsOrdered nat_cmp rows
-  pub indexed : IsIndexed hash_of (map_of nat_cmp rows) (map_of name_cmp ids)
+  pub indexed : IsIndexed hash_of (map_of nat_cmp rows) (map_of nat_cmp ids)
 
 -- tokens under their ids, with indexes of their hashes and their owners
-pub record AreTokensKept (rows : BTreeMap ℕ Token) (ids : BTreeMap (List ℕ) ℕ) (owners : BTreeMap (OwnedKey Party ℕ) (Unit {0})) : Type 0 where
+pub record AreTokensKept (rows : BTreeMap ℕ Token) (ids : BTreeMap ℕ ℕ) (owners : BTreeMap (OwnedKey ℕ ℕ) (Unit {0})) : Type 0 where
   pub own : OwnKeys (λ (row : Token). row.id) (map_of nat_cmp rows)
   pub ordered : IsOrdered nat_cmp rows
-  pub indexed : IsIndexed (λ (row : Token). row.hash) (map_of nat_cmp rows) (map_of name_cmp ids)
-  pub owned : IsIndex party_cmp nat_cmp is_token_of (map_of nat_cmp rows) (map_of (owned_cmp party_cmp nat_cmp) owners)
+  pub indexed : IsIndexed (λ (row : Token). row.hash) (map_of nat_cmp rows) (map_of nat_cmp ids)
+  pub owned : IsIndex nat_cmp nat_cmp is_numbered (map_of nat_cmp rows) (map_of (owned_cmp nat_cmp nat_cmp) owners)
 
 -- groups under their names, with an index of their members
 pub record AreGroupsKept (rows : BTreeMap (List ℕ) Group) (users : Option (BTreeMap (OwnedKey (List ℕ) (List ℕ)) (Unit {0}))) : Type 0 where

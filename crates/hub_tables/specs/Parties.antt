@@ -1,8 +1,8 @@
 -- Under whom tokens and shares are found.
-use Rattle.std.specs.Prelude.{Bool, ◌||◌}
+use Rattle.std.specs.Prelude.{ℕ, Bool, ◌||◌}
 use Rattle.std.proofs.Common.{ap}
 use Rattle.std.specs.declared.cmp.Ordering.{Ordering}
-use Rattle.std.specs.Ordering.{eq_by_cmp}
+use Rattle.std.specs.Ordering.{nat_cmp, eq_by_cmp}
 use Rattle.std.specs.FinMap.{IsAntisymmetric}
 use Rattle.scope_filters.specs.declared.holder.Owner.{Owner}
 use Rattle.scope_filters.specs.declared.holder.Owner.TheVariants as Of
@@ -12,6 +12,7 @@ use Rattle.hub_rows.specs.declared.keys.ShareKey.{ShareKey}
 use Rattle.hub_rows.specs.declared.records.Share.{Share}
 use Rattle.hub_rows.specs.declared.records.Token.{Token}
 use Rattle.hub_rows.specs.ShareOrder.{names_exact}
+use Rattle.row_indexes.specs.Numbers.{number_of}
 use Rattle.hub_tables.specs.declared.parties.Party.{Party}
 use Rattle.hub_tables.specs.declared.parties.Party.TheVariants.{User, Group, Service}
 use Rattle.hub_tables.specs.contracts.parties.PartyOrd.TheImpl as party
@@ -39,6 +40,15 @@ giver_of key = User key.server.user
 -- a token is its owner's
 abbrev pub is_token_of : Party → Token → Bool
 is_token_of party token = eq_by_cmp party_cmp party (of_owner token.owner)
+
+-- the number of an owner's name
+abbrev pub owner_number : Owner → ℕ
+owner_number (Of.User user) = number_of user
+owner_number (Of.Service service) = number_of service
+
+-- a token is found under the number of its owner
+abbrev pub is_numbered : (number : ℕ) → Token → Bool
+is_numbered number token = eq_by_cmp nat_cmp number (owner_number token.owner)
 
 -- a share is the user's whose server it is, and its recipient's
 abbrev pub is_share_of : Party → Share → Bool

@@ -3,6 +3,7 @@
 //! one map. The rights of owners, the tokens, the shares and the machine of the hub stand on it.
 #![tactic(auto)]
 
+pub mod boxed;
 mod memberships;
 mod owned;
 mod parties;

@@ -1,82 +1,172 @@
 //! Tokens and shares, with the indexes by which those of an owner are found.
-ghost use Rattle.std.specs.Prelude.{◌≡◌, not, ◌&&◌, ◌||◌, OnOk, OnErr, false};
+ghost use Rattle.std.specs.Prelude.{◌≡◌, not, ◌&&◌, ◌||◌, OnOk, OnErr, IfOk, true, false};
+ghost use Rattle.std.specs.Option.{option_copied};
 ghost use Rattle.std.specs.FinMap as map;
 ghost use Rattle.std.specs.BTreeMap.{IsOrdered};
+ghost use Rattle.std.specs.List.{filter};
 ghost use Rattle.std.specs.Ordering.{nat_cmp, eq_by_cmp};
-ghost use Rattle.hub_kit.specs.KeyOrder.{name_cmp};
-ghost use Rattle.keyed_rows.specs.Rows.{map_of, OwnKeys};
-ghost use Rattle.keyed_rows.specs.Puts.{IsAnswerIn};
+ghost use Rattle.keyed_rows.specs.Rows.{map_of, OwnKeys, is_kept_and};
+ghost use Rattle.keyed_rows.specs.Puts.{IsAnswerIn, room_left};
 ghost use Rattle.row_indexes.specs.Owned.{owned_cmp, under, IsIndex};
 ghost use Rattle.hub_rows.specs.ShareOrder.{share_cmp};
 ghost use Rattle.row_indexes.specs.Hashes.{IsIndexed};
 ghost use Rattle.hub_tables.specs.Hashes.{FitsToken};
-ghost use Rattle.hub_tables.specs.Parties.{party_cmp, of_owner, of_recipient, giver_of, is_token_of, is_share_of};
+ghost use Rattle.hub_tables.specs.Rooms.{for_memory};
+ghost use Rattle.hub_tables.specs.Parties.{party_cmp, of_recipient, giver_of, is_numbered, is_token_of, is_share_of, of_owner};
 
-use crate::parties::{Party, giver_of, of_owner, of_recipient};
-use hub_kit::text::Text;
+use crate::boxed::KeptToken;
+use crate::parties::{Party, giver_of, of_owner, of_recipient, owner_number};
 use hub_rows::keys::ShareKey;
 use hub_rows::records::{Share, Token};
 use keyed_rows::{PutError, Room, keyed};
 use row_indexes::hashed::{put_hashed, remove_hashed};
 use row_indexes::owned::{OwnedKey, forget, note};
+use scope_filters::holder::Owner;
 use std::alloc::{AllocError, Global};
 use std::collections::BTreeMap;
 
 /// The keys of rows under their parties.
 pub(crate) type Parties<K> = BTreeMap<OwnedKey<Party, K>, ()>;
 
+/// The ids of tokens under the numbers of their owners.
+pub(crate) type Owners = BTreeMap<OwnedKey<u64, u64>, ()>;
+
 /// Puts a token under its id, and the id under its hash and its owner. At a kept id both stand already, so no memory is needed.
 pub(crate) fn put_token(
     alloc: Global,
-    rows: &mut BTreeMap<u64, Token>,
-    ids: &mut BTreeMap<Text, u64>,
-    owners: &mut Parties<u64>,
+    rows: &mut BTreeMap<u64, KeptToken>,
+    ids: &mut BTreeMap<u64, u64>,
+    owners: &mut Owners,
     value: Token,
     room: Option<Room>,
 ) -> Result<(), PutError>
-    requires indexed { IsIndexed (λ token. token.hash) (map_of nat_cmp rows.old) (map_of name_cmp ids.old) }
-    requires owned { IsIndex party_cmp nat_cmp is_token_of (map_of nat_cmp rows.old) (map_of (owned_cmp party_cmp nat_cmp) owners.old) }
+    requires indexed { IsIndexed (λ token. token.hash) (map_of nat_cmp rows.old) (map_of nat_cmp ids.old) }
+    requires owned { IsIndex nat_cmp nat_cmp is_numbered (map_of nat_cmp rows.old) (map_of (owned_cmp nat_cmp nat_cmp) owners.old) }
     requires fits { FitsToken (map_of nat_cmp rows.old) value }
     ensures answer { IsAnswerIn room (map_of nat_cmp rows.old) value.id result }
     ensures ok { OnOk result (map_of nat_cmp rows.new ≡ map.insert (map_of nat_cmp rows.old) value.id value) }
     ensures err { OnErr result (map_of nat_cmp rows.new ≡ map_of nat_cmp rows.old) }
     ensures ordered { IsOrdered nat_cmp rows.new }
-    ensures indexed { IsIndexed (λ token. token.hash) (map_of nat_cmp rows.new) (map_of name_cmp ids.new) }
-    ensures owned { IsIndex party_cmp nat_cmp is_token_of (map_of nat_cmp rows.new) (map_of (owned_cmp party_cmp nat_cmp) owners.new) }
+    ensures indexed { IsIndexed (λ token. token.hash) (map_of nat_cmp rows.new) (map_of nat_cmp ids.new) }
+    ensures owned { IsIndex nat_cmp nat_cmp is_numbered (map_of nat_cmp rows.new) (map_of (owned_cmp nat_cmp nat_cmp) owners.new) }
 {
-    let id = value.id;
-    let owner = of_owner(&value.owner);
-    if rows.contains_key(&id) {
-        return put_hashed(alloc, rows, ids, value, room);
+    if rows.contains_key(&value.id) {
+        replace_token(rows, value);
+        return Ok(());
     }
+    match KeptToken::new(alloc, value) {
+        Ok(kept) => put_new_token(alloc, rows, ids, owners, kept, room),
+        Err(_) => Err(for_memory(rows.len() as u64, room)),
+    }
+}
+
+/// Writes a token over the kept one of its id. Takes no memory.
+fn replace_token(rows: &mut BTreeMap<u64, KeptToken>, value: Token)
+    requires { map.contains_key (map_of nat_cmp rows.old) value.id ≡ true }
+    ensures row { map_of nat_cmp rows.new ≡ map.insert (map_of nat_cmp rows.old) value.id value }
+    ensures ordered { IsOrdered nat_cmp rows.new }
+{
+    if let Some(kept) = rows.get_mut(&value.id) {
+        kept.set(value);
+    }
+}
+
+/// Puts a token under an id that isn't kept.
+fn put_new_token(
+    alloc: Global,
+    rows: &mut BTreeMap<u64, KeptToken>,
+    ids: &mut BTreeMap<u64, u64>,
+    owners: &mut Owners,
+    value: KeptToken,
+    room: Option<Room>,
+) -> Result<(), PutError>
+    requires new { map.contains_key (map_of nat_cmp rows.old) value.id ≡ false }
+    requires indexed { IsIndexed (λ token. token.hash) (map_of nat_cmp rows.old) (map_of nat_cmp ids.old) }
+    requires owned { IsIndex nat_cmp nat_cmp is_numbered (map_of nat_cmp rows.old) (map_of (owned_cmp nat_cmp nat_cmp) owners.old) }
+    requires fits { FitsToken (map_of nat_cmp rows.old) value }
+    ensures answer { IsAnswerIn room (map_of nat_cmp rows.old) value.id result }
+    ensures ok { OnOk result (map_of nat_cmp rows.new ≡ map.insert (map_of nat_cmp rows.old) value.id value) }
+    ensures err { OnErr result (map_of nat_cmp rows.new ≡ map_of nat_cmp rows.old) }
+    ensures ordered { IsOrdered nat_cmp rows.new }
+    ensures indexed { IsIndexed (λ token. token.hash) (map_of nat_cmp rows.new) (map_of nat_cmp ids.new) }
+    ensures owned { IsIndex nat_cmp nat_cmp is_numbered (map_of nat_cmp rows.new) (map_of (owned_cmp nat_cmp nat_cmp) owners.new) }
+{
+    let id = value.row().id;
+    let number = owner_number(&value.row().owner);
     put_hashed(alloc, rows, ids, value, room)?;
-    if note(owners, &owner, &id).is_ok() {
+    if note(owners, &number, &id).is_ok() {
         return Ok(());
     }
     remove_hashed(rows, ids, id);
     Err(PutError::Memory)
 }
 
+/// The error of a row at a new key for which there is no memory: where the room is full, that.
+fn for_memory(rows: u64, room: Option<Room>) -> PutError
+    ensures { result ≡ for_memory (room_left rows room) }
+{
+    match room {
+        Some(room) => {
+            if room.limit as u64 <= rows.saturating_sub(room.leaving as u64) {
+                return PutError::Full {
+                    kind: room.kind,
+                    limit: room.limit,
+                };
+            }
+            PutError::Memory
+        }
+        None => PutError::Memory,
+    }
+}
+
 /// Takes a token out, and its id from under its hash and its owner. Takes no memory.
 pub(crate) fn remove_token(
-    rows: &mut BTreeMap<u64, Token>,
-    ids: &mut BTreeMap<Text, u64>,
-    owners: &mut Parties<u64>,
+    rows: &mut BTreeMap<u64, KeptToken>,
+    ids: &mut BTreeMap<u64, u64>,
+    owners: &mut Owners,
     id: u64,
 ) -> bool
-    requires indexed { IsIndexed (λ token. token.hash) (map_of nat_cmp rows.old) (map_of name_cmp ids.old) }
-    requires owned { IsIndex party_cmp nat_cmp is_token_of (map_of nat_cmp rows.old) (map_of (owned_cmp party_cmp nat_cmp) owners.old) }
+    requires indexed { IsIndexed (λ token. token.hash) (map_of nat_cmp rows.old) (map_of nat_cmp ids.old) }
+    requires owned { IsIndex nat_cmp nat_cmp is_numbered (map_of nat_cmp rows.old) (map_of (owned_cmp nat_cmp nat_cmp) owners.old) }
     ensures there { result ≡ map.contains_key (map_of nat_cmp rows.old) id }
     ensures removed { map_of nat_cmp rows.new ≡ map.remove (map_of nat_cmp rows.old) id }
     ensures ordered { IsOrdered nat_cmp rows.new }
-    ensures indexed { IsIndexed (λ token. token.hash) (map_of nat_cmp rows.new) (map_of name_cmp ids.new) }
-    ensures owned { IsIndex party_cmp nat_cmp is_token_of (map_of nat_cmp rows.new) (map_of (owned_cmp party_cmp nat_cmp) owners.new) }
+    ensures indexed { IsIndexed (λ token. token.hash) (map_of nat_cmp rows.new) (map_of nat_cmp ids.new) }
+    ensures owned { IsIndex nat_cmp nat_cmp is_numbered (map_of nat_cmp rows.new) (map_of (owned_cmp nat_cmp nat_cmp) owners.new) }
 {
     match keyed_rows::row_at(rows, &id) {
-        Some(row) => forget(owners, &of_owner(&row.owner), &id),
+        Some(kept) => forget(owners, &owner_number(&kept.row().owner), &id),
         None => {}
     }
     remove_hashed(rows, ids, id)
+}
+
+/// Those of the ids whose tokens are an owner's: others may have its number.
+pub(crate) fn own_ids(
+    alloc: Global,
+    rows: &BTreeMap<u64, KeptToken>,
+    ids: &[u64],
+    owner: &Owner,
+) -> Result<Vec<u64>, AllocError>
+    ensures { IfOk result (λ own. own.items ≡ filter (λ id. is_kept_and (is_token_of (of_owner owner.now)) (map.get (map_of nat_cmp rows.now) id)) ids.now) }
+{
+    let party = of_owner(owner);
+    let mut own = Vec::new(alloc);
+    for id in ids {
+        if is_token_of(&party, keyed_rows::row_at(rows, id)) {
+            own.push(*id)?;
+        }
+    }
+    Ok(own)
+}
+
+fn is_token_of(party: &Party, kept: Option<&KeptToken>) -> bool
+    ensures { result ≡ is_kept_and (is_token_of party.now) (option_copied kept.entry) }
+{
+    match kept {
+        Some(kept) => party.cmp(&of_owner(&kept.row().owner)).is_eq(),
+        None => false,
+    }
 }
 
 /// Puts a share under its key, and the key under the user whose server it is and under the recipient. At a kept key both stand already,

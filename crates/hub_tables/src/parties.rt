@@ -1,10 +1,11 @@
 //! Under whom tokens and shares are found: one order for users, groups and services.
 ghost use Rattle.std.specs.Prelude.{◌≡◌};
-ghost use Rattle.hub_tables.specs.Parties.{party_exact, of_owner, of_recipient, giver_of};
+ghost use Rattle.hub_tables.specs.Parties.{party_exact, of_owner, of_recipient, giver_of, owner_number};
 
 use hub_kit::key::Key;
 use hub_kit::names::{GroupName, ServiceName, UserName};
 use hub_rows::keys::{Recipient, ShareKey};
+use row_indexes::numbers::number_of;
 use scope_filters::holder::Owner;
 
 /// Whose a token is, and between whom a share stands.
@@ -25,6 +26,16 @@ pub(crate) fn of_owner(owner: &Owner) -> Party
     match owner {
         Owner::User(user) => Party::User(*user),
         Owner::Service(service) => Party::Service(*service),
+    }
+}
+
+/// The number under which the tokens of an owner stand. A user and a service of one name have the same.
+pub(crate) fn owner_number(owner: &Owner) -> u64
+    ensures { result ≡ owner_number owner.now }
+{
+    match owner {
+        Owner::User(user) => number_of(user.as_bytes()),
+        Owner::Service(service) => number_of(service.as_bytes()),
     }
 }
 

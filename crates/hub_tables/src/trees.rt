@@ -1,22 +1,22 @@
 //! The trees behind the tables.
 ghost use Rattle.hub_tables.specs.Empty.{AreEmpty};
 
+use crate::boxed::KeptToken;
 use crate::memberships::RoleIndexes;
-use crate::owned::Parties;
+use crate::owned::{Owners, Parties};
 use hub_kit::names::{GroupName, RoleName, ServerKey, ServiceName, UserName};
 use hub_kit::target::Target;
 use hub_kit::text::Text;
 use hub_rows::keys::ShareKey;
 use hub_rows::records::{
-    Group, Lease, Next, OAuthClient, OAuthCode, Role, ServerRow, Service, Share, ShareCode, Token,
-    User,
+    Group, Lease, Next, OAuthClient, OAuthCode, Role, ServerRow, Service, Share, ShareCode, User,
 };
 use row_indexes::members::MemberIndex;
 use std::alloc::Global;
 use std::collections::BTreeMap;
 
-/// The rows of each kind under their keys, the ids of tokens and share codes under their hashes, the keys of tokens and shares
-/// under their owners and parties, and the names of groups and roles under their members.
+/// The rows of each kind under their keys, the ids of tokens and share codes under the numbers of their hashes, the ids of tokens under
+/// the numbers of their owners, the keys of shares under their parties, and the names of groups and roles under their members.
 pub(crate) struct Trees {
     pub users: BTreeMap<UserName, User>,
     pub groups: BTreeMap<GroupName, Group>,
@@ -24,15 +24,15 @@ pub(crate) struct Trees {
     pub services: BTreeMap<ServiceName, Service>,
     pub roles: BTreeMap<RoleName, Role>,
     pub role_indexes: RoleIndexes,
-    pub tokens: BTreeMap<u64, Token>,
-    pub token_ids: BTreeMap<Text, u64>,
-    pub token_owners: Parties<u64>,
+    pub tokens: BTreeMap<u64, KeptToken>,
+    pub token_ids: BTreeMap<u64, u64>,
+    pub token_owners: Owners,
     pub servers: BTreeMap<ServerKey, ServerRow>,
     pub leases: BTreeMap<Target, Lease>,
     pub shares: BTreeMap<ShareKey, Share>,
     pub share_parties: Parties<ShareKey>,
     pub codes: BTreeMap<u64, ShareCode>,
-    pub code_ids: BTreeMap<Text, u64>,
+    pub code_ids: BTreeMap<u64, u64>,
     pub clients: BTreeMap<Text, OAuthClient>,
     pub grant_codes: BTreeMap<Text, OAuthCode>,
     pub nexts: BTreeMap<Text, Next>,

@@ -10,8 +10,9 @@ ghost use Rattle.hub_tables.specs.Hashes.{FitsCode, FitsToken};
 ghost use Rattle.hub_tables.specs.Lookups.{tokens_of};
 ghost use Rattle.hub_tables.specs.Rooms.{room_of};
 
+use crate::boxed::{KeptToken, row_in};
 use crate::owned;
-use crate::parties::of_owner;
+use crate::parties::owner_number;
 use crate::tables::{Tables, room_of};
 use hub_kit::text::Text;
 use hub_rows::records::{ShareCode, Token};
@@ -28,14 +29,14 @@ impl Tables {
         ensures value { option_copied result ≡ map.get self.now.tokens id }
         ensures own { IfSome result (λ row. row.now.id ≡ id) }
     {
-        keyed_rows::row_at(&self.trees.tokens, &id)
+        row_in(keyed_rows::row_at(&self.trees.tokens, &id))
     }
 
     /// The token of a hash, which is looked up in an index.
     pub fn token_of_hash(&self, hash: &Text) -> Option<&Token>
         ensures { option_copied result ≡ row_with (λ row. row.hash) hash.now self.now.tokens }
     {
-        hashed::row_of_hash(&self.trees.tokens, &self.trees.token_ids, hash)
+        row_in(hashed::row_of_hash(&self.trees.tokens, &self.trees.token_ids, hash))
     }
 
     /// Sets the row of a token. No other row has its hash, and a kept row of its id has the same hash and owner.
@@ -85,7 +86,7 @@ impl Tables {
     }
 
     /// The rows of tokens, in the order of ids.
-    pub fn tokens(&self) -> Values<'_, u64, Token>
+    pub fn tokens(&self) -> Values<'_, u64, KeptToken>
         ensures rows { result ≡ map.values self.now.tokens }
         ensures own { OwnKeys (λ row. row.id) self.now.tokens }
         ensures runs { ShowsInOrder (deref {X = Token}) }
@@ -97,7 +98,8 @@ impl Tables {
     pub fn tokens_of(&self, alloc: Global, owner: &Owner) -> Result<Vec<u64>, AllocError>
         ensures { IfOk result (λ ids. ids.items ≡ tokens_of self.now owner.now) }
     {
-        owned_keys(alloc, &self.trees.token_owners, &of_owner(owner))
+        let ids = owned_keys(alloc, &self.trees.token_owners, &owner_number(owner))?;
+        owned::own_ids(alloc, &self.trees.tokens, &ids, owner)
     }
 
     /// The share code of an id.

@@ -1,36 +1,42 @@
-use Rattle.std.proofs.Common.{◌∙◌, sym}
+use Rattle.std.proofs.Common.{◌∙◌, sym, ap, subst, Result, Ok, Err}
 use Rattle.std.specs.Cmp.{nat_cmp_total}
-use Rattle.std.specs.FinMap.{nat_cmp-IsAntisymmetric}
-use Rattle.keyed_rows.proofs.Finite.{kept_row}
-use Rattle.keyed_rows.proofs.Puts.{memory_after_ok}
+use Rattle.std.specs.FinMap.{contains_key}
 use Rattle.std.specs.Ordering.{nat_cmp}
 use Rattle.keyed_rows.specs.Rows.{map_of}
+use Rattle.keyed_rows.specs.Puts.{IsAnswerIn, room_left}
+use Rattle.keyed_rows.specs.declared.PutError.{PutError}
+use Rattle.keyed_rows.proofs.Finite.{kept_row, len_row}
+use Rattle.keyed_rows.proofs.Puts.{kept_answer}
 use Rattle.row_indexes.specs.Owned.{owned_cmp}
-use Rattle.hub_tables.specs.Parties.{party_cmp, is_token_of}
-use Rattle.hub_tables.proofs.Owners.{when_ok, when_err, put_undone, index_as_before, token_in_place, token_noted}
+use Rattle.row_indexes.proofs.ByHash.{index_kept_put}
+use Rattle.hub_rows.specs.declared.records.Token.{Token}
+use Rattle.hub_tables.specs.Rooms.{for_memory}
+use Rattle.hub_tables.proofs.Owners.{token_in_place, no_memory}
 use Rattle.hub_tables.proofs.owned.put_token.Goals as goal
+
+pub replace_token-requires : goal.replace_token-requires
+replace_token-requires c = kept_row nat_cmp_total c.args.rows.now c.args.value.id ∙ sym c.contains_key.ensures ∙ c.if-contains_key.true
+
+pub returns-then-contains_key-clause-answer : goal.returns-then-contains_key-clause-answer
+returns-then-contains_key-clause-answer c =
+    kept_answer c.args.room (map_of nat_cmp c.args.rows.now) c.args.value.id (kept_row nat_cmp_total c.args.rows.now c.args.value.id ∙ sym c.contains_key.ensures ∙ c.if-contains_key.true)
+
+pub returns-then-contains_key-clause-indexed : goal.returns-then-contains_key-clause-indexed
+returns-then-contains_key-clause-indexed c =
+    index_kept_put (λ (row : Token). row.id) (λ (row : Token). row.hash) _ _ c.requires.indexed c.args.value c.requires.fits.hash _ (let r : Result (Unit {0}) PutError = Ok tt in r) c.replace_token.ensures.row tt
+    (kept_row nat_cmp_total c.args.rows.now c.args.value.id ∙ sym c.contains_key.ensures ∙ c.if-contains_key.true)
 
 pub returns-then-contains_key-clause-owned : goal.returns-then-contains_key-clause-owned
 returns-then-contains_key-clause-owned c =
-    token_in_place _ _ _ (map_of (owned_cmp party_cmp nat_cmp) c.args.owners.now) c.requires.owned c.args.value c.requires.fits c.put_hashed.result c.put_hashed.ensures.ok c.put_hashed.ensures.err
+    token_in_place _ _ _ (map_of (owned_cmp nat_cmp nat_cmp) c.args.owners.now) c.requires.owned c.args.value c.requires.fits c.replace_token.ensures.row
     (kept_row nat_cmp_total c.args.rows.now c.args.value.id ∙ sym c.contains_key.ensures ∙ c.if-contains_key.true)
 
-pub returns-then-is_ok-clause-owned : goal.returns-then-is_ok-clause-owned
-returns-then-is_ok-clause-owned c =
-    token_noted _ _ _ _ c.requires.owned c.args.value c.of_owner-owner.result c.of_owner-owner.ensures c.in_ok-put_hashed.ensures.ok
-    (kept_row nat_cmp_total c.args.rows.now c.args.value.id ∙ sym c.contains_key.ensures ∙ c.if-contains_key.false)
-    (when_ok c.note.result (sym c.is_ok.ensures.value ∙ c.if-is_ok.true) c.note.ensures.ok)
+pub put_new_token-requires-clause-new : goal.put_new_token-requires-clause-new
+put_new_token-requires-clause-new c =
+    ap (λ (row : Token). contains_key (map_of nat_cmp c.args.rows.now) row.id) c.in-Ok.ensures ∙ kept_row nat_cmp_total c.args.rows.now c.args.value.id ∙ sym c.contains_key.ensures ∙ c.if-contains_key.false
 
-pub returns-clause-answer : goal.returns-clause-answer
-returns-clause-answer c =
-    memory_after_ok _ _
-    (kept_row nat_cmp_total c.args.rows.now c.args.value.id ∙ sym c.contains_key.ensures ∙ c.if-contains_key.false)
-    c.args.room c.in_ok-put_hashed.ensures.answer
-
-pub returns-clause-err : goal.returns-clause-err
-returns-clause-err c =
-    put_undone nat_cmp_total nat_cmp-IsAntisymmetric _ _ _ c.args.value.id c.args.value c.in_ok-put_hashed.ensures.ok c.remove_hashed.ensures.removed
-    (kept_row nat_cmp_total c.args.rows.now c.args.value.id ∙ sym c.contains_key.ensures ∙ c.if-contains_key.false)
-
-pub returns-clause-owned : goal.returns-clause-owned
-returns-clause-owned c = index_as_before is_token_of _ _ _ _ c.requires.owned (returns-clause-err c) (when_err c.note.result (sym c.is_ok.ensures.value ∙ c.if-is_ok.false) c.note.ensures.err)
+pub returns-in-Err-clause-answer : goal.returns-in-Err-clause-answer
+returns-in-Err-clause-answer c =
+    subst (λ e. IsAnswerIn c.args.room (map_of nat_cmp c.args.rows.now) c.args.value.id (Err e))
+    (sym (c.for_memory.ensures ∙ ap (λ n. for_memory (room_left n c.args.room)) (c.len.ensures.len ∙ sym (len_row nat_cmp_total c.args.rows.now c.len.ensures.ordered))))
+    (no_memory (map_of nat_cmp c.args.rows.now) c.args.value.id (kept_row nat_cmp_total c.args.rows.now c.args.value.id ∙ sym c.contains_key.ensures ∙ c.if-contains_key.false) c.args.room)

@@ -9,4 +9,4 @@ pub row_of_hash-requires : goal.row_of_hash-requires
 row_of_hash-requires c = record { ordered = (c.self.invariant Tokens).ordered; indexed = (c.self.invariant Tokens).indexed }
 
 pub returns : goal.returns
-returns c = c.row_of_hash.ensures ∙ ap (λ (s : State). row_with (λ (row : Token). row.hash) c.args.hash.now s.tokens) c.self.view_is
+returns c = c.row_in.ensures ∙ c.row_of_hash.ensures ∙ ap (λ (s : State). row_with (λ (row : Token). row.hash) c.args.hash.now s.tokens) c.self.view_is

@@ -1,11 +1,12 @@
-use Rattle.std.proofs.Common.{◌∙◌, ap}
+use Rattle.std.proofs.Common.{◌∙◌, ap, ℕ, List}
 use Rattle.std.specs.Ordering.{nat_cmp}
-use Rattle.std.specs.FinMap.{keys}
-use Rattle.keyed_rows.specs.Rows.{map_of}
+use Rattle.std.specs.FinMap.{get, keys}
+use Rattle.std.specs.List.{filter}
+use Rattle.keyed_rows.specs.Rows.{map_of, is_kept_and}
 use Rattle.row_indexes.specs.Owned.{owned_cmp, keys_under}
 use Rattle.hub_tables.specs.Kept.{Tokens}
 use Rattle.hub_tables.specs.Lookups.{tokens_of}
-use Rattle.hub_tables.specs.Parties.{party_cmp}
+use Rattle.hub_tables.specs.Parties.{is_token_of, of_owner}
 use Rattle.hub_tables.specs.State.{State}
 use Rattle.row_indexes.proofs.Indexed.{if_ok}
 use Rattle.hub_tables.proofs.Owners.{token_ids}
@@ -13,8 +14,9 @@ use Rattle.hub_tables.proofs.tables.Tables.tokens_of.Goals as goal
 
 pub returns : goal.returns
 returns c =
-    if_ok c.owned_keys.result (λ ids e.
-    e ∙ ap (λ w. keys_under party_cmp w (keys (map_of (owned_cmp party_cmp nat_cmp) c.self.inside.trees.token_owners))) c.of_owner.ensures
+    let own_of : List ℕ → List ℕ = filter (λ id. is_kept_and (is_token_of (of_owner c.args.owner.now)) (get (map_of nat_cmp c.self.inside.trees.tokens) id)) in
+    if_ok c.own_ids.result (λ ids e.
+    e ∙ ap own_of (c.deref.ensures ∙ c.in_ok-ids.ensures ∙ ap (λ n. keys_under nat_cmp n (keys (map_of (owned_cmp nat_cmp nat_cmp) c.self.inside.trees.token_owners))) c.owner_number.ensures)
     ∙ token_ids _ _ (c.self.invariant Tokens).owned (c.self.invariant Tokens).own c.args.owner.now
     ∙ ap (λ (s : State). tokens_of s c.args.owner.now) c.self.view_is)
-    c.owned_keys.ensures
+    c.own_ids.ensures
