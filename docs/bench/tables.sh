@@ -164,7 +164,7 @@ fn found_users(tables: &Tables, names: &[UserName]) -> usize {
 
 /// The tokens of an owner, by a walk over all tokens.
 fn owned(tables: &Tables, owner: &Owner) -> usize {
-    tables.tokens().filter(|row| row.owner == *owner).count()
+    tables.tokens().filter(|row| row.row().owner == *owner).count()
 }
 
 /// The tokens of an owner, by the index.

@@ -12,6 +12,7 @@ use Rattle.hub_serve.proofs.SentNames.{user_send, group_send, service_send, role
 use Rattle.hub_serve.proofs.SentRows.{client_send, counter_send, share_key_send, user_row_send, group_row_send, service_row_send, role_row_send, token_send, server_row_send, lease_send, share_send, share_code_send, oauth_client_send, oauth_code_send, next_send}
 use Rattle.hub_kit.specs.contracts.list.List as List
 use Rattle.hub_rows.specs.contracts.limits.Limits as Limits
+use Rattle.hub_tables.specs.contracts.boxed.KeptToken as KeptToken
 use Rattle.hub_tables.specs.contracts.parties.Party as Party
 use Rattle.hub_tables.specs.contracts.memberships.RoleIndexes as RoleIndexes
 use Rattle.hub_tables.specs.contracts.trees.Trees as Trees
@@ -51,6 +52,9 @@ module _ (O K : RattleType) where
   pub owned_send : IsSend O → IsSend K → IsSend (OwnedKey.the_field O K).row
   owned_send s t = search sendable depth 12
 
+pub kept_token_send : IsSend KeptToken.the_row
+kept_token_send = search (sendable, crosses, token_send) depth 10
+
 pub role_indexes_send : IsSend (RoleIndexes.the_field).row
 role_indexes_send = search (sendable, BTreeMap-send, owned_send, user_send, group_send, service_send, role_send) depth 16
 
@@ -68,11 +72,11 @@ trees_send = struct_send (shape Trees.the_type) (
           (
             role_indexes_send,
             (
-              search (sendable, BTreeMap-send, token_send) depth 8,
+              search (sendable, BTreeMap-send, kept_token_send) depth 8,
               (
-                search (sendable, BTreeMap-send, text_send) depth 8,
+                search (sendable, BTreeMap-send) depth 8,
                 (
-                  search (sendable, BTreeMap-send, owned_send, party_send) depth 10,
+                  search (sendable, BTreeMap-send, owned_send) depth 10,
                   (
                     search (sendable, BTreeMap-send, server_send, server_row_send) depth 8,
                     (
@@ -84,7 +88,7 @@ trees_send = struct_send (shape Trees.the_type) (
                           (
                             search (sendable, BTreeMap-send, share_code_send) depth 8,
                             (
-                              search (sendable, BTreeMap-send, text_send) depth 8,
+                              search (sendable, BTreeMap-send) depth 8,
                               (
                                 search (sendable, BTreeMap-send, text_send, oauth_client_send) depth 8,
                                 (
