@@ -16,7 +16,7 @@ pub returns : goal.returns
 returns c =
     let own_of : List ℕ → List ℕ = filter (λ id. is_kept_and (is_token_of (of_owner c.args.owner.now)) (get (map_of nat_cmp c.self.inside.trees.tokens) id)) in
     if_ok c.own_ids.result (λ ids e.
-    e ∙ ap own_of (c.deref.ensures ∙ c.in_ok-ids.ensures ∙ ap (λ n. keys_under nat_cmp n (keys (map_of (owned_cmp nat_cmp nat_cmp) c.self.inside.trees.token_owners))) c.owner_number.ensures)
+    e ∙ ap own_of (c.deref.ensures.value ∙ c.in_ok-ids.ensures ∙ ap (λ n. keys_under nat_cmp n (keys (map_of (owned_cmp nat_cmp nat_cmp) c.self.inside.trees.token_owners))) c.owner_number.ensures)
     ∙ token_ids _ _ (c.self.invariant Tokens).owned (c.self.invariant Tokens).own c.args.owner.now
     ∙ ap (λ (s : State). tokens_of s c.args.owner.now) c.self.view_is)
     c.own_ids.ensures
