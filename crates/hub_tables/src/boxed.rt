@@ -2,6 +2,7 @@
 ghost use Rattle.std.specs.Prelude.{◌≡◌, IfOk};
 ghost use Rattle.std.specs.Option.{option_copied};
 
+use hub_kit::list::List;
 use hub_kit::text::Text;
 use hub_rows::records::Token;
 use keyed_rows::keyed::Keyed;
@@ -30,11 +31,23 @@ impl Model for KeptToken {
 }
 
 impl KeptToken {
+    /// A token in a piece of its own, whose scopes have no room to spare.
     pub(crate) fn new(alloc: Global, row: Token) -> Result<KeptToken, AllocError>
         ensures { IfOk result (λ kept. kept ≡ row) }
     {
         let row = Box::new(alloc, row)?;
-        Ok(KeptToken { row })
+        let mut kept = KeptToken { row };
+        kept.fit(alloc);
+        Ok(kept)
+    }
+
+    /// Copies the scopes, since a list that grew has room for more; without memory for that they stay.
+    fn fit(&mut self, alloc: Global)
+        ensures { self.new ≡ self.old }
+    {
+        if let Ok(scopes) = Vec::from_slice(alloc, self.row.scopes.as_slice()) {
+            self.row.scopes = List::from_vec(scopes);
+        }
     }
 
     pub fn row(&self) -> &Token
