@@ -105,7 +105,8 @@ pub(crate) fn last_slash(path: &[u8]) -> Option<usize>
 fn decoded_bytes(alloc: Global, path: &[u8]) -> Result<Bytes, AllocError>
     ensures { IfOk result (λ bytes. bytes ≡ percent_decode path.now) }
 {
-    let mut bytes = Vec::new(alloc);
+    // what is decoded is no longer than what was written
+    let mut bytes = Vec::with_capacity(alloc, path.len())?;
     percent_decode(path).append_to(&mut bytes)?;
     Ok(Bytes::from_vec(bytes))
 }
