@@ -71,13 +71,6 @@ impl MemUpstream {
     {
         self.sent.as_slice()
     }
-
-    /// Whether a connection is open.
-    pub fn is_open(&self) -> bool
-        ensures { result ≡ self.now.is_open }
-    {
-        self.is_open
-    }
 }
 
 impl Upstream for MemUpstream {
