@@ -17,6 +17,7 @@ use Rattle.hub_tables.specs.Rooms.{for_memory}
 use Rattle.keyed_rows.proofs.Finite.{put_and_removed, tied}
 use Rattle.keyed_rows.proofs.InOrder.{own_keys}
 use Rattle.hub_rows.specs.declared.keys.ShareKey.{ShareKey}
+use Rattle.hub_tables.specs.Ends.{is_over}
 use Rattle.hub_tables.specs.Hashes.{FitsToken}
 use Rattle.hub_tables.specs.declared.parties.Party.{Party}
 use Rattle.hub_tables.specs.declared.parties.Party.TheVariants.{User, Group, Service}
@@ -35,7 +36,7 @@ use Rattle.hub_rows.specs.declared.records.ServerRow.{ServerRow}
 use Rattle.hub_rows.specs.declared.records.Share.{Share}
 use Rattle.hub_rows.specs.declared.records.Token.{Token}
 use Rattle.hub_tables.specs.Lookups.{same_owner, same_recipient, is_given_by, is_share_with}
-use Rattle.hub_tables.specs.Parties.{party_cmp, party_exact, of_owner, owner_number, of_recipient, giver_of, is_numbered, is_token_of, is_share_of}
+use Rattle.hub_tables.specs.Parties.{party_cmp, party_exact, of_owner, owner_number, of_recipient, giver_of, is_numbered, is_token_of, is_over_token_of, is_share_of}
 use Rattle.hub_tables.specs.contracts.parties.PartyOrd.TheImpl.Laws as party
 
 same_names : (a b : List ℕ) → eq_by_cmp name_cmp a b ≡ same b a
@@ -87,6 +88,21 @@ token_ids rows index x own owner =
     (tells nat_cmp nat_cmp nat_cmp_total nat_cmp-IsAntisymmetric nat_cmp_total nat_cmp-IsAntisymmetric (λ (row : Token). row.id) is_numbered rows index x own (owner_number owner))
     ∙ found_among_found nat_cmp-IsAntisymmetric nat_cmp_total (λ (row : Token). row.id) (is_token_of (of_owner owner)) (is_numbered (owner_number owner)) (numbered owner) rows own
     ∙ ap (λ p. map (λ (row : Token). row.id) (filter p (values rows))) (λ i row. owner_test owner row.owner i)
+
+both : (a b c : Bool) → (a ≡ true → c ≡ true) → a && b ≡ true → c ≡ true
+both true b c f h = f refl
+both false b c f h = cc
+
+-- the same of those that are over
+pub over_ids : (now : ℕ) (rows : FinMap nat_cmp Token) (index : _) → IsIndex nat_cmp nat_cmp is_numbered rows index → OwnKeys (λ (row : Token). row.id) rows → (owner : Owner)
+    → filter (λ id. is_kept_and (is_over_token_of (of_owner owner) now) (get rows id)) (keys_under nat_cmp (owner_number owner) (keys index))
+    ≡ map (λ (row : Token). row.id) (filter (λ (row : Token). same_owner row.owner owner && is_over now row.expires_at) (values rows))
+over_ids now rows index x own owner =
+    ap (filter (λ id. is_kept_and (is_over_token_of (of_owner owner) now) (get rows id)))
+    (tells nat_cmp nat_cmp nat_cmp_total nat_cmp-IsAntisymmetric nat_cmp_total nat_cmp-IsAntisymmetric (λ (row : Token). row.id) is_numbered rows index x own (owner_number owner))
+    ∙ found_among_found nat_cmp-IsAntisymmetric nat_cmp_total (λ (row : Token). row.id) (is_over_token_of (of_owner owner) now) (is_numbered (owner_number owner))
+    (λ row. both (is_token_of (of_owner owner) row) (is_over now row.expires_at) (is_numbered (owner_number owner) row) (numbered owner row)) rows own
+    ∙ ap (λ p. map (λ (row : Token). row.id) (filter p (values rows))) (λ i row. owner_test owner row.owner i && is_over now row.expires_at)
 
 pub share_keys : (rows : FinMap share_cmp Share) (index : _) → IsIndex party_cmp share_cmp is_share_of rows index → OwnKeys (λ (row : Share). row.key) rows → (to : Recipient)
     → keys_under party_cmp (of_recipient to) (keys index) ≡ map (λ (row : Share). row.key) (filter (is_share_with to) (values rows))

@@ -19,6 +19,7 @@ use Rattle.hub_rows.specs.declared.records.User.{User}
 use Rattle.hub_rows.specs.declared.records.Group.{Group}
 use Rattle.hub_rows.specs.declared.records.Role.{Role}
 use Rattle.hub_rows.specs.declared.records.Next.{Next}
+use Rattle.hub_tables.specs.Ends.{is_over}
 use Rattle.hub_tables.specs.Hashes.{row_with}
 use Rattle.hub_tables.specs.Memberships.{members_of}
 use Rattle.hub_tables.specs.State.{State}
@@ -68,6 +69,10 @@ same_owner _ _ = false
 -- the ids of an owner's tokens, in order
 abbrev pub tokens_of : State → Owner → List ℕ
 tokens_of s owner = map (λ (k : Token). k.id) (filter (λ (k : Token). same_owner k.owner owner) (values s.tokens))
+
+-- the ids of an owner's tokens that are over, in order
+abbrev pub tokens_over : State → Owner → (now : ℕ) → List ℕ
+tokens_over s owner now = map (λ (k : Token). k.id) (filter (λ (k : Token). same_owner k.owner owner && is_over now k.expires_at) (values s.tokens))
 
 -- the keys of a user's servers, in order
 abbrev pub servers_of : State → (user : List ℕ) → List ServerKey

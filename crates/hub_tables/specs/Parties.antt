@@ -1,5 +1,5 @@
 -- Under whom tokens and shares are found.
-use Rattle.std.specs.Prelude.{ℕ, Bool, ◌||◌}
+use Rattle.std.specs.Prelude.{ℕ, Bool, ◌&&◌, ◌||◌}
 use Rattle.std.proofs.Common.{ap}
 use Rattle.std.specs.declared.cmp.Ordering.{Ordering}
 use Rattle.std.specs.Ordering.{nat_cmp, eq_by_cmp}
@@ -13,6 +13,7 @@ use Rattle.hub_rows.specs.declared.records.Share.{Share}
 use Rattle.hub_rows.specs.declared.records.Token.{Token}
 use Rattle.hub_rows.specs.ShareOrder.{names_exact}
 use Rattle.row_indexes.specs.Numbers.{number_of}
+use Rattle.hub_tables.specs.Ends.{is_over}
 use Rattle.hub_tables.specs.declared.parties.Party.{Party}
 use Rattle.hub_tables.specs.declared.parties.Party.TheVariants.{User, Group, Service}
 use Rattle.hub_tables.specs.contracts.parties.PartyOrd.TheImpl as party
@@ -40,6 +41,9 @@ giver_of key = User key.server.user
 -- a token is its owner's
 abbrev pub is_token_of : Party → Token → Bool
 is_token_of party token = eq_by_cmp party_cmp party (of_owner token.owner)
+
+abbrev pub is_over_token_of : Party → (now : ℕ) → Token → Bool
+is_over_token_of party now token = is_token_of party token && is_over now token.expires_at
 
 -- the number of an owner's name
 abbrev pub owner_number : Owner → ℕ

@@ -11,11 +11,13 @@ ghost use Rattle.row_indexes.specs.Owned.{owned_cmp, under, IsIndex};
 ghost use Rattle.hub_rows.specs.ShareOrder.{share_cmp};
 ghost use Rattle.row_indexes.specs.Hashes.{IsIndexed};
 ghost use Rattle.hub_tables.specs.Hashes.{FitsToken};
+ghost use Rattle.hub_tables.specs.Ends.{is_over};
 ghost use Rattle.hub_tables.specs.Rooms.{for_memory};
-ghost use Rattle.hub_tables.specs.Parties.{party_cmp, of_recipient, giver_of, is_numbered, is_token_of, is_share_of, of_owner};
+ghost use Rattle.hub_tables.specs.Parties.{party_cmp, of_recipient, giver_of, is_numbered, is_token_of, is_over_token_of, is_share_of, of_owner};
 
 use crate::boxed::KeptToken;
 use crate::parties::{Party, giver_of, of_owner, of_recipient, owner_number};
+use hub_kit::moment::Moment;
 use hub_rows::keys::ShareKey;
 use hub_rows::records::{Share, Token};
 use keyed_rows::{PutError, Room, keyed};
@@ -158,6 +160,44 @@ pub(crate) fn own_ids(
         }
     }
     Ok(own)
+}
+
+/// Those of the ids whose tokens are an owner's, and over. Whether a token is over is asked first, since few are.
+pub(crate) fn own_ids_over(
+    alloc: Global,
+    rows: &BTreeMap<u64, KeptToken>,
+    ids: &[u64],
+    owner: &Owner,
+    now: Moment,
+) -> Result<Vec<u64>, AllocError>
+    ensures { IfOk result (λ over. over.items ≡ filter (λ id. is_kept_and (is_over_token_of (of_owner owner.now) now) (map.get (map_of nat_cmp rows.now) id)) ids.now) }
+{
+    let party = of_owner(owner);
+    let mut over = Vec::new(alloc);
+    for id in ids {
+        if is_over_token_of(&party, keyed_rows::row_at(rows, id), now) {
+            over.push(*id)?;
+        }
+    }
+    Ok(over)
+}
+
+fn is_over_token_of(party: &Party, kept: Option<&KeptToken>, now: Moment) -> bool
+    ensures { result ≡ is_kept_and (is_over_token_of party.now now) (option_copied kept.entry) }
+{
+    match kept {
+        Some(row) => is_over(row.row().expires_at, now) && is_token_of(party, kept),
+        None => false,
+    }
+}
+
+fn is_over(end: Option<Moment>, now: Moment) -> bool
+    ensures { result ≡ is_over now end }
+{
+    match end {
+        Some(end) => end <= now,
+        None => false,
+    }
 }
 
 fn is_token_of(party: &Party, kept: Option<&KeptToken>) -> bool

@@ -12,15 +12,14 @@ use Rattle.hub_kit.specs.Hashes.{hash_text}
 use Rattle.hub_kit.specs.KeyOrder.{name_cmp}
 use Rattle.keyed_rows.proofs.Finite.{tied}
 use Rattle.keyed_rows.specs.Rows.{OwnKeys}
-use Rattle.scope_filters.specs.declared.holder.Owner.{Owner}
 use Rattle.hub_rows.specs.declared.records.Token.{Token}
 use Rattle.hub_tables.proofs.RowsAt.{own_tokens}
 use Rattle.hub_tables.specs.Ends.{is_over}
 use Rattle.hub_rows.specs.ShareOrder.{names_exact}
-use Rattle.hub_tables.specs.Lookups.{same_owner, token_of_hash, tokens_of}
+use Rattle.hub_tables.specs.Lookups.{token_of_hash}
 use Rattle.hub_tables.specs.Own.{AreOwn}
 use Rattle.hub_tables.specs.State.{State}
-use Rattle.token_store.specs.Finding.{expired_tokens, find, in_time, is_row_over, is_token_over, until}
+use Rattle.token_store.specs.Finding.{find, in_time, until}
 use Rattle.token_store.specs.declared.finding.TokenError.{TokenError}
 use Rattle.token_store.specs.declared.finding.TokenError.TheVariants.{Expired}
 
@@ -98,31 +97,6 @@ module _ {X : Type 0} where
           let same : row ≡ v = ap (some_or v) h in
           (subst P same each.0, sym (ap p same) ∙ e)
       by_test false e h later = later h
-
-  -- ---- what is picked of the keys is what is picked of the rows
-
-  module _ (key : X → ℕ) (p test : X → Bool) (q : ℕ → Bool) where
-    head : (b c : Bool) (v : X) (rest : List X) → q (key v) ≡ c → filter q (map key (cond b (v ∷ rest) rest)) ≡ cond (b && c) (key v ∷ filter q (map key rest)) (filter q (map key rest))
-    head true c v rest e = ap (λ b. cond b (key v ∷ filter q (map key rest)) (filter q (map key rest))) e
-    head false c v rest e = refl
-
-    moved : (b : Bool) (v : X) (rest : List X) → cond b (key v ∷ map key rest) (map key rest) ≡ map key (cond b (v ∷ rest) rest)
-    moved true v rest = refl
-    moved false v rest = refl
-
-    picked : (rows : List X) → Each (λ v. q (key v) ≡ test v) rows → filter q (map key (filter p rows)) ≡ map key (filter (λ v. p v && test v) rows)
-    picked [] h = refl
-    picked (v ∷ rows) h =
-        head (p v) (test v) v (filter p rows) h.0
-        ∙ ap (λ ks. cond (p v && test v) (key v ∷ ks) ks) (picked rows h.1)
-        ∙ moved (p v && test v) v (filter (λ v. p v && test v) rows)
-
--- of the ids of an owner's tokens those that are over
-pub expired_ids : (t : State) (now : ℕ) (owner : Owner) → OwnKeys (λ (k : Token). k.id) t.tokens → filter (is_token_over t now) (tokens_of t owner) ≡ expired_tokens t now owner
-expired_ids t now owner own =
-    picked (λ (k : Token). k.id) (λ k. same_owner k.owner owner) (λ k. is_over now k.expires_at) (is_token_over t now) (values t.tokens)
-    (weaker (λ k. get t.tokens k.id ≡ Some k) (λ k. is_token_over t now k.id ≡ is_over now k.expires_at) (λ k at. ap (is_row_over now) at) (values t.tokens)
-    (values_own (λ (k : Token). k.id) t.tokens own))
 
 -- ---- whom a text finds
 

@@ -1,12 +1,10 @@
 -- Whom the text of a token finds, and which tokens are over.
-use Rattle.std.specs.Prelude.{◌≡◌, ℕ, Bool, false, ◌&&◌, List, map, Option, Some, None, Result, Ok, Err, if◌then◌else◌}
-use Rattle.std.specs.List.{filter}
-use Rattle.std.specs.FinMap.{get, values}
+use Rattle.std.specs.Prelude.{◌≡◌, ℕ, List, Option, Some, None, Result, Ok, Err, if◌then◌else◌}
 use Rattle.hub_kit.specs.Hashes.{hash_text}
 use Rattle.scope_filters.specs.declared.holder.Owner.{Owner}
 use Rattle.hub_rows.specs.declared.records.Token.{Token}
 use Rattle.hub_tables.specs.Ends.{is_over}
-use Rattle.hub_tables.specs.Lookups.{same_owner, token_of_hash}
+use Rattle.hub_tables.specs.Lookups.{token_of_hash, tokens_over}
 use Rattle.hub_tables.specs.State.{State}
 use Rattle.token_store.specs.declared.finding.TokenError.{TokenError}
 use Rattle.token_store.specs.declared.finding.TokenError.TheVariants.{Unknown, Expired, Memory}
@@ -28,14 +26,6 @@ abbrev pub Finds : (answer result : Result ℕ TokenError) → Type 0
 Finds answer (Err Memory) = Unit {0}
 Finds answer result = answer ≡ result
 
-abbrev pub is_row_over : (now : ℕ) → Option Token → Bool
-is_row_over now None = false
-is_row_over now (Some k) = is_over now k.expires_at
-
--- a token is kept under the id, and over
-abbrev pub is_token_over : State → (now id : ℕ) → Bool
-is_token_over t now id = is_row_over now (get t.tokens id)
-
 -- the ids of an owner's tokens that are over, in order
 abbrev pub expired_tokens : State → (now : ℕ) → Owner → List ℕ
-expired_tokens t now owner = map (λ (k : Token). k.id) (filter (λ (k : Token). same_owner k.owner owner && is_over now k.expires_at) (values t.tokens))
+expired_tokens t now owner = tokens_over t owner now

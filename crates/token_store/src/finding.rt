@@ -6,7 +6,7 @@ ghost use Rattle.hub_rows.specs.declared.records.Token.{Token};
 ghost use Rattle.hub_tables.specs.Ends.{is_over};
 ghost use Rattle.hub_tables.specs.Own.{AreOwn};
 ghost use Rattle.hub_tables.specs.State.{State};
-ghost use Rattle.token_store.specs.Finding.{expired_tokens, find, is_token_over, until, Finds};
+ghost use Rattle.token_store.specs.Finding.{expired_tokens, find, until, Finds};
 
 use hub_kit::hashes::hash_of;
 use hub_kit::moment::Moment;
@@ -73,27 +73,7 @@ pub fn expired_tokens(
 ) -> Result<Vec<u64>, AllocError>
     ensures { IfOk result (λ ids. ids.items ≡ expired_tokens tables.now now owner.now) }
 {
-    tables.own_keys();
-    let ids = tables.tokens_of(alloc, owner)?;
-    let mut expired = Vec::new(alloc);
-    for id in ids.as_slice() {
-        if is_token_over(tables, *id, now) {
-            expired.push(*id)?;
-        }
-    }
-    Ok(expired)
-}
-
-fn is_token_over(tables: &Tables, id: u64, now: Moment) -> bool
-    ensures { result ≡ is_token_over tables.now now id }
-{
-    match tables.token(id) {
-        None => false,
-        Some(token) => match token.expires_at {
-            None => false,
-            Some(end) => end <= now,
-        },
-    }
+    tables.tokens_over(alloc, owner, now)
 }
 
 /// A text finds a kept token that has its hash and isn't over.

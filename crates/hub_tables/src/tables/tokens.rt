@@ -7,13 +7,14 @@ ghost use Rattle.keyed_rows.specs.Rows.{OwnKeys};
 ghost use Rattle.keyed_rows.specs.Puts.{IsAnswerIn};
 ghost use Rattle.row_indexes.specs.Hashes.{row_with};
 ghost use Rattle.hub_tables.specs.Hashes.{FitsCode, FitsToken};
-ghost use Rattle.hub_tables.specs.Lookups.{tokens_of};
+ghost use Rattle.hub_tables.specs.Lookups.{tokens_of, tokens_over};
 ghost use Rattle.hub_tables.specs.Rooms.{room_of};
 
 use crate::boxed::{KeptToken, row_in};
 use crate::owned;
 use crate::parties::owner_number;
 use crate::tables::{Tables, room_of};
+use hub_kit::moment::Moment;
 use hub_kit::text::Text;
 use hub_rows::records::{ShareCode, Token};
 use keyed_rows::PutError;
@@ -100,6 +101,19 @@ impl Tables {
     {
         let ids = owned_keys(alloc, &self.trees.token_owners, &owner_number(owner))?;
         owned::own_ids(alloc, &self.trees.tokens, &ids, owner)
+    }
+
+    /// The ids of the tokens of an owner that are over, in order, by the same index.
+    pub fn tokens_over(
+        &self,
+        alloc: Global,
+        owner: &Owner,
+        now: Moment,
+    ) -> Result<Vec<u64>, AllocError>
+        ensures { IfOk result (λ ids. ids.items ≡ tokens_over self.now owner.now now) }
+    {
+        let ids = owned_keys(alloc, &self.trees.token_owners, &owner_number(owner))?;
+        owned::own_ids_over(alloc, &self.trees.tokens, &ids, owner, now)
     }
 
     /// The share code of an id.
