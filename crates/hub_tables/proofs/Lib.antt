@@ -4,3 +4,4 @@ pub mod Kept
 pub mod Owners
 pub mod Picked
 pub mod RowsAt
+pub mod SharesTo

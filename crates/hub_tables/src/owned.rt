@@ -1,5 +1,5 @@
 //! Tokens and shares, with the indexes by which those of an owner are found.
-ghost use Rattle.std.specs.Prelude.{◌≡◌, not, ◌&&◌, ◌||◌, OnOk, OnErr, IfOk, true, false};
+ghost use Rattle.std.specs.Prelude.{◌≡◌, ◌++◌, not, ◌&&◌, ◌||◌, OnOk, OnErr, IfOk, true, false};
 ghost use Rattle.std.specs.Option.{option_copied};
 ghost use Rattle.std.specs.FinMap as map;
 ghost use Rattle.std.specs.BTreeMap.{IsOrdered};
@@ -7,18 +7,19 @@ ghost use Rattle.std.specs.List.{filter};
 ghost use Rattle.std.specs.Ordering.{nat_cmp, eq_by_cmp};
 ghost use Rattle.keyed_rows.specs.Rows.{map_of, OwnKeys, is_kept_and};
 ghost use Rattle.keyed_rows.specs.Puts.{IsAnswerIn, room_left};
-ghost use Rattle.row_indexes.specs.Owned.{owned_cmp, under, IsIndex};
+ghost use Rattle.row_indexes.specs.Owned.{owned_cmp, under, key_list, keys_under, IsIndex};
 ghost use Rattle.hub_rows.specs.ShareOrder.{share_cmp};
 ghost use Rattle.row_indexes.specs.Hashes.{IsIndexed};
 ghost use Rattle.hub_tables.specs.Hashes.{FitsToken};
 ghost use Rattle.hub_tables.specs.Ends.{is_over};
+ghost use Rattle.hub_tables.specs.Lookups.{same_recipient};
 ghost use Rattle.hub_tables.specs.Rooms.{for_memory};
 ghost use Rattle.hub_tables.specs.Parties.{party_cmp, of_recipient, giver_of, is_numbered, is_token_of, is_over_token_of, is_share_of, of_owner};
 
 use crate::boxed::KeptToken;
 use crate::parties::{Party, giver_of, of_owner, of_recipient, owner_number};
 use hub_kit::moment::Moment;
-use hub_rows::keys::ShareKey;
+use hub_rows::keys::{Recipient, ShareKey};
 use hub_rows::records::{Share, Token};
 use keyed_rows::{PutError, Room, keyed};
 use row_indexes::hashed::{put_hashed, remove_hashed};
@@ -265,4 +266,43 @@ pub(crate) fn remove_share(
     forget(parties, &giver_of(key), key);
     forget(parties, &of_recipient(&key.to), key);
     keyed_rows::remove_row(rows, key)
+}
+
+/// The keys of the shares to a recipient, among those that stand under it, in order. Only these are copied: a user may have given many.
+pub(crate) fn share_keys_to(
+    alloc: Global,
+    parties: &Parties<ShareKey>,
+    to: &Recipient,
+) -> Result<Vec<ShareKey>, AllocError>
+    ensures { IfOk result (λ keys. keys.items ≡ filter (λ key. same_recipient key.to to.now) (keys_under party_cmp (of_recipient to.now) (map.keys (map_of (owned_cmp party_cmp share_cmp) parties.now)))) }
+{
+    let party = of_recipient(to);
+    let first = OwnedKey {
+        owner: party,
+        key: None,
+    };
+    let mut keys = Vec::new(alloc);
+    for (entry, _) in parties.range(first..) {
+        if entry.owner.cmp(&party).is_ne() {
+            break;
+        }
+        push_key_to(&mut keys, &entry.key, to)?;
+    }
+    Ok(keys)
+}
+
+/// Appends the key of an entry if it is of a share to the recipient.
+fn push_key_to(
+    keys: &mut Vec<ShareKey>,
+    key: &Option<ShareKey>,
+    to: &Recipient,
+) -> Result<(), AllocError>
+    ensures { OnOk result (keys.new.items ≡ keys.old.items ++ filter (λ key. same_recipient key.to to.now) (key_list key.now)) }
+{
+    if let Some(key) = key {
+        if key.to == *to {
+            keys.push(*key)?;
+        }
+    }
+    Ok(())
 }

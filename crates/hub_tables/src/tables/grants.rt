@@ -1,11 +1,12 @@
 //! Shares, and the clients and codes of OAuth.
 ghost use Rattle.std.specs.Prelude.{◌≡◌, OnOk, OnErr, IfOk, IfSome};
 ghost use Rattle.std.specs.Option.{option_copied};
+ghost use Rattle.std.specs.List.{filter};
 ghost use Rattle.std.specs.FinMap as map;
 ghost use Rattle.std.specs.Map.Iter.{ShowsInOrder, deref};
 ghost use Rattle.keyed_rows.specs.Rows.{OwnKeys};
 ghost use Rattle.keyed_rows.specs.Puts.{IsAnswerIn};
-ghost use Rattle.hub_tables.specs.Lookups.{shares_with};
+ghost use Rattle.hub_tables.specs.Lookups.{same_recipient, shares_with};
 ghost use Rattle.hub_tables.specs.Rooms.{room_of};
 
 use crate::owned;
@@ -78,6 +79,13 @@ impl Tables {
         ensures { IfOk result (λ keys. keys.items ≡ shares_with self.now to.now) }
     {
         owned_keys(alloc, &self.trees.share_parties, &of_recipient(to))
+    }
+
+    /// Those of these that the user or the group received, in order. A key of another share is looked at and not copied.
+    pub fn shares_to(&self, alloc: Global, to: &Recipient) -> Result<Vec<ShareKey>, AllocError>
+        ensures { IfOk result (λ keys. keys.items ≡ filter (λ key. same_recipient key.to to.now) (shares_with self.now to.now)) }
+    {
+        owned::share_keys_to(alloc, &self.trees.share_parties, to)
     }
 
     /// The client of an id, `server:USER/SERVER` or `service:NAME`.
