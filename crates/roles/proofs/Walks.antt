@@ -1,7 +1,6 @@
 -- What is appended for each item of a list, one item further, and at the list's end.
-use Rattle.std.proofs.Common.{◌≡◌, ℕ, ◌+◌, ◌<◌, ◌≤◌, Bool, true, false, cond, List, [], ◌∷◌, ◌++◌, length, take, get_or, map, filter, flat_map, sym, ap, ◌∙◌, append_assoc, append-nil}
+use Rattle.std.proofs.Common.{◌≡◌, ℕ, ◌+◌, ◌<◌, ◌≤◌, List, [], ◌∷◌, ◌++◌, length, take, get_or, map, flat_map, sym, ap, ◌∙◌, append_assoc, append-nil}
 use Rattle.std.proofs.lemmas.List.{take_more, take_all, map-append}
-use Rattle.std.proofs.lemmas.List.Elements.{filter-append}
 use Rattle.std.proofs.lemmas.Grind.{flat_map-append}
 
 module _ {X : Type 0} where
@@ -29,15 +28,3 @@ module _ {X : Type 0} where
 
     pub map_all : (f : X → Y) (old now : List Y) (xs : List X) (i : ℕ) → length xs ≤ i → now ≡ old ++ map f (take i xs) → now ≡ old ++ map f xs
     map_all f old now xs i past h = h ∙ ap (λ r. old ++ map f r) (take_all i xs past)
-
-  passed : (p : X → Bool) (before after : List X) (x : X) (b : Bool) → p x ≡ b → after ≡ cond b (before ++ x ∷ []) before → after ≡ before ++ filter p (x ∷ [])
-  passed p before after x true e step = step ∙ ap (λ b. before ++ cond b (x ∷ []) []) (sym e)
-  passed p before after x false e step = step ∙ sym (append-nil before) ∙ ap (λ b. before ++ cond b (x ∷ []) []) (sym e)
-
-  pub filter_more : (p : X → Bool) (before after : List X) (xs : List X) (i : ℕ) (x : X) (b : Bool) → x ≡ get_or xs i x → i < length xs
-      → before ≡ filter p (take i xs) → p x ≡ b → after ≡ cond b (before ++ x ∷ []) before → after ≡ filter p (take (i + 1) xs)
-  filter_more p before after xs i x b e within h test step =
-      passed p before after x b test step ∙ ap (λ r. r ++ filter p (x ∷ [])) h ∙ sym (ap (filter p) (taken xs i x e within) ∙ filter-append p (take i xs) (x ∷ []))
-
-  pub filter_all : (p : X → Bool) (now : List X) (xs : List X) (i : ℕ) → length xs ≤ i → now ≡ filter p (take i xs) → now ≡ filter p xs
-  filter_all p now xs i past h = h ∙ ap (filter p) (take_all i xs past)

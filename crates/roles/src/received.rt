@@ -59,30 +59,7 @@ fn push_to_groups(
 fn keys_to_user(alloc: Global, t: &Tables, user: &UserName) -> Result<Vec<ShareKey>, AllocError>
     ensures { IfOk result (λ keys. keys.items ≡ filter (λ key. same_recipient key.to (Recipient.User user.now)) (shares_with t.now (Recipient.User user.now))) }
 {
-    let shared = t.shares_with(alloc, &Recipient::User(*user))?;
-    keys_to(alloc, &shared, user)
-}
-
-/// Those of the shares that were given to the user.
-fn keys_to(alloc: Global, shared: &[ShareKey], user: &UserName) -> Result<Vec<ShareKey>, AllocError>
-    ensures { IfOk result (λ keys. keys.items ≡ filter (λ key. same_recipient key.to (Recipient.User user.now)) shared.now) }
-{
-    let mut keys = Vec::new(alloc);
-    for key in shared {
-        if is_to(key, user) {
-            keys.push(*key)?;
-        }
-    }
-    Ok(keys)
-}
-
-fn is_to(key: &ShareKey, user: &UserName) -> bool
-    ensures { result ≡ same_recipient key.now.to (Recipient.User user.now) }
-{
-    match &key.to {
-        Recipient::User(name) => *name == *user,
-        Recipient::Group(_) => false,
-    }
+    t.shares_to(alloc, &Recipient::User(*user))
 }
 
 /// Appends the scopes of the shares of these keys.
