@@ -38,7 +38,7 @@ Connects_open None b target connects = subst IsOpen (sym (connects.silent refl))
 Connects_open (Some t) b target connects =
     subst IsOpen (sym (connects.sets t refl))
     (record {
-      opened = λ s is. subst (λ (k : Told). k.is_open ≡ true) (some_same (record t { connected = t.connected ++ target ∷ []; is_open = true }) s is) refl;
+      opened = λ s is. subst (λ (k : Told). k.is_open ≡ true) (some_same (record t { asked_for = t.asked_for ++ target ∷ []; is_open = true }) s is) refl;
     })
 
 -- it stays so, whatever moves over it

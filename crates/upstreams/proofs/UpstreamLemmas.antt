@@ -15,9 +15,9 @@ told_moves t x u rest is = record {
   silent = λ e. absurd (tells t e);
 }
 
-pub told_connects : (t : Told) (target : List ℕ) → Connects (Some t) target (Some (record t { connected = t.connected ++ target ∷ []; is_open = true }))
+pub told_connects : (t : Told) (target : List ℕ) → Connects (Some t) target (Some (record t { asked_for = t.asked_for ++ target ∷ []; is_open = true }))
 told_connects t target = record {
-  sets = λ s same. ap (λ (k : Told). Some (record k { connected = k.connected ++ target ∷ []; is_open = true })) (some_same t s same);
+  sets = λ s same. ap (λ (k : Told). Some (record k { asked_for = k.asked_for ++ target ∷ []; is_open = true })) (some_same t s same);
   silent = λ e. absurd (tells t e);
 }
 

@@ -1,8 +1,8 @@
 //! An upstream in memory.
-ghost use Rattle.std.specs.Prelude.{◌≡◌, ℕ, ◌<◌, ◌≤◌, ◌-◌, List, [], ◌++◌, length, take, drop, min, max, Option, Some, None, false, true, is_err, IfOk, OnOk, OnErr, IsErr};
+ghost use Rattle.std.specs.Prelude.{◌≡◌, ℕ, ◌<◌, ◌≤◌, ◌-◌, List, [], ◌∷◌, ◌++◌, length, take, drop, min, max, Option, Some, None, false, true, is_err, IfOk, OnOk, OnErr, IsErr};
 ghost use Rattle.hub_devices.specs.FailingCalls.{is_failing, after_call, new_script};
 ghost use Rattle.hub_devices.specs.Faults.{Rises};
-ghost use Rattle.upstreams.specs.Upstream.{Told, IsOpen, Connects, Moves, Finishes, IsSpent};
+ghost use Rattle.upstreams.specs.Upstream.{Told, IsOpen, Connects, Misses, Moves, Finishes, IsSpent};
 
 use crate::tunnelled::Tunnelled;
 use crate::upstream::Upstream;
@@ -11,18 +11,19 @@ use hub_devices::mem_bytes::{MemSink, MemSource};
 use hub_devices::source::Failed;
 use hub_kit::bytes::Bytes;
 use hub_kit::target::Target;
-use std::alloc::Global;
+use std::alloc::{AllocError, Global};
 use tunnel::gate::Gate;
 
-/// Gives at most `cut` bytes for each receive, and keeps the targets, what was sent and whether a connection is open. It fails at
-/// the calls that `failing` numbers, the first call being 0, and where it finds no memory; a `send` that is to fail keeps
-/// the first half of the bytes.
+/// Gives at most `cut` bytes for each receive, and keeps the targets that it was asked for, as far as it has the memory, what was sent and
+/// whether a connection is open. It fails at the calls that `failing` numbers, the first call being 0, and where it finds no memory; a
+/// `send` that is to fail keeps the first half of the bytes.
 pub struct MemUpstream {
     alloc: Global,
     given: Bytes,
     at: usize,
     cut: usize,
     targets: Vec<Target>,
+    names_all: bool,
     sent: Bytes,
     is_open: bool,
     script: FailingCalls,
@@ -38,6 +39,7 @@ impl Drop for MemUpstream {
             at: _,
             cut: _,
             targets: _,
+            names_all: _,
             sent: _,
             is_open: _,
             script: _,
@@ -49,7 +51,7 @@ impl MemUpstream {
     /// A `cut` of 0 counts as 1.
     pub fn new(alloc: Global, given: Bytes, cut: usize, failing: Vec<u64>) -> MemUpstream
         ensures told { ⟦<MemUpstream as Upstream>⟧.told result
-            ≡ Some (record { connected = []; sent = []; left = given; is_open = false }) }
+            ≡ Some (record { asked_for = []; names_all = true; sent = []; left = given; is_open = false }) }
         ensures cut { result.cut ≡ max cut 1 }
         ensures script { result.script ≡ new_script failing.items }
     {
@@ -59,6 +61,7 @@ impl MemUpstream {
             at: 0,
             cut: cut.max(1),
             targets: Vec::new(alloc),
+            names_all: true,
             sent: Bytes::new(alloc),
             is_open: false,
             script: FailingCalls::new(failing),
@@ -73,25 +76,48 @@ impl MemUpstream {
     }
 }
 
+/// Keeps a target that is asked for.
+fn keep(alloc: Global, targets: &mut Vec<Target>, target: &Target) -> Result<(), AllocError>
+    ensures ok { OnOk result (targets.new.items ≡ targets.old.items ++ target.now ∷ []) }
+    ensures err { OnErr result (targets.new.items ≡ targets.old.items) }
+{
+    targets.push(target.copy(alloc)?)?;
+    Ok(())
+}
+
 impl Upstream for MemUpstream {
-    ghost told = { λ u. Some (record { connected = u.targets.items; sent = u.sent; left = drop u.at u.given; is_open = u.is_open }) };
+    ghost told = { λ u. Some (record {
+      asked_for = u.targets.items;
+      names_all = u.names_all;
+      sent = u.sent;
+      left = drop u.at u.given;
+      is_open = u.is_open;
+    }) };
 
     ghost faults = { λ u. u.script.faults };
 
     fn connect(&mut self, target: &Target) -> Result<(), Failed> {
+        self.is_open = false;
         if self.script.next() {
-            return Err(Failed);
+            return match keep(self.alloc, &mut self.targets, target) {
+                Ok(()) => Err(Failed),
+                Err(_) => {
+                    self.names_all = false;
+                    Err(Failed)
+                }
+            };
         }
-        let Ok(target) = target.copy(self.alloc) else {
-            self.script.fail();
-            return Err(Failed);
-        };
-        if self.targets.push(target).is_err() {
-            self.script.fail();
-            return Err(Failed);
+        match keep(self.alloc, &mut self.targets, target) {
+            Ok(()) => {
+                self.is_open = true;
+                Ok(())
+            }
+            Err(_) => {
+                self.names_all = false;
+                self.script.fail();
+                Err(Failed)
+            }
         }
-        self.is_open = true;
-        Ok(())
     }
 
     fn send(&mut self, bytes: &[u8]) -> Result<(), Failed> {

@@ -1,6 +1,6 @@
 //! Where requests are passed on to.
 ghost use Rattle.std.specs.Prelude.{◌≡◌, ℕ, ◌<◌, ◌≤◌, List, [], ◌++◌, length, take, Option, IfOk, OnOk, OnErr};
-ghost use Rattle.upstreams.specs.Upstream.{Told, IsOpen, Connects, Moves, Finishes, IsSpent};
+ghost use Rattle.upstreams.specs.Upstream.{Told, IsOpen, Connects, Misses, Moves, Finishes, IsSpent};
 ghost use Rattle.hub_devices.specs.Faults.{Rises};
 
 use hub_devices::source::Failed;
@@ -14,10 +14,10 @@ pub trait Upstream {
     /// How often it has failed.
     ghost faults: { Self → ℕ };
 
-    /// Connects to a target, once more. Where it fails, all is as it was.
+    /// Asks for a connection to a target, once. Where it fails, none is open.
     fn connect(&mut self, target: &Target) -> Result<(), Failed>
         ensures ok { OnOk result (Connects (told self.old) target.now (told self.new)) }
-        ensures err { OnErr result (told self.new ≡ told self.old) }
+        ensures err { OnErr result (Misses (told self.old) target.now (told self.new)) }
         ensures counted { faults self.old ≤ faults self.new }
         ensures cause { OnErr result (Rises (faults self.old) (faults self.new)) };
 
