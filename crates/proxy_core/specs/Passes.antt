@@ -6,7 +6,7 @@ use Rattle.hub_devices.specs.Streams.{Appends, IsEnd}
 use Rattle.http_wire.specs.declared.error.SessionFault.{SessionFault}
 use Rattle.http_wire.specs.declared.error.SessionFault.TheVariants.{ReadFault, WriteFault}
 use Rattle.http_wire.specs.Took.{Took}
-use Rattle.upstreams.specs.Upstream.{Told, Connects, Moves, Finishes}
+use Rattle.upstreams.specs.Upstream.{Told, Connects, Misses, Moves, Finishes}
 use Rattle.proxy_wire.specs.declared.framing.Framing.{Framing}
 use Rattle.proxy_wire.specs.declared.replies.ReplyError.{ReplyError}
 use Rattle.proxy_wire.specs.declared.replies.ReplyError.TheVariants as reply
@@ -146,7 +146,8 @@ BackEnds text f behind held held' told told' links links' writes writes' (Err (W
     (part more : List ℕ) × (told' ≡ told) × Appends held part held' × Rises writes writes' × (n ≡ 0)
     × ((refusal_text refusal.Memory ≡ part ++ more) ⊎ (text ≡ part ++ more))
 
--- the upstream was connected, the request passed on, and the upstream finished; `links` is its count once it was connected
+-- a connection to the target was asked for once and made, the request passed on, and the upstream finished; `links` is its count once it
+-- was connected
 pub record Linked (q : Going) (target : List ℕ) (old new : Place) (result : Result Forwarded SessionFault) : Type 0 where
   pub linked : Option Told
   pub links : ℕ
@@ -156,14 +157,14 @@ pub record Linked (q : Going) (target : List ℕ) (old new : Place) (result : Re
   pub finishes : Finishes moved new.told
   pub ends : PassEnds q (record old { told = linked; links = links }) (record new { told = moved }) result
 
--- the upstream wasn't connected, and nothing was taken
-pub record Unlinked (old new : Place) (result : Result Forwarded SessionFault) : Type 0 where
+-- nothing was taken: for want of memory no connection was asked for, and for want of a link one to the target was, once
+pub record Unlinked (target : List ℕ) (old new : Place) (result : Result Forwarded SessionFault) : Type 0 where
   pub cause : Refusal
   pub written : IsWritten cause old.held new.held old.writes new.writes result
-  pub told : new.told ≡ old.told
   pub left : new.left ≡ old.left
   pub kept : new.kept ≡ old.kept
-  pub why : (cause ≡ refusal.Memory) ⊎ ((cause ≡ refusal.Link) × Rises old.links new.links)
+  pub why : ((cause ≡ refusal.Memory) × (new.told ≡ old.told))
+      ⊎ ((cause ≡ refusal.Link) × Misses old.told target new.told × Rises old.links new.links)
 
 abbrev pub PassOn : Going → List ℕ → Place → Place → Result Forwarded SessionFault → Type 0
-PassOn q target old new result = Linked q target old new result ⊎ Unlinked old new result
+PassOn q target old new result = Linked q target old new result ⊎ Unlinked target old new result

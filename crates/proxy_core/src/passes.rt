@@ -106,7 +106,7 @@ fn pass_linked<I: Source, O: Sink, U: Upstream>(
 }
 
 /// Passes a request on whose head was read and whose body is framed so, to a target, and its reply back, over one connection
-/// to it. What was taken of the client behind the body is lost (`rest`), since a connection takes one request.
+/// to it, which is asked for once. What was taken of the client behind the body is lost (`rest`), since a connection takes one request.
 pub fn pass_on<I: Source, O: Sink, U: Upstream>(
     alloc: Global,
     head: &Head,

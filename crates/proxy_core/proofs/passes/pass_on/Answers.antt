@@ -5,7 +5,7 @@ use Rattle.proxy_core.proofs.EndLemmas.{ends_as}
 use Rattle.proxy_core.proofs.passes.pass_on.Goals as goal
 
 pub returns-in_default-clause-ends : goal.returns-in_default-clause-ends
-returns-in_default-clause-ends g c = ([], inr (record { cause = Memory; written = c.refuse.ensures.written; told = refl; left = refl; kept = refl; why = inl refl }))
+returns-in_default-clause-ends g c = ([], inr (record { cause = Memory; written = c.refuse.ensures.written; left = refl; kept = refl; why = inl (refl, refl) }))
 
 pub returns-in-Err-clause-ends : goal.returns-in-Err-clause-ends
 returns-in-Err-clause-ends g c = (
@@ -13,10 +13,9 @@ returns-in-Err-clause-ends g c = (
   inr (record {
     cause = Link;
     written = c.refuse-in-Err.ensures.written;
-    told = c.in-Err.ensures.err;
     left = refl;
     kept = refl;
-    why = inr (refl, c.in-Err.ensures.cause);
+    why = inr (refl, c.in-Err.ensures.err, c.in-Err.ensures.cause);
   }),
 )
 
