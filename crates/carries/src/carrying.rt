@@ -23,9 +23,9 @@ use std::thread::Threads;
 use tunnel::shuts::Shuts;
 use upstreams::tunnelled::Tunnelled;
 
-/// Carries a request whose head was read to a target, over one connection to it: as a tunnel, where it is an upgrade and the upstream's
-/// reply switches over, and else as `pass_on` does. Where no tunnel opens, what was taken of the client behind the request is lost
-/// (`rest`), since a connection takes one request.
+/// Carries a request whose head was read to a target, over one connection to it, which is asked for once: as a tunnel, where it is an
+/// upgrade and the upstream's reply switches over, and else as `pass_on` does. Where no tunnel opens, what was taken of the client behind
+/// the request is lost (`rest`), since a connection takes one request.
 pub fn carry_head<R: Threads, I: Source + Send, O: Shuts, U: Tunnelled<Writes: Send>>(
     rt: &R,
     alloc: Global,

@@ -18,8 +18,8 @@ use std::thread::Threads;
 use tunnel::shuts::Shuts;
 use upstreams::tunnelled::Tunnelled;
 
-/// Carries an upgrade whose head was read to a target, over one connection to it. Where no tunnel opens, what the client sent behind its
-/// head is lost (`rest`), since a connection takes one request.
+/// Carries an upgrade whose head was read to a target, over one connection to it, which is asked for once. Where no tunnel opens, what the
+/// client sent behind its head is lost (`rest`), since a connection takes one request.
 pub(crate) fn carry_upgrade<R: Threads, I: Source + Send, O: Shuts, U: Tunnelled<Writes: Send>>(
     rt: &R,
     alloc: Global,

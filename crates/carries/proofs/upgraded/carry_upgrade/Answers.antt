@@ -13,7 +13,7 @@ returns-in_default-clause-ends g c = (
   inl (
     c.refuse.result,
     c.one_of.ensures,
-    inr (record { cause = Memory; written = c.refuse.ensures.written; told = refl; left = refl; kept = refl; why = inl refl }),
+    inr (record { cause = Memory; written = c.refuse.ensures.written; left = refl; kept = refl; why = inl (refl, refl) }),
   ),
 )
 
@@ -24,7 +24,7 @@ returns-in_default-take_kept-clause-ends g c =
       inl (
         c.refuse-in_default-take_kept.result,
         c.one_of-in_default-take_kept.ensures,
-        inr (record { cause = Memory; written = c.refuse-in_default-take_kept.ensures.written; told = refl; left = refl; kept = e.1; why = inl refl }),
+        inr (record { cause = Memory; written = c.refuse-in_default-take_kept.ensures.written; left = refl; kept = e.1; why = inl (refl, refl) }),
       ),
     )
 
@@ -38,10 +38,9 @@ returns-in-Err-clause-ends g c =
         inr (record {
           cause = Link;
           written = c.refuse-in-Err.ensures.written;
-          told = c.in-Err.ensures.err;
           left = refl;
           kept = all_taken c.in-Ok-take_kept.first c.args.kept.now c.take_kept.new.kept all.0 all.1;
-          why = inr (refl, c.in-Err.ensures.cause);
+          why = inr (refl, c.in-Err.ensures.err, c.in-Err.ensures.cause);
         }),
       ),
     )
