@@ -1,9 +1,17 @@
 use Rattle.std.proofs.Common.{◌++◌, List, ℕ, [], refl, arith}
-use Rattle.http_wire.proofs.TookLemmas.{Took_behind}
-use Rattle.upstreams.proofs.MoveLemmas.{Moves_then, Moves_open}
+use Rattle.http_wire.proofs.TookLemmas.{Took_none, Took_behind}
+use Rattle.upstreams.proofs.MoveLemmas.{Moves_none, Moves_then, Moves_open}
 use Rattle.proxy_bodies.proofs.PieceLemmas.{Took_piece}
 use Rattle.proxy_bodies.proofs.SendLemmas.{stop_part, stands_after}
 use Rattle.proxy_bodies.proofs.sends.send_parts.Goals as goal
+
+pub parts-init : goal.parts-init
+parts-init g c = record {
+  done = ([], ([], (λ k d lt. absurd (omega (arith, lt))), refl), Took_none _ _, Moves_none _);
+  room = c.requires.room;
+  reads = omega arith;
+  sends = omega arith;
+}
 
 pub parts-preserved : goal.parts-preserved
 parts-preserved g c =
