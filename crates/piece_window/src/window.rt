@@ -1,5 +1,5 @@
 //! Bytes that came and did not go on yet, in room of a fixed size.
-ghost use Rattle.std.specs.Prelude.{◌≡◌, ℕ, ◌+◌, ◌-◌, ◌<◌, ◌≤◌, List, [], ◌++◌, length, take, drop, IfOk, OnErr};
+ghost use Rattle.std.specs.Prelude.{◌≡◌, ℕ, ◌+◌, ◌-◌, ◌<◌, ◌≤◌, List, [], ◌++◌, length, take, drop, true, false, IfOk, OnErr};
 ghost use Rattle.hub_devices.specs.Streams.{IsEnd};
 ghost use Rattle.hub_devices.specs.Faults.{Rises};
 ghost use Rattle.http_wire.specs.Took.{Took};
@@ -66,6 +66,32 @@ impl Window {
     {
         self.start += n;
     }
+
+    /// Puts a piece in front of what is held, where there is room before it. Whether there is isn't part of the value, so only the
+    /// answer tells it. Mostly there is, once as many bytes were dropped.
+    pub fn put_front(&mut self, piece: &[u8]) -> bool
+        ensures put { result ≡ true → self.new ≡ piece.now ++ self.old }
+        ensures kept { result ≡ false → self.new ≡ self.old }
+    {
+        if piece.len() > self.start {
+            return false;
+        }
+        self.start = put_before(&mut self.bytes, self.start, piece);
+        true
+    }
+}
+
+/// Writes a piece over what stands before a place. Gives where the piece begins.
+fn put_before(bytes: &mut [u8], end: usize, piece: &[u8]) -> usize
+    requires fits { length piece.now ≤ end }
+    requires within { end ≤ length bytes.old }
+    ensures place { result + length piece.now ≡ end }
+    ensures put { drop result bytes.new ≡ piece.now ++ drop end bytes.old }
+    ensures size { length bytes.new ≡ length bytes.old }
+{
+    let start = end - piece.len();
+    bytes[start..end].copy_from_slice(piece);
+    start
 }
 
 /// Moves what is held to the front, if there is no room behind it. Gives where it stands.
