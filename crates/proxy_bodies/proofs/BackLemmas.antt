@@ -1,18 +1,26 @@
 -- Why a reply's body stopped.
 use Rattle.std.proofs.Common.{◌≡◌, ℕ, ◌<◌, ◌≤◌, ◌+◌, ◌^◌, ◌-◌, min, Bool, true, false, nat_le, List, [], ◌++◌, length, Option, refl, sym, ap, ◌∙◌, subst, inl, inr, append_assoc, arith}
 use Rattle.std.proofs.lemmas.List.{append-nil}
+use Rattle.std.proofs.lemmas.List.Elements.{All-nil}
 use Rattle.std.proofs.lemmas.Bool.{leb-true, leb-false}
 use Rattle.hub_devices.specs.Faults.{Rises}
 use Rattle.upstreams.specs.Upstream.{Told, IsSpent}
 use Rattle.chunk_parts.specs.declared.parts.At.{At}
-use Rattle.chunk_parts.specs.Chunks.{BeginsChunked, BreaksChunks}
+use Rattle.chunk_parts.specs.declared.parts.At.TheVariants.{Line}
+use Rattle.chunk_parts.specs.Chunks.{IsChunk, BeginsChunked, BreaksChunks}
 use Rattle.chunk_parts.specs.Parts.{Stands}
 use Rattle.chunk_parts.proofs.OnLemmas.{stands_on, breaks, begins, begins_front}
 use Rattle.proxy_wire.specs.declared.framing.Framing.{Framing}
 use Rattle.proxy_wire.specs.declared.framing.Framing.TheVariants.{Length, Chunked, ToEnd}
 use Rattle.proxy_bodies.specs.declared.backs.BackEnd.{BackEnd}
 use Rattle.proxy_bodies.specs.declared.backs.BackEnd.TheVariants.{Spent, ReceiveFault, WriteFault, Bad}
-use Rattle.proxy_bodies.specs.Backs.{StopsBack, StopsSized, IsBackEnd, body_limit}
+use Rattle.proxy_bodies.specs.Backs.{StopsBack, StopsSized, IsBackPart, IsBackEnd, body_limit}
+
+-- no bytes are a front of any body
+pub none_back : (f : Framing) → IsBackPart f []
+none_back (Length n) = omega arith
+none_back Chunked = begins Line [] ([], All-nil IsChunk, refl)
+none_back ToEnd = tt
 
 -- a body by its length stopped
 pub sized_end : (n : ℕ) (e : BackEnd) (told : Option Told) (body tail : List ℕ) (u u' w w' : ℕ) → length body ≤ min n body_limit

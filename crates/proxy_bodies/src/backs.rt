@@ -18,7 +18,7 @@ use proxy_wire::framing::Framing;
 use upstreams::upstream::Upstream;
 
 /// The most bytes of a body that are passed back.
-const BODY_LIMIT: u64 = 9_223_372_036_854_775_807;
+pub const BODY_LIMIT: u64 = 9_223_372_036_854_775_807;
 
 /// Why a body, or a part of it, did not go back whole.
 #[derive(Clone, Copy, Debug, PartialEq, Eq)]
@@ -32,7 +32,7 @@ pub(crate) enum BackEnd {
 }
 
 /// Writes the first n bytes of the window.
-fn write_first<O: Sink>(window: &mut Window, output: &mut O, n: usize) -> Result<(), Failed>
+pub fn write_first<O: Sink>(window: &mut Window, output: &mut O, n: usize) -> Result<(), Failed>
     requires { n ≤ length window.old }
     ensures ok { OnOk result ((window.new ≡ drop n window.old) × Appends (O.held output.old) (take n window.old) (O.held output.new)) }
     ensures kept { OnErr result (window.new ≡ window.old) }
