@@ -1,5 +1,5 @@
 //! Heads of requests and replies as they are passed on.
-ghost use Rattle.std.specs.Prelude.{◌≡◌, ◌<◌, ◌≤◌, ◌++◌, length, take, map, not, All, IfOk, OnOk};
+ghost use Rattle.std.specs.Prelude.{◌≡◌, ◌<◌, ◌≤◌, [], ◌++◌, length, take, map, not, All, IfOk, OnOk};
 ghost use Rattle.httparse.specs.Spans.{IsHeaderWithin, IsResponseWithin, span_bytes};
 ghost use Rattle.http_wire.specs.Head.{header_at};
 ghost use Rattle.proxy_wire.specs.Heads.{is_hop, is_switched, last_line, header_line, header_lines, request_line, status_line};
@@ -25,6 +25,9 @@ const CLOSE_AND_END: &[u8] = b"Connection: close\r\n\r\n";
 
 /// The same of an upgrade, and of the reply that switches over.
 const UPGRADE_AND_END: &[u8] = b"Connection: Upgrade\r\n\r\n";
+
+/// How many bytes a head's text has room for at the start. Most heads have fewer.
+const HEAD_ROOM: usize = 1024;
 
 /// Whether the header speaks to the next hop alone, and isn't passed on. An upgrade keeps `Upgrade`.
 fn is_hop(upgrade: bool, name: &[u8]) -> bool
@@ -52,6 +55,13 @@ pub(crate) fn is_switched(status: u16) -> bool
     ensures { result ≡ is_switched status }
 {
     status == 101
+}
+
+/// No bytes yet, with room for the text of most heads.
+fn empty_text(alloc: Global) -> Result<Bytes, AllocError>
+    ensures { IfOk result (λ text. text ≡ []) }
+{
+    Ok(Bytes::from_vec(Vec::with_capacity(alloc, HEAD_ROOM)?))
 }
 
 fn push_header(text: &mut Bytes, name: &[u8], value: &[u8]) -> Result<(), AllocError>
@@ -110,7 +120,7 @@ pub fn request_text(alloc: Global, upgrade: bool, head: &Head) -> Result<Bytes, 
     requires { head.now.minor ≤ 1 }
     ensures { IfOk result (λ text. text ≡ spec.request_text upgrade head.now) }
 {
-    let mut text = Bytes::new(alloc);
+    let mut text = empty_text(alloc)?;
     push_request_line(&mut text, head)?;
     push_headers(&mut text, upgrade, head.headers.as_slice())?;
     text.push_all(last_line(upgrade))?;
@@ -147,7 +157,7 @@ pub(crate) fn reply_text(
     ensures { IfOk result (λ text. text ≡ spec.reply_text r.version r.code (span_bytes bytes.now r.reason)
         (map (header_at bytes.now) (take r.headers spans.now))) }
 {
-    let mut text = Bytes::new(alloc);
+    let mut text = empty_text(alloc)?;
     let switched = is_switched(r.code);
     push_status_line(&mut text, r.version, r.code, r.reason.of(bytes))?;
     push_spans(&mut text, switched, bytes, &spans[..r.headers])?;
