@@ -15,6 +15,9 @@ use upstreams::upstream::Upstream;
 /// How many bytes there is room for.
 pub const ROOM: usize = 16384;
 
+/// How much room a new one leaves in front, for a head that is longer when it goes on than when it came.
+const MARGIN: usize = 64;
+
 /// Bytes from `start` to `end`.
 pub struct Window {
     bytes: [u8; 16384],
@@ -47,8 +50,8 @@ impl Window {
     {
         Window {
             bytes: [0; 16384],
-            start: 0,
-            end: 0,
+            start: MARGIN,
+            end: MARGIN,
         }
     }
 
