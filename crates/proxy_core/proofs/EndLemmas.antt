@@ -25,7 +25,7 @@ use Rattle.proxy_core.specs.declared.refusals.Refusal.TheVariants as refusal
 use Rattle.proxy_core.specs.declared.refusals.Forwarded.{Forwarded}
 use Rattle.proxy_core.specs.declared.refusals.Forwarded.TheVariants.{Passed, Refused, Ended, Cut}
 use Rattle.proxy_core.specs.Refusals.{refusal_text, IsWritten}
-use Rattle.proxy_core.specs.Passes.{Place, Going, Moved, IsSent, IsRefused, IsStop, PassEnds, BackEnds, stop_of, refusal_of}
+use Rattle.proxy_core.specs.Passes.{Place, Going, Moved, IsSent, IsRefused, IsStop, IsCutBack, PassEnds, BackEnds, stop_of, refusal_of}
 
 -- the request didn't go on whole
 pub stop_sent : (q : Going) (old new : Place) (bytes given : List ℕ) (e : BodyEnd) → StopsRequest new.left new.kept q.text q.framing bytes given e
@@ -110,10 +110,10 @@ moved_left old mid new bytes left kept took =
 abbrev Unwritten : Going → Place → Place → List ℕ → List ℕ → List ℕ → List ℕ → List ℕ → Type 0
 Unwritten q old new bytes given got part more =
     ((r : Refusal) × (refusal_text r ≡ part ++ more) × IsRefused q new.kept new.told old.links new.links bytes given got r)
-    ⊎ ((r : ResponseHead) × (f : Framing) × (rest : List ℕ) × BeginsReply q.upgrade q.method got r f rest × (reply_passed r ≡ part ++ more) × IsSent q bytes given)
+    ⊎ ((r : ResponseHead) × (f : Framing) × (rest : List ℕ) × BeginsReply q.upgrade q.method got r f rest × IsCutBack (reply_passed r) f rest part more × IsSent q bytes given)
 
 unwritten : (q : Going) (old new : Place) (bytes given got part more : List ℕ) (r : ResponseHead) (f : Framing) (behind : List ℕ) → IsSent q bytes given → BeginsReply q.upgrade q.method got r f behind
-    → (refusal_text refusal.Memory ≡ part ++ more) ⊎ (reply_passed r ≡ part ++ more) → Unwritten q old new bytes given got part more
+    → (refusal_text refusal.Memory ≡ part ++ more) ⊎ IsCutBack (reply_passed r) f behind part more → Unwritten q old new bytes given got part more
 unwritten q old new bytes given got part more r f behind sent begins (inl is) = inl (refusal.Memory, is, tt)
 unwritten q old new bytes given got part more r f behind sent begins (inr is) = inr (r, f, behind, begins, is, sent)
 

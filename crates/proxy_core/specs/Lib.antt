@@ -1,3 +1,4 @@
 pub mod Refusals
+pub mod Joins
 pub mod Passes
 pub mod Forward

@@ -15,7 +15,7 @@ use Rattle.proxy_wire.specs.Replies.{BeginsReply, NoReply}
 use Rattle.proxy_bodies.specs.declared.sends.BodyEnd.{BodyEnd}
 use Rattle.proxy_bodies.specs.declared.sends.BodyEnd.TheVariants as body
 use Rattle.proxy_bodies.specs.Bodies.{IsWholeBody, IsFrontOf, IsOpenBody, IsBadBody}
-use Rattle.proxy_bodies.specs.Backs.{IsBackEnd}
+use Rattle.proxy_bodies.specs.Backs.{IsBackPart, IsBackEnd}
 use Rattle.proxy_core.specs.declared.exchange.Stop.{Stop}
 use Rattle.proxy_core.specs.declared.exchange.Stop.TheVariants as stop
 use Rattle.proxy_core.specs.declared.refusals.Refusal.{Refusal}
@@ -106,12 +106,17 @@ pub record PassedBack (q : Going) (got gave : List ℕ) (old new : Place) : Type
   pub text : gave ≡ reply_passed reply ++ body
   pub ends : IsBackEnd framing new.told body tail old.links new.links old.writes new.writes
 
--- what the sink got of what was to be written: a refusal, or the head of the reply
+-- the sink got `part` of a reply's head and of the first bytes of its body that had come behind it
+abbrev pub IsCutBack : List ℕ → Framing → List ℕ → List ℕ → List ℕ → Type 0
+IsCutBack text f behind part more =
+    (front rest : List ℕ) × (behind ≡ front ++ rest) × IsBackPart f front × (text ++ front ≡ part ++ more)
+
+-- what the sink got of what was to be written: a refusal, or the head of the reply and first bytes of its body
 pub record IsUnwritten (q : Going) (old new : Place) (body given got part : List ℕ) : Type 0 where
   pub more : List ℕ
   pub of : ((r : Refusal) × (refusal_text r ≡ part ++ more) × IsRefused q new.kept new.told old.links new.links body given got r)
-      ⊎ ((r : ResponseHead) × (f : Framing) × (rest : List ℕ) × BeginsReply q.upgrade q.method got r f rest × (reply_passed r ≡ part ++ more)
-      × IsSent q body given)
+      ⊎ ((r : ResponseHead) × (f : Framing) × (rest : List ℕ) × BeginsReply q.upgrade q.method got r f rest
+      × IsCutBack (reply_passed r) f rest part more × IsSent q body given)
 
 -- how a request to an upstream that is connected ends
 abbrev pub PassEnds : Going → Place → Place → Result Forwarded SessionFault → Type 0
@@ -144,7 +149,7 @@ BackEnds text f behind held held' told told' links links' writes writes' (Ok Cut
 BackEnds text f behind held held' told told' links links' writes writes' (Err (ReadFault n)) = ⊥
 BackEnds text f behind held held' told told' links links' writes writes' (Err (WriteFault n)) =
     (part more : List ℕ) × (told' ≡ told) × Appends held part held' × Rises writes writes' × (n ≡ 0)
-    × ((refusal_text refusal.Memory ≡ part ++ more) ⊎ (text ≡ part ++ more))
+    × ((refusal_text refusal.Memory ≡ part ++ more) ⊎ IsCutBack text f behind part more)
 
 -- a connection to the target was asked for once and made, the request passed on, and the upstream finished; `links` is its count once it
 -- was connected
