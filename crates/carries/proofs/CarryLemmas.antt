@@ -31,6 +31,7 @@ use Rattle.proxy_core.specs.declared.refusals.Forwarded.{Forwarded}
 use Rattle.proxy_core.specs.Refusals.{IsWritten}
 use Rattle.proxy_core.specs.Passes.{Place, Going, IsSent, IsFront, Moved, PassEnds, BackEnds, PassOn, refusal_of}
 use Rattle.proxy_core.proofs.EndLemmas.{refused_reply, ends_refused, ends_back}
+use Rattle.proxy_core.proofs.JoinLemmas.{head_cut}
 use Rattle.carries.specs.Carries.{one_of, upgrade_of, IsUnasked, Sides, Flows, Tunnelled, Unopened, OpenEnds, Switched, LinkEnds, Through, CarryOn, CarryEnds, going}
 use Rattle.carries.specs.declared.carried.Carried.{Carried}
 use Rattle.carries.specs.declared.carried.Carried.TheVariants.{One, Tunnel}
@@ -130,7 +131,7 @@ link_unopened method text got behind old new links r f result moves begins left 
       still old new text got left kept moves,
       appends,
       rises,
-      record { more = more; of = inr (r, f, behind, begins, split, sent_text method text) },
+      record { more = more; of = inr (r, f, behind, begins, head_cut (reply_passed r) f behind part more split, sent_text method text) },
       refl,
     )
 
