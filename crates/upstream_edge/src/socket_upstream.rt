@@ -118,6 +118,8 @@ impl<'a, T: Threads> Upstream for SocketUpstream<'a, T> {
     fn connect(&mut self, target: &Target) -> Result<(), Failed> {
         self.waiting.clear();
         self.is_fresh = true;
+        // where the connection isn't made, none is open
+        self.sides = None;
         match connect(self.rt, target) {
             Ok((input, output)) => {
                 self.sides = Some(Sides { input, output });
