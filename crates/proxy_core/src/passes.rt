@@ -25,8 +25,8 @@ use proxy_wire::replies::Reply;
 use std::alloc::Global;
 use upstreams::upstream::Upstream;
 
-/// How many bytes of a body may go in one write with its head: those of a length. A longer one than `back_body` passes back goes apart, and so
-/// do chunks, which end at their own borders, and a body to the upstream's end.
+/// How many bytes of a body may go in one write with its head: all of a body of a length, if `back_body` passes back so many. Chunks, and a
+/// body to the upstream's end, go apart.
 fn most_joined(framing: Framing) -> u64
     ensures { MayJoin framing result }
 {
@@ -48,8 +48,8 @@ fn framing_behind(framing: Framing, n: u64) -> Framing
     }
 }
 
-/// Writes a head, and in one with it up to `most` of the bytes behind it, as many as the window holds; the head alone, if there is no room for
-/// it before them. Gives how many bytes went with it.
+/// Writes a head, and in one with it up to `most` of the bytes behind it, as many as the window holds; the head alone, if there is no room
+/// for it before them. Gives how many bytes went with it.
 fn give_head<O: Sink>(
     text: &[u8],
     most: u64,
