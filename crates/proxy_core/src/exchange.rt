@@ -48,8 +48,8 @@ pub fn refusal_of(error: ReplyError) -> Refusal
     }
 }
 
-/// Sends a request that is no upgrade to an upstream that is connected, and reads the head of its reply. What came behind that head stands in
-/// `back`.
+/// Sends a request that is no upgrade to an upstream that is connected, and reads the head of its reply. What came behind that head stands
+/// in `back`.
 pub(crate) fn exchange<I: Source, U: Upstream>(
     alloc: Global,
     method: &[u8],
