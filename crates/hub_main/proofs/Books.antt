@@ -1,5 +1,5 @@
 -- The book of a session, and what is known at its end.
-use Rattle.std.proofs.Common.{◌≡◌, ◌≤◌, ◌∙◌, inl, inr, ℕ, Bool, IsTrue, true, not, List, [], ◌∷◌, length, Option, Some, None, is_some, Result, Ok, Err, refl, sym, ap, subst, arith}
+use Rattle.std.proofs.Common.{◌≡◌, ◌≤◌, ◌∙◌, inl, inr, ℕ, IsTrue, not, List, [], ◌∷◌, length, Option, Some, None, is_some, Result, Ok, Err, refl, sym, ap, subst, arith}
 use Rattle.http_wire.specs.declared.error.SessionFault.{SessionFault}
 use Rattle.keeper.specs.Rows.{Rows}
 use Rattle.hub_machine.specs.declared.change.Change.{Change}
@@ -22,11 +22,11 @@ no_entries (Some (c ∷ h)) n none long = absurd (omega (arith, none, long (c �
 
 module _ {K : Type 0} (Tells : K → Type 0) (rows : K → Rows) (faults : K → ℕ) where
   pub opens : (config : HubConfig) (now : ℕ) (history : Option (List Change)) (k mid : K) (b : Standing)
-      → Stays Tells rows k mid → faults k ≤ faults mid → AreNames true config (Tells mid) (rows k)
+      → Stays Tells rows k mid → faults k ≤ faults mid → AreNames config (Tells mid) (rows k)
       → ((h : List Change) → history ≡ Some h → length h ≡ 0)
       → HasOpened config now (Tells mid) (rows mid) history (faults mid) b → Opens config now history (rows k) (faults k) b
   opens config now history k mid b stays less names new opened = record {
-    names = names_before (IsTrue b.start.has_rows) (Tells mid) (rows k) (rows k) (λ has. (opened.was_told has, λ kind key. refl)) true config names;
+    names = names_before (IsTrue b.start.has_rows) (Tells mid) (rows k) (rows k) (λ has. (opened.was_told has, λ kind key. refl)) config names;
     set_up = set_up_before (IsTrue b.start.has_rows) (IsTrue b.start.has_rows) (rows mid) (rows k) (λ has. (has, (stays (opened.was_told has)).1)) config now b.start.machine opened.set_up;
     tells = opened.tells;
     entries =
@@ -40,7 +40,7 @@ module _ {K : Type 0} (Tells : K → Type 0) (rows : K → Rows) (faults : K →
       → Opens config now history (rows k) (faults k) b → is_some history ≡ not config.no_trail → (Tells k' → IsTrue b.start.has_rows)
       → IsOpened config now (Tells k') (rows k) (faults k) b.start b.faults
   opened_by_end config now history k k' b opened trail had = record {
-    names = names_before (Tells k') (IsTrue b.start.has_rows) (rows k) (rows k) (λ told. (had told, λ kind key. refl)) true config opened.names;
+    names = names_before (Tells k') (IsTrue b.start.has_rows) (rows k) (rows k) (λ told. (had told, λ kind key. refl)) config opened.names;
     set_up = set_up_before (Tells k') (IsTrue b.start.has_rows) (rows k) (rows k) (λ told. (had told, λ kind key. refl)) config now b.start.machine opened.set_up;
     tells = opened.tells ∙ trail;
     counts = opened.counts;

@@ -1,5 +1,5 @@
 -- A good session is served.
-use Rattle.std.proofs.Common.{◌≡◌, ◌≤◌, ◌∙◌, inl, inr, ℕ, Bool, true, false, List, Option, Some, Result, Ok, Err, refl, sym, subst, arith}
+use Rattle.std.proofs.Common.{◌≡◌, ◌≤◌, ◌∙◌, inl, inr, ℕ, Bool, true, not, List, Option, Some, is_some, Result, Ok, Err, refl, sym, subst, arith}
 use Rattle.std.specs.Prelude.{⊤}
 use Rattle.http_wire.specs.declared.error.SessionFault.{SessionFault}
 use Rattle.http_wire.specs.declared.error.SessionFault.TheVariants.{ReadFault, WriteFault}
@@ -16,13 +16,15 @@ use Rattle.hub_words.specs.declared.session.SessionWords.{SessionWords}
 use Rattle.hub_main.specs.Told.{FilesTold, Sides}
 use Rattle.hub_main.specs.Ends.{End, cause_status, open_status, served_status, status_of}
 use Rattle.hub_main.specs.Configured.{IsConfig, IsUnfound}
-use Rattle.hub_main.specs.Opened.{AreNames, IsNotOpened, IsUnchosen, IsUnopened}
+use Rattle.hub_main.specs.Opened.{IsNotOpened, IsUnchosen, IsUnknown, IsUnopened}
 use Rattle.hub_main.specs.Served.{EndsOver, IsFault, PassEnds}
 use Rattle.hub_main.specs.Sessions.{EndsChosen, EndsConfigured, EndsUnchosen, EndsUnconfigured, EndsUnopened, RunEnds, SessionEnds}
-use Rattle.hub_main.specs.Known.{are_known}
+use Rattle.hub_main.specs.Known.{are_known, unknown_name}
 use Rattle.hub_main.specs.Good.{Fits, IsGood, IsGoodStatus, NoneRose, Stands}
 use Rattle.hub_main.specs.declared.cause.Cause.{Cause}
 use Rattle.hub_main.specs.declared.cause.Cause.TheVariants.{Words, Memory, NoFile, NoConfig, UnknownName, NoStore, NotOpened}
+use Rattle.hub_main.specs.declared.known_names.AnyName.{AnyName}
+use Rattle.hub_main.proofs.Unknown.{unknown_where}
 use Rattle.hub_main.proofs.Moved.{bad_before, full_before, lost_before}
 
 never : (before after : ℕ) → Stands before after → Rises before after → ⊥
@@ -75,12 +77,12 @@ chosen_good before after (NotOpened e) stands unchosen = absurd unchosen
 
 -- ---- the book
 
-unlike : (b : Bool) → b ≡ true → b ≡ false → ⊥
-unlike b known unknown = absurd cc
+none_unknown : (all : Bool) (unknown : Option AnyName) (name : AnyName) → is_some unknown ≡ not all → all ≡ true → unknown ≡ Some name → ⊥
+none_unknown all unknown name some known is = absurd cc
 
-names_good : (config : HubConfig) (now : ℕ) (has : Rows) (Tells : Type 0) → Tells → Fits config now has → AreNames false config Tells has → ⊥
-names_good config now has Tells told fits (inl configured) = unlike false configured.0 refl
-names_good config now has Tells told fits (inr names) = unlike (are_known config names.0) (fits.names names.0 (names.1 told)) names.2
+names_good : (config : HubConfig) (now : ℕ) (has : Rows) (Tells : Type 0) (name : AnyName) → Tells → Fits config now has → IsUnknown config Tells has name → ⊥
+names_good config now has Tells name told fits (kept, lists, is) =
+    none_unknown (are_known config kept) (unknown_name config kept) name (unknown_where config kept) (fits.names kept (lists told)) is
 
 module _ {K : Type 0} (Tells : K → Type 0) (rows : K → Rows) (faults : K → ℕ) where
   not_opened_good : (config : HubConfig) (now : ℕ) (k k' : K) (e : OpenError) → Tells k' → Stands (faults k) (faults k') → Fits config now (rows k)
@@ -96,7 +98,7 @@ module _ {K : Type 0} (Tells : K → Type 0) (rows : K → Rows) (faults : K →
 
   unopened_good : (config : HubConfig) (now : ℕ) (k k' : K) (cause : Cause) → Tells k' → Stands (faults k) (faults k') → Fits config now (rows k)
       → IsUnopened Tells rows faults config now k k' cause → IsGoodStatus (cause_status cause)
-  unopened_good config now k k' (UnknownName name) told stands fits why = absurd (names_good config now (rows k) (Tells k') told fits why)
+  unopened_good config now k k' (UnknownName name) told stands fits why = absurd (names_good config now (rows k) (Tells k') name told fits why)
   unopened_good config now k k' (NotOpened e) told stands fits why = not_opened_good config now k k' e told stands fits why
   unopened_good config now k k' Memory told stands fits why = seven
   unopened_good config now k k' Words told stands fits why = absurd why
@@ -139,8 +141,8 @@ module _ {K : Type 0} (Tells : K → Type 0) (rows : K → Rows) (faults : K →
   session_good words files files' s s' k k' end good told none (inr ends) =
       configured_good words files ends.0 s s' k k' end good told ends.1 none.store none.input none.output ends.2
 
-  pub run_good : (words : SessionWords) (files files' : FilesTold) (s s' : Sides) (k k' : K) (status : ℕ)
+  pub run_good : (words : SessionWords) (files files' : FilesTold) (s s' : Sides) (k k' : K) (end : Option End) (status : ℕ)
       → IsGood rows Chooses words files k → Tells k' → NoneRose faults files files' s s' k k'
-      → RunEnds Tells rows faults Chooses (Some words) files files' s s' k k' status → IsGoodStatus status
-  run_good words files files' s s' k k' status good told none ends =
-      subst IsGoodStatus (sym ends.2) (session_good words files files' s s' k k' ends.0 good told none ends.1)
+      → RunEnds Tells rows faults Chooses (Some words) files files' s s' k k' end status → IsGoodStatus status
+  run_good words files files' s s' k k' end status good told none ends =
+      subst IsGoodStatus (sym ends.3) (session_good words files files' s s' k k' ends.0 good told none ends.2)

@@ -1,3 +1,4 @@
+pub mod Unknown
 pub mod Moved
 pub mod Books
 pub mod Configurations

@@ -1,5 +1,5 @@
 -- What is said of rows that are told later is said of the same rows where they were told before.
-use Rattle.std.proofs.Common.{◌≡◌, ◌≤◌, ◌<◌, ◌∙◌, inl, inr, ℕ, Bool, true, List, refl, sym, arith}
+use Rattle.std.proofs.Common.{◌≡◌, ◌≤◌, ◌<◌, ◌∙◌, inl, inr, ℕ, List, refl, sym, arith}
 use Rattle.hub_devices.specs.Faults.{Rises}
 use Rattle.hub_rows.specs.declared.limits.Limits.{Limits}
 use Rattle.scope_names.specs.declared.custom.CustomRow.{CustomRow}
@@ -22,9 +22,9 @@ module _ (P Q : Type 0) (has was : Rows) (comes : P → Q × AreSame has was) wh
   listed_before : (kept : List Row) → (Q → Lists has kept) → P → Lists was kept
   listed_before kept lists told = lists_same has was kept (comes told).1 (lists (comes told).0)
 
-  pub names_before : (known : Bool) (config : HubConfig) → AreNames known config Q has → AreNames known config P was
-  names_before known config (inl configured) = inl configured
-  names_before known config (inr names) = inr (names.0, listed_before names.0 names.1, names.2)
+  pub names_before : (config : HubConfig) → AreNames config Q has → AreNames config P was
+  names_before config (inl configured) = inl configured
+  names_before config (inr names) = inr (names.0, listed_before names.0 names.1, names.2)
 
   loaded_before : (limits : Limits) (scopes : List CustomRow) (t : State) → AreLoaded limits scopes Q has t → AreLoaded limits scopes P was t
   loaded_before limits scopes t loaded = record { kept = loaded.kept; listed = listed_before loaded.kept loaded.listed; tables = loaded.tables }
@@ -54,19 +54,19 @@ module _ {K : Type 0} (Tells : K → Type 0) (rows : K → Rows) (faults : K →
 
   -- a store that was loaded is opened in vain
   pub not_opened : (config : HubConfig) (now : ℕ) (k mid last : K) (e : OpenError)
-      → Stays Tells rows k mid → Stays Tells rows mid last → faults k ≤ faults mid → faults mid ≤ faults last → AreNames true config (Tells mid) (rows k)
+      → Stays Tells rows k mid → Stays Tells rows mid last → faults k ≤ faults mid → faults mid ≤ faults last → AreNames config (Tells mid) (rows k)
       → IsRefused config now (Tells last) (rows mid) (faults mid) (faults last) e → IsNotOpened Tells rows faults config now k last e
   not_opened config now k mid last opening.KeeperFault first second less more names rises = rises_before (faults k) (faults mid) (faults last) less more rises
   not_opened config now k mid last (opening.BadRow kind key) first second less more names bad = (
     bad_before (Tells last) (Tells last) (rows mid) (rows k) (λ told. (told, (first (second told).0).1)) config.limits config.custom_scopes kind key bad,
-    names_before (Tells last) (Tells mid) (rows k) (rows k) (λ told. ((second told).0, λ kind key. refl)) true config names,
+    names_before (Tells last) (Tells mid) (rows k) (rows k) (λ told. ((second told).0, λ kind key. refl)) config names,
   )
   not_opened config now k mid last (opening.LostTarget target) first second less more names lost = (
     lost_before (Tells last) (Tells last) (rows mid) (rows k) (λ told. (told, (first (second told).0).1)) config target lost,
-    names_before (Tells last) (Tells mid) (rows k) (rows k) (λ told. ((second told).0, λ kind key. refl)) true config names,
+    names_before (Tells last) (Tells mid) (rows k) (rows k) (λ told. ((second told).0, λ kind key. refl)) config names,
   )
   not_opened config now k mid last (opening.Full kind limit) first second less more names full = (
     full_before (Tells last) (Tells last) (rows mid) (rows k) (λ told. (told, (first (second told).0).1)) config now kind limit full,
-    names_before (Tells last) (Tells mid) (rows k) (rows k) (λ told. ((second told).0, λ kind key. refl)) true config names,
+    names_before (Tells last) (Tells mid) (rows k) (rows k) (λ told. ((second told).0, λ kind key. refl)) config names,
   )
   not_opened config now k mid last opening.Memory first second less more names refused = tt

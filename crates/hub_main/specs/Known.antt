@@ -1,16 +1,19 @@
--- Whether the names in the lists of a configuration are kept or configured.
-use Rattle.std.specs.Prelude.{ℕ, ◌==◌, Bool, ◌&&◌, List, ◌++◌, map, Option, None, if◌then◌else◌}
-use Rattle.std.specs.List.{filter_map, list_all}
+-- Whether the names in the lists of a configuration are kept or configured, and which is the first that is neither.
+use Rattle.std.specs.Prelude.{ℕ, ◌==◌, Bool, not, List, [], ◌∷◌, ◌++◌, map, Option, None, if◌then◌else◌}
+use Rattle.std.specs.List.{filter_map, find, flat_map, list_all}
 use Rattle.std.specs.Result.{result_ok}
 use Rattle.hub_kit.specs.KeyOrder.{name_cmp}
 use Rattle.hub_kit.specs.Names.{name_read}
 use Rattle.keyed_rows.specs.Sorted.{in_order, is_among}
 use Rattle.scope_filters.specs.declared.holder.Owner.{Owner}
-use Rattle.scope_filters.specs.declared.holder.Owner.TheVariants.{User, Service}
+use Rattle.scope_filters.specs.declared.holder.Owner.TheVariants as owner
 use Rattle.hub_rows.specs.declared.records.Group.{Group}
 use Rattle.hub_rows.specs.declared.records.Role.{Role}
+use Rattle.hub_opening.specs.declared.config.ConfigToken.{ConfigToken}
 use Rattle.hub_opening.specs.declared.config.HubConfig.{HubConfig}
 use Rattle.keeper.specs.declared.keeper.Row.{Row}
+use Rattle.hub_main.specs.declared.known_names.AnyName.{AnyName}
+use Rattle.hub_main.specs.declared.known_names.AnyName.TheVariants.{User, Group as GroupOf, Service}
 use Rattle.hub_main.specs.declared.known_names.Names.{Names}
 
 -- ---- the names that are kept or configured
@@ -32,24 +35,37 @@ names_of config kept = record {
 
 -- ---- the names in lists
 
-abbrev pub are_among : (known : List (List ℕ)) → List (List ℕ) → Bool
-are_among known names = list_all (λ name. is_among name_cmp name known) names
+abbrev pub in_group : Group → List AnyName
+in_group group = map User group.users
 
-abbrev pub knows_group : Names → Group → Bool
-knows_group known group = are_among known.users group.users
+abbrev pub in_role : Role → List AnyName
+in_role role = map User role.users ++ (map GroupOf role.groups ++ map Service role.services)
 
-abbrev pub knows_role : Names → Role → Bool
-knows_role known role = are_among known.users role.users && (are_among known.groups role.groups && are_among known.services role.services)
+abbrev pub owner_name : Owner → AnyName
+owner_name (owner.User name) = User name
+owner_name (owner.Service name) = Service name
 
-abbrev pub knows_owner : Names → Owner → Bool
-knows_owner known (User name) = is_among name_cmp name known.users
-knows_owner known (Service name) = is_among name_cmp name known.services
+abbrev pub in_token : ConfigToken → List AnyName
+in_token token = owner_name token.owner ∷ []
 
-abbrev pub knows : Names → HubConfig → Bool
-knows known config =
-    list_all (knows_group known) config.groups
-    && (list_all (knows_role known) config.roles && list_all (λ token. knows_owner known token.owner) config.tokens)
+-- the names in the lists of the groups, then of the roles, and then those of the owners of tokens
+abbrev pub listed : HubConfig → List AnyName
+listed config = flat_map in_group config.groups ++ (flat_map in_role config.roles ++ flat_map in_token config.tokens)
 
--- each of them is kept or configured
+-- ---- whether they are known
+
+abbrev pub is_known : Names → AnyName → Bool
+is_known known (User name) = is_among name_cmp name known.users
+is_known known (GroupOf name) = is_among name_cmp name known.groups
+is_known known (Service name) = is_among name_cmp name known.services
+
+abbrev pub first_unknown : (known : Names) → List AnyName → Option AnyName
+first_unknown known names = find (λ name. not (is_known known name)) names
+
+-- each name in a list is kept or configured
 abbrev pub are_known : HubConfig → List Row → Bool
-are_known config kept = knows (names_of config kept) config
+are_known config kept = list_all (is_known (names_of config kept)) (listed config)
+
+-- the first that is neither
+abbrev pub unknown_name : HubConfig → List Row → Option AnyName
+unknown_name config kept = first_unknown (names_of config kept) (listed config)

@@ -1,5 +1,5 @@
 -- The book of a session: over which store it is opened, with which names, and why it isn't.
-use Rattle.std.specs.Prelude.{◌≡◌, ◌⊎◌, ℕ, ◌≤◌, Bool, IsTrue, true, false, not, List, [], Option, None, is_some, ⊤}
+use Rattle.std.specs.Prelude.{◌≡◌, ◌⊎◌, ℕ, ◌≤◌, IsTrue, true, not, List, [], Option, Some, None, is_some, ⊤}
 use Rattle.hub_devices.specs.Faults.{Rises}
 use Rattle.keeper.specs.Rows.{Rows, AreSame, Lists}
 use Rattle.keeper.specs.declared.keeper.Row.{Row}
@@ -12,14 +12,19 @@ use Rattle.hub_opening.specs.declared.open_error.OpenError.TheVariants as openin
 use Rattle.hub_core.specs.Visits.{Standing, entries_of}
 use Rattle.hub_core.specs.declared.start.Start.{Start}
 use Rattle.hub_main.specs.Told.{Sides, IsQuiet}
-use Rattle.hub_main.specs.Known.{are_known}
+use Rattle.hub_main.specs.Known.{are_known, unknown_name}
+use Rattle.hub_main.specs.declared.known_names.AnyName.{AnyName}
 use Rattle.hub_main.specs.declared.cause.Cause.{Cause}
 use Rattle.hub_main.specs.declared.cause.Cause.TheVariants.{Words, Memory, NoFile, NoConfig, UnknownName, NoStore, NotOpened}
 
--- whether the names in the lists of a configuration are known: all are configured, or they are by the rows that a store has, if it tells them
-abbrev pub AreNames : (known : Bool) → HubConfig → (Tells : Type 0) → Rows → Type 0
-AreNames known config Tells has =
-    ((known ≡ true) × (are_known config [] ≡ true)) ⊎ ((kept : List Row) × (Tells → Lists has kept) × (are_known config kept ≡ known))
+-- the names in the lists of a configuration are known: all are configured, or they are by the rows that a store has, if it tells them
+abbrev pub AreNames : HubConfig → (Tells : Type 0) → Rows → Type 0
+AreNames config Tells has =
+    (are_known config [] ≡ true) ⊎ ((kept : List Row) × (Tells → Lists has kept) × (are_known config kept ≡ true))
+
+-- this name is the first in those lists that isn't known, by the rows that a store has, if it tells them
+abbrev pub IsUnknown : HubConfig → (Tells : Type 0) → Rows → AnyName → Type 0
+IsUnknown config Tells has name = (kept : List Row) × (Tells → Lists has kept) × (unknown_name config kept ≡ Some name)
 
 -- ---- why there is no book
 
@@ -56,13 +61,13 @@ module _ {K : Type 0} (Tells : K → Type 0) (rows : K → Rows) (faults : K →
   abbrev pub IsNotOpened : HubConfig → (now : ℕ) → K → K → OpenError → Type 0
   IsNotOpened config now k k' opening.KeeperFault = Rises (faults k) (faults k')
   IsNotOpened config now k k' (opening.BadRow kind key) =
-      IsRefusedRow config.limits config.custom_scopes (Tells k') (rows k) kind key × AreNames true config (Tells k') (rows k)
-  IsNotOpened config now k k' (opening.LostTarget target) = IsLost config (Tells k') (rows k) target × AreNames true config (Tells k') (rows k)
-  IsNotOpened config now k k' (opening.Full kind limit) = IsFull config now (Tells k') (rows k) kind limit × AreNames true config (Tells k') (rows k)
+      IsRefusedRow config.limits config.custom_scopes (Tells k') (rows k) kind key × AreNames config (Tells k') (rows k)
+  IsNotOpened config now k k' (opening.LostTarget target) = IsLost config (Tells k') (rows k) target × AreNames config (Tells k') (rows k)
+  IsNotOpened config now k k' (opening.Full kind limit) = IsFull config now (Tells k') (rows k) kind limit × AreNames config (Tells k') (rows k)
   IsNotOpened config now k k' opening.Memory = ⊤
 
   abbrev pub IsUnopened : HubConfig → (now : ℕ) → K → K → Cause → Type 0
-  IsUnopened config now k k' (UnknownName name) = AreNames false config (Tells k') (rows k)
+  IsUnopened config now k k' (UnknownName name) = IsUnknown config (Tells k') (rows k) name
   IsUnopened config now k k' (NotOpened e) = IsNotOpened config now k k' e
   IsUnopened config now k k' Memory = ⊤
   IsUnopened config now k k' Words = ⊥
@@ -75,14 +80,14 @@ module _ {K : Type 0} (Tells : K → Type 0) (rows : K → Rows) (faults : K →
 -- The book began, with no fewer faults than the store had, with the state that the configuration makes of these rows, if they are told; and its
 -- history is told unless the configuration has no trail
 pub record IsOpened (config : HubConfig) (now : ℕ) (Tells : Type 0) (has : Rows) (faults : ℕ) (start : Start) (counted : ℕ) : Type 0 where
-  pub names : AreNames true config Tells has
+  pub names : AreNames config Tells has
   pub set_up : IsSetUp config now Tells has start.machine
   pub tells : start.tells ≡ not config.no_trail
   pub counts : faults ≤ counted
 
 -- what is known of the book that is opened over a store with these rows and faults
 pub record Opens (config : HubConfig) (now : ℕ) (history : Option (List Change)) (has : Rows) (faults : ℕ) (b : Standing) : Type 0 where
-  pub names : AreNames true config (IsTrue b.start.has_rows) has
+  pub names : AreNames config (IsTrue b.start.has_rows) has
   pub set_up : IsSetUp config now (IsTrue b.start.has_rows) has b.start.machine
   pub tells : b.start.tells ≡ is_some history
   pub entries : entries_of b ≡ []

@@ -65,5 +65,7 @@ module _ {K : Type 0} (Tells : K → Type 0) (rows : K → Rows) (faults : K →
   CommandEnds None files files' s s' k k' (Err NoStore) = ⊥
   CommandEnds None files files' s s' k k' (Err (NotOpened e)) = ⊥
 
-  abbrev pub RunEnds : Option SessionWords → FilesTold → FilesTold → Sides → Sides → K → K → (status : ℕ) → Type 0
-  RunEnds found files files' s s' k k' status = (end : End) × CommandEnds found files files' s s' k k' end × (status ≡ status_of end)
+  -- how the command ended, as it is told at the end, and the status of that
+  abbrev pub RunEnds : Option SessionWords → FilesTold → FilesTold → Sides → Sides → K → K → (told : Option End) → (status : ℕ) → Type 0
+  RunEnds found files files' s s' k k' told status =
+      (end : End) × (told ≡ Some end) × CommandEnds found files files' s s' k k' end × (status ≡ status_of end)

@@ -2,7 +2,7 @@
 ghost use Rattle.std.specs.Prelude.{◌≡◌};
 ghost use Rattle.hub_main.specs.Ends as spec;
 
-use crate::known_names::UnknownName;
+use crate::known_names::AnyName;
 use hub_kit::bytes::Bytes;
 use hub_opening::open_error::OpenError;
 use std::fmt;
@@ -16,8 +16,8 @@ pub enum Cause {
     NoFile,
     /// These bytes, which were read of it, are no configuration.
     NoConfig(Bytes),
-    /// A list of the configuration has a name that is neither kept nor configured.
-    UnknownName(UnknownName),
+    /// A list of the configuration has this name, which is neither kept nor configured.
+    UnknownName(AnyName),
     /// The store refused the place that was chosen for it.
     NoStore,
     NotOpened(OpenError),

@@ -1,10 +1,11 @@
 //! Whether the names in the lists of a configuration are kept or configured.
-ghost use Rattle.std.specs.Prelude.{◌≡◌, ◌++◌, ℕ, Bool, List, Option, map, not, IfOk, OnOk, is_some};
-ghost use Rattle.std.specs.List.{filter_map, list_all};
-ghost use Rattle.keyed_rows.specs.Sorted.{in_order, is_among};
+ghost use Rattle.std.specs.Prelude.{◌≡◌, ◌++◌, ℕ, List, Option, map, IfOk, OnOk};
+ghost use Rattle.std.specs.List.{filter_map, flat_map};
+ghost use Rattle.keyed_rows.specs.Sorted.{in_order};
 ghost use Rattle.keeper.specs.declared.keeper.Row.{Row};
 ghost use Rattle.hub_main.specs.Known as spec;
-ghost use Rattle.hub_main.specs.declared.known_names.Names.{Names};
+ghost use Rattle.hub_main.specs.declared.known_names.AnyName.{AnyName};
+ghost use Rattle.hub_main.specs.declared.known_names.AnyName.TheVariants as any;
 
 use hub_kit::key::Key;
 use hub_kit::names::{GroupName, ServiceName, UserName, read_group, read_service, read_user};
@@ -16,20 +17,20 @@ use scope_filters::holder::Owner;
 use std::alloc::{AllocError, Global};
 use std::fmt;
 
-/// A name in a list that is neither kept nor configured.
+/// The name of a user, a group or a service.
 #[derive(Clone, Copy)]
-pub enum UnknownName {
+pub enum AnyName {
     User(UserName),
     Group(GroupName),
     Service(ServiceName),
 }
 
-impl fmt::Display for UnknownName {
+impl fmt::Display for AnyName {
     fn fmt<W: fmt::Write>(&self, f: &mut fmt::Formatter<W>) -> fmt::Result {
         let (kind, name) = match self {
-            UnknownName::User(name) => ("user", name.as_str()),
-            UnknownName::Group(name) => ("group", name.as_str()),
-            UnknownName::Service(name) => ("service", name.as_str()),
+            AnyName::User(name) => ("user", name.as_str()),
+            AnyName::Group(name) => ("group", name.as_str()),
+            AnyName::Service(name) => ("service", name.as_str()),
         };
         write!(f, "the {kind} {name}")
     }
@@ -41,13 +42,21 @@ impl fmt::Display for UnknownName {
 trait KeptName: Key + Copy {
     ghost name_in: { Row → Option Self };
 
+    ghost of_kind: { Self → AnyName };
+
     /// The name of a row, if it is of this kind.
     fn of_row(row: &Row) -> Option<Self>
         ensures { result ≡ name_in row.now };
+
+    /// The name with its kind.
+    fn with_kind(self) -> AnyName
+        ensures { result ≡ of_kind self };
 }
 
 impl KeptName for UserName {
     ghost name_in = { spec.name_in 1 };
+
+    ghost of_kind = { any.User };
 
     fn of_row(row: &Row) -> Option<UserName> {
         if row.kind == 1 {
@@ -56,10 +65,16 @@ impl KeptName for UserName {
             None
         }
     }
+
+    fn with_kind(self) -> AnyName {
+        AnyName::User(self)
+    }
 }
 
 impl KeptName for GroupName {
     ghost name_in = { spec.name_in 2 };
+
+    ghost of_kind = { any.Group };
 
     fn of_row(row: &Row) -> Option<GroupName> {
         if row.kind == 2 {
@@ -68,10 +83,16 @@ impl KeptName for GroupName {
             None
         }
     }
+
+    fn with_kind(self) -> AnyName {
+        AnyName::Group(self)
+    }
 }
 
 impl KeptName for ServiceName {
     ghost name_in = { spec.name_in 3 };
+
+    ghost of_kind = { any.Service };
 
     fn of_row(row: &Row) -> Option<ServiceName> {
         if row.kind == 3 {
@@ -79,6 +100,10 @@ impl KeptName for ServiceName {
         } else {
             None
         }
+    }
+
+    fn with_kind(self) -> AnyName {
+        AnyName::Service(self)
     }
 }
 
@@ -143,6 +168,19 @@ impl Drop for Names {
     }
 }
 
+impl Names {
+    /// Whether this name is kept or configured.
+    fn have(&self, name: &AnyName) -> bool
+        ensures { result ≡ spec.is_known self.now name.now }
+    {
+        match name {
+            AnyName::User(name) => self.users.contains(name),
+            AnyName::Group(name) => self.groups.contains(name),
+            AnyName::Service(name) => self.services.contains(name),
+        }
+    }
+}
+
 /// The names of these rows and of these rows of a configuration.
 fn names_in<T: Named>(
     alloc: Global,
@@ -192,13 +230,14 @@ fn names_of(alloc: Global, config: &HubConfig, kept: &[Row]) -> Result<Names, Al
 
 // ---- the first that is neither
 
-/// The first of these names that isn't among those.
-fn first_unknown<N: Key + Copy>(known: &Sorted<N>, names: &Sorted<N>) -> Option<N>
-    ensures { is_some result ≡ not (list_all (λ name. is_among N.Ord.cmp name known.now) names.now) }
+/// The first of these names that isn't known.
+fn first_unknown<N: KeptName>(known: &Names, names: &Sorted<N>) -> Option<AnyName>
+    ensures { result ≡ spec.first_unknown known.now (map N.of_kind names.now) }
 {
     for name in names.as_slice() {
-        if !known.contains(name) {
-            return Some(*name);
+        let name = name.with_kind();
+        if !known.have(&name) {
+            return Some(name);
         }
     }
     None
@@ -206,66 +245,57 @@ fn first_unknown<N: Key + Copy>(known: &Sorted<N>, names: &Sorted<N>) -> Option<
 
 /// What names others in a configuration.
 trait Naming {
-    ghost knows: { Names → Self → Bool };
+    ghost names: { Self → List AnyName };
 
-    /// A name that is neither kept nor configured, if there is one.
-    fn unknown(&self, known: &Names) -> Option<UnknownName>
-        ensures { is_some result ≡ not (knows known.now self.now) };
+    /// The first of its names that is neither kept nor configured.
+    fn unknown(&self, known: &Names) -> Option<AnyName>
+        ensures { result ≡ spec.first_unknown known.now (names self.now) };
 }
 
 impl Naming for Group {
-    ghost knows = { spec.knows_group };
+    ghost names = { spec.in_group };
 
-    fn unknown(&self, known: &Names) -> Option<UnknownName> {
-        match first_unknown(&known.users, &self.users) {
-            Some(name) => Some(UnknownName::User(name)),
-            None => None,
-        }
+    fn unknown(&self, known: &Names) -> Option<AnyName> {
+        first_unknown(known, &self.users)
     }
 }
 
 impl Naming for Role {
-    ghost knows = { spec.knows_role };
+    ghost names = { spec.in_role };
 
-    fn unknown(&self, known: &Names) -> Option<UnknownName> {
-        if let Some(name) = first_unknown(&known.users, &self.users) {
-            return Some(UnknownName::User(name));
+    #[tactic(auto, using(crate::proofs::Unknown::unknown_of_both))]
+    fn unknown(&self, known: &Names) -> Option<AnyName> {
+        if let Some(name) = first_unknown(known, &self.users) {
+            return Some(name);
         }
-        if let Some(name) = first_unknown(&known.groups, &self.groups) {
-            return Some(UnknownName::Group(name));
+        if let Some(name) = first_unknown(known, &self.groups) {
+            return Some(name);
         }
-        match first_unknown(&known.services, &self.services) {
-            Some(name) => Some(UnknownName::Service(name)),
-            None => None,
-        }
+        first_unknown(known, &self.services)
+    }
+}
+
+/// The name of an owner.
+fn owner_name(owner: Owner) -> AnyName
+    ensures { result ≡ spec.owner_name owner }
+{
+    match owner {
+        Owner::User(name) => AnyName::User(name),
+        Owner::Service(name) => AnyName::Service(name),
     }
 }
 
 impl Naming for ConfigToken {
-    ghost knows = { λ known token. spec.knows_owner known token.owner };
+    ghost names = { spec.in_token };
 
-    fn unknown(&self, known: &Names) -> Option<UnknownName> {
-        match self.owner {
-            Owner::User(name) => {
-                if known.users.contains(&name) {
-                    None
-                } else {
-                    Some(UnknownName::User(name))
-                }
-            }
-            Owner::Service(name) => {
-                if known.services.contains(&name) {
-                    None
-                } else {
-                    Some(UnknownName::Service(name))
-                }
-            }
-        }
+    fn unknown(&self, known: &Names) -> Option<AnyName> {
+        let name = owner_name(self.owner);
+        if known.have(&name) { None } else { Some(name) }
     }
 }
 
-fn unknown_in<T: Naming>(known: &Names, rows: &[T]) -> Option<UnknownName>
-    ensures { is_some result ≡ not (list_all (T.knows known.now) rows.now) }
+fn unknown_in<T: Naming>(known: &Names, rows: &[T]) -> Option<AnyName>
+    ensures { result ≡ spec.first_unknown known.now (flat_map T.names rows.now) }
 {
     for row in rows {
         if let Some(name) = row.unknown(known) {
@@ -276,8 +306,9 @@ fn unknown_in<T: Naming>(known: &Names, rows: &[T]) -> Option<UnknownName>
 }
 
 /// The first of the groups, the roles and the tokens that names somebody unknown decides.
-fn unknown_among(known: &Names, config: &HubConfig) -> Option<UnknownName>
-    ensures { is_some result ≡ not (spec.knows known.now config.now) }
+#[tactic(auto, using(crate::proofs::Unknown::unknown_of_both))]
+fn unknown_among(known: &Names, config: &HubConfig) -> Option<AnyName>
+    ensures { result ≡ spec.first_unknown known.now (spec.listed config.now) }
 {
     if let Some(name) = unknown_in(known, config.groups.as_slice()) {
         return Some(name);
@@ -288,13 +319,13 @@ fn unknown_among(known: &Names, config: &HubConfig) -> Option<UnknownName>
     unknown_in(known, config.tokens.as_slice())
 }
 
-/// A name in a list of the configuration that is neither configured nor that of a row, if there is one.
+/// The first name in a list of the configuration that is neither configured nor that of a row, if there is one.
 pub(crate) fn unknown_name(
     alloc: Global,
     config: &HubConfig,
     kept: &[Row],
-) -> Result<Option<UnknownName>, AllocError>
-    ensures { IfOk result (λ unknown. is_some unknown ≡ not (spec.are_known config.now kept.now)) }
+) -> Result<Option<AnyName>, AllocError>
+    ensures { IfOk result (λ unknown. unknown ≡ spec.unknown_name config.now kept.now) }
 {
     let known = names_of(alloc, config, kept)?;
     let unknown = unknown_among(&known, config);

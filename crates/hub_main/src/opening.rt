@@ -1,5 +1,5 @@
 //! The book of a command: the store that is chosen for it, and what it is opened with.
-ghost use Rattle.std.specs.Prelude.{◌≡◌, ◌≤◌, ◌^◌, ℕ, true, [], IfOk, IfErr, OnOk, OnErr};
+ghost use Rattle.std.specs.Prelude.{◌≡◌, ◌≤◌, ◌^◌, ℕ, [], IfOk, IfErr, OnOk, OnErr};
 ghost use Rattle.hub_opening.specs.Kept.{MakeTable};
 ghost use Rattle.hub_opening.specs.declared.config.HubConfig.{HubConfig};
 ghost use Rattle.keeper.specs.Rows.{Lists};
@@ -58,7 +58,7 @@ fn are_configured(alloc: Global, config: &HubConfig) -> Result<bool, Cause>
 
 /// Refuses a configuration with a name in a list that is neither configured nor that of a row of the store.
 fn refuse_unkept<K: Keeper>(alloc: Global, store: &mut K, config: &HubConfig) -> Result<(), Cause>
-    ensures ok { OnOk result (spec.AreNames true config.now (K.Tells store.new) (K.rows store.old)) }
+    ensures ok { OnOk result (spec.AreNames config.now (K.Tells store.new) (K.rows store.old)) }
     ensures err { (now : ℕ) → IfErr result (spec.IsUnopened K.Tells K.rows K.faults config.now now store.old store.new) }
     ensures stays { spec.Stays K.Tells K.rows store.old store.new }
     ensures counted { K.faults store.old ≤ K.faults store.new }
@@ -78,7 +78,7 @@ fn refuse_unkept<K: Keeper>(alloc: Global, store: &mut K, config: &HubConfig) ->
 
 /// The same. The rows, of which there may be many, are read where a name isn't configured alone.
 fn refuse_unknown<K: Keeper>(alloc: Global, store: &mut K, config: &HubConfig) -> Result<(), Cause>
-    ensures ok { OnOk result (spec.AreNames true config.now (K.Tells store.new) (K.rows store.old)) }
+    ensures ok { OnOk result (spec.AreNames config.now (K.Tells store.new) (K.rows store.old)) }
     ensures err { (now : ℕ) → IfErr result (spec.IsUnopened K.Tells K.rows K.faults config.now now store.old store.new) }
     ensures stays { spec.Stays K.Tells K.rows store.old store.new }
     ensures counted { K.faults store.old ≤ K.faults store.new }

@@ -163,7 +163,7 @@ pub fn run<W: World, R: Wait>(rt: &R, alloc: Global, words: &[Text], outside: &m
     ensures store { IsSome outside.new.store }
     ensures ends { (k k' : W.Store) → outside.old.store ≡ Some k → outside.new.store ≡ Some k' → spec.RunEnds W.Store.Tells W.Store.rows W.Store.faults W.Store.Chooses (session_read words.now) (files_told W.Reads.files W.Reads.faults outside.old.files) (files_told W.Reads.files W.Reads.faults outside.new.files)
         (sides W.In.left W.In.faults W.Out.held W.Out.faults outside.old.input outside.old.output (kit_told W.Draws.left W.Starts.calls W.Paths.calls W.Draws.faults W.Starts.faults W.Paths.faults outside.old.kit))
-        (sides W.In.left W.In.faults W.Out.held W.Out.faults outside.new.input outside.new.output (kit_told W.Draws.left W.Starts.calls W.Paths.calls W.Draws.faults W.Starts.faults W.Paths.faults outside.new.kit)) k k' result }
+        (sides W.In.left W.In.faults W.Out.held W.Out.faults outside.new.input outside.new.output (kit_told W.Draws.left W.Starts.calls W.Paths.calls W.Draws.faults W.Starts.faults W.Paths.faults outside.new.kit)) k k' outside.new.end result }
     ensures files { W.Reads.files outside.new.files ≡ W.Reads.files outside.old.files }
     ensures reads { W.In.faults outside.old.input ≤ W.In.faults outside.new.input }
     ensures writes { W.Out.faults outside.old.output ≤ W.Out.faults outside.new.output }

@@ -37,6 +37,6 @@ pub struct Outside<W: World> {
     /// The devices of a connection. A session sets its clock.
     pub kit: HubKit<W::Starts, W::Paths, FixedClock, W::Draws>,
     pub files: W::Reads,
-    /// How the last command ended, for what is said to people. No contract speaks of it.
+    /// How the last command ended, for what is said to people.
     pub end: Option<End>,
 }

@@ -1,8 +1,7 @@
-use Rattle.std.proofs.Common.{◌≡◌, drop}
-use Rattle.std.specs.List.{list_all}
-use Rattle.keyed_rows.specs.Sorted.{is_among}
+use Rattle.std.proofs.Common.{◌≡◌, drop, map}
+use Rattle.hub_main.specs.Known.{first_unknown}
 use Rattle.hub_main.proofs.known_names.first_unknown.Given as goal
 
 abbrev pub invariant-loop-name : goal.invariant-loop-name
 invariant-loop-name g l =
-    list_all (λ name. is_among g.N.Ord.cmp name l.fn.known) (drop l.name-index l.fn.names) ≡ list_all (λ name. is_among g.N.Ord.cmp name l.fn.known) l.fn.names
+    first_unknown l.fn.known (map g.N.KeptName.of_kind (drop l.name-index l.fn.names)) ≡ first_unknown l.fn.known (map g.N.KeptName.of_kind l.fn.names)
