@@ -1,5 +1,5 @@
 -- How long a body is, by the head before it (RFC 9112, section 6.3).
-use Rattle.std.specs.Prelude.{◌≡◌, ◌==◌, ◌||◌, ℕ, Bool, true, false, List, [], ◌∷◌, map, Option, Some, None, Result, Ok, Err, if◌then◌else◌}
+use Rattle.std.specs.Prelude.{◌≡◌, ◌==◌, ◌||◌, ℕ, Bool, true, false, List, [], ◌∷◌, map, codes, Option, Some, None, Result, Ok, Err, if◌then◌else◌}
 use Rattle.std.specs.Str.{str_eq_ignore_ascii_case, bytes_eq}
 use Rattle.httparse.specs.Grammar.{ResponseHead, status_code}
 use Rattle.http_wire.specs.declared.decimal.Decimal.{Decimal}
@@ -12,7 +12,6 @@ use Rattle.http_wire.specs.Fields.{values_of}
 use Rattle.http_wire.specs.Head.{header_of}
 use Rattle.proxy_wire.specs.declared.framing.Framing.{Framing}
 use Rattle.proxy_wire.specs.declared.framing.Framing.TheVariants.{Length, Chunked, ToEnd}
-use Rattle.proxy_wire.specs.declared.framing.TheConstants.{CONTENT_LENGTH, TRANSFER_ENCODING, CHUNKED, HEAD}
 use Rattle.proxy_wire.specs.declared.given.Given.{Given}
 use Rattle.proxy_wire.specs.declared.given.Given.TheVariants.{Nothing, One, Several}
 
@@ -24,7 +23,7 @@ IsGiven values Several = (a : List ℕ) × (b : List ℕ) × (more : List (List 
 
 -- `chunked`, without regard to ASCII case
 abbrev pub is_chunked : List ℕ → Bool
-is_chunked coding = str_eq_ignore_ascii_case coding CHUNKED.now
+is_chunked coding = str_eq_ignore_ascii_case coding (codes "chunked")
 
 -- by a reply's length alone: a number, or none, where the body goes to the end
 abbrev pub sized : Option Decimal → Option Framing
@@ -46,7 +45,7 @@ reply_framing (Some said) (c ∷ codings) = None
 
 -- no body follows, whatever the head says
 abbrev pub has_no_body : List ℕ → ℕ → Bool
-has_no_body method status = bytes_eq method HEAD.now || (status == 204 || status == 304)
+has_no_body method status = bytes_eq method (codes "HEAD") || (status == 204 || status == 304)
 
 -- the same, once that is looked at
 abbrev pub without_body : Bool → Option Framing → Option Framing
@@ -58,7 +57,7 @@ without_body true (Some f) = Some (Length 0)
 abbrev pub headers_framing : List ℕ → ℕ → List Header → Option Framing
 headers_framing method status headers =
     without_body (has_no_body method status)
-    (reply_framing (number_said (values_of CONTENT_LENGTH.now headers)) (values_of TRANSFER_ENCODING.now headers))
+    (reply_framing (number_said (values_of (codes "content-length") headers)) (values_of (codes "transfer-encoding") headers))
 
 -- the same of a head of the grammar
 abbrev pub framing : List ℕ → ResponseHead → Option Framing
@@ -84,4 +83,4 @@ framing_said (Err e) (c ∷ codings) = Err BadHead
 
 -- how long the body behind a request's head is, or why it is refused
 abbrev pub request_framing : List Header → Result Framing WireError
-request_framing headers = framing_said (as_length (length_said headers)) (values_of TRANSFER_ENCODING.now headers)
+request_framing headers = framing_said (as_length (length_said headers)) (values_of (codes "transfer-encoding") headers)

@@ -1,19 +1,18 @@
 -- The heads that are sent on and passed back.
-use Rattle.std.specs.Prelude.{ℕ, ◌+◌, ◌/◌, ◌%◌, ◌==◌, Bool, ◌||◌, ◌&&◌, not, List, [], ◌∷◌, ◌++◌, map, if◌then◌else◌}
+use Rattle.std.specs.Prelude.{ℕ, ◌+◌, ◌/◌, ◌%◌, ◌==◌, Bool, ◌||◌, ◌&&◌, not, List, [], ◌∷◌, ◌++◌, map, codes, if◌then◌else◌}
 use Rattle.std.specs.List.{filter, flat_map}
 use Rattle.std.specs.Str.{str_eq_ignore_ascii_case}
 use Rattle.httparse.specs.Grammar.{RequestHead, ResponseHead, reason_phrase, status_code}
 use Rattle.http_wire.specs.declared.head.Header.{Header}
 use Rattle.http_wire.specs.declared.head.Head.{Head}
 use Rattle.http_wire.specs.Head.{header_of, head_of}
-use Rattle.proxy_wire.specs.declared.heads.TheConstants.{CONNECTION, KEEP_ALIVE, PROXY_CONNECTION, UPGRADE, VERSION, CLOSE_AND_END, UPGRADE_AND_END}
 
 -- a header that speaks to the next hop alone, which isn't passed on, but for `Upgrade` where an upgrade is
 abbrev pub is_hop : Bool → List ℕ → Bool
 is_hop upgrade name =
-    str_eq_ignore_ascii_case name CONNECTION.now
-    || (str_eq_ignore_ascii_case name KEEP_ALIVE.now
-    || (str_eq_ignore_ascii_case name PROXY_CONNECTION.now || not upgrade && str_eq_ignore_ascii_case name UPGRADE.now))
+    str_eq_ignore_ascii_case name (codes "connection")
+    || (str_eq_ignore_ascii_case name (codes "keep-alive")
+    || (str_eq_ignore_ascii_case name (codes "proxy-connection") || not upgrade && str_eq_ignore_ascii_case name (codes "upgrade")))
 
 -- name, colon, space, value and a line's end
 abbrev pub header_line : Header → List ℕ
@@ -23,13 +22,17 @@ header_line h = h.name ++ 58 ∷ 32 ∷ h.value ++ 13 ∷ 10 ∷ []
 abbrev pub header_lines : Bool → List Header → List ℕ
 header_lines upgrade headers = flat_map header_line (filter (λ h. not (is_hop upgrade h.name)) headers)
 
+-- a line's end, and the empty line behind it
+abbrev pub head_end : List ℕ
+head_end = 13 ∷ 10 ∷ 13 ∷ 10 ∷ []
+
 -- the last line, and the empty line behind it
 abbrev pub last_line : Bool → List ℕ
-last_line upgrade = if upgrade then UPGRADE_AND_END.now else CLOSE_AND_END.now
+last_line upgrade = if upgrade then codes "Connection: Upgrade" ++ head_end else codes "Connection: close" ++ head_end
 
 -- method, target and version with one space between, and a line's end
 abbrev pub request_line : List ℕ → List ℕ → ℕ → List ℕ
-request_line method target minor = method ++ 32 ∷ target ++ 32 ∷ VERSION.now ++ (48 + minor) ∷ 13 ∷ 10 ∷ []
+request_line method target minor = method ++ 32 ∷ target ++ 32 ∷ codes "HTTP/1." ++ (48 + minor) ∷ 13 ∷ 10 ∷ []
 
 -- the head of a request as it is sent on, as an upgrade or not
 abbrev pub request_text : Bool → Head → List ℕ
@@ -46,7 +49,7 @@ three_digits n = (48 + n / 100 % 10) ∷ (48 + n / 10 % 10) ∷ (48 + n % 10) �
 
 -- version, status and reason with one space between, and a line's end
 abbrev pub status_line : ℕ → ℕ → List ℕ → List ℕ
-status_line minor status reason = VERSION.now ++ (48 + minor) ∷ 32 ∷ three_digits status ++ 32 ∷ reason ++ 13 ∷ 10 ∷ []
+status_line minor status reason = codes "HTTP/1." ++ (48 + minor) ∷ 32 ∷ three_digits status ++ 32 ∷ reason ++ 13 ∷ 10 ∷ []
 
 -- the connection is switched over to another protocol
 abbrev pub is_switched : ℕ → Bool
