@@ -1,5 +1,5 @@
 -- One request that is carried: passed on as any other, or as a tunnel.
-use Rattle.std.specs.Prelude.{◌≡◌, ◌⊎◌, ◌≤◌, ◌++◌, ℕ, Bool, true, List, [], Option, Result, Ok, Err}
+use Rattle.std.specs.Prelude.{◌≡◌, ◌⊎◌, ◌≤◌, ◌-◌, ◌^◌, ◌++◌, ℕ, Bool, true, List, [], Option, Result, Ok, Err}
 use Rattle.std.specs.Option.{option_map}
 use Rattle.httparse.specs.Grammar.{RequestHead, ResponseHead, print_request, status_code}
 use Rattle.hub_devices.specs.Faults.{Rises}
@@ -26,7 +26,6 @@ use Rattle.proxy_core.specs.Passes.{Place, Going, IsRefused, PassEnds, PassOn}
 use Rattle.proxy_core.specs.Forward.{Found, IsChosen, Unread, Unchosen}
 use Rattle.carries.specs.declared.carried.Carried.{Carried}
 use Rattle.carries.specs.declared.carried.Carried.TheVariants.{One, Tunnel}
-use Rattle.carries.specs.declared.opening.TheConstants.{BUDGET}
 
 -- an end that is no tunnel
 abbrev pub one_of : {R W : Type 0} → Result Forwarded SessionFault → Result (Carried R W) SessionFault
@@ -52,10 +51,14 @@ pub record Sides : Type 0 where
   pub upper_shut : Bool
   pub lower_shut : Bool
 
--- one direction: `first` and then what the source gave, up to the budget
+-- the most bytes that go one way through a tunnel
+abbrev pub tunnel_limit : ℕ
+tunnel_limit = 2 ^ 63 - 1
+
+-- one direction: `first` and then what the source gave, up to that limit
 pub record Flows (left held left' held' : Option (List ℕ)) (first : List ℕ) (p : Pump) : Type 0 where
-  pub pumped : Pumped left held left' held' first BUDGET p
-  pub over : PumpedOver left held held' first BUDGET p
+  pub pumped : Pumped left held left' held' first tunnel_limit p
+  pub over : PumpedOver left held held' first tunnel_limit p
 
 -- the reply's head went to the client, and then all bytes went both ways, those first that had come behind either head
 pub record Tunnelled (old new : Place) (first text behind : List ℕ) (up down : Pump) (s : Sides) : Type 0 where
