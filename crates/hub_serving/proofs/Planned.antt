@@ -60,9 +60,10 @@ module _ {K : Type 0} (Tells : K → Type 0) (rows : K → Rows) (faults : K →
   -- the store was taken from the outside and put back
   pub run_ends : (found : Option ServeWords) (files files' : FilesTold) (h h' : Hall) (taken back k k' : K) (end : End) (status : ℕ)
       → CommandEnds Tells rows faults Chooses found files files' h h' taken back end → status ≡ status_of end → Some taken ≡ Some k → Some back ≡ Some k'
-      → RunEnds Tells rows faults Chooses found files files' h h' k k' status
+      → RunEnds Tells rows faults Chooses found files files' h h' k k' (Some end) status
   run_ends found files files' h h' taken back k k' end status ends is before after = (
     end,
+    refl,
     subst (λ (x : K). CommandEnds Tells rows faults Chooses found files files' h h' x k' end) (same taken k before)
         (subst (λ (x : K). CommandEnds Tells rows faults Chooses found files files' h h' taken x end) (same back k' after) ends),
     is,

@@ -1,5 +1,5 @@
 -- What the command `serve` does, and with which status it ends.
-use Rattle.std.specs.Prelude.{◌≡◌, ◌⊎◌, ℕ, List, Option, Err}
+use Rattle.std.specs.Prelude.{◌≡◌, ◌⊎◌, ℕ, List, Option, Some, Err}
 use Rattle.keeper.specs.Rows.{Rows}
 use Rattle.hub_devices.specs.ToCome as moments
 use Rattle.hub_core.specs.declared.start.Start.{Start}
@@ -65,5 +65,7 @@ module _ {K : Type 0} (Tells : K → Type 0) (rows : K → Rows) (faults : K →
   CommandEnds found files files' h h' k k' end =
       EndsUnplanned found files files' h h' k k' end ⊎ ((plan : Plan) × IsPlanOf found files plan × EndsPlanned plan h h' k k' end)
 
-  abbrev pub RunEnds : Option ServeWords → FilesTold → FilesTold → Hall → Hall → K → K → (status : ℕ) → Type 0
-  RunEnds found files files' h h' k k' status = (end : End) × CommandEnds found files files' h h' k k' end × (status ≡ status_of end)
+  -- how the command ended, as it is told at the end, and the status of that
+  abbrev pub RunEnds : Option ServeWords → FilesTold → FilesTold → Hall → Hall → K → K → (told : Option End) → (status : ℕ) → Type 0
+  RunEnds found files files' h h' k k' told status =
+      (end : End) × (told ≡ Some end) × CommandEnds found files files' h h' k k' end × (status ≡ status_of end)

@@ -144,7 +144,7 @@ pub fn run<W: ServeWorld, R: Threads + Wait + Sync>(
     ensures store { IsSome outside.new.store }
     ensures ends { (k k' : W.Store) → outside.old.store ≡ Some k → outside.new.store ≡ Some k' → spec.RunEnds W.Store.Tells W.Store.rows W.Store.faults W.Store.Chooses (serve_read words.now) (files_told W.Reads.files W.Reads.faults outside.old.files) (files_told W.Reads.files W.Reads.faults outside.new.files)
         (hall W.Out.held W.Out.faults W.Doors.given W.Doors.faults W.Time.to_come W.Draws.left W.Starts.calls W.Paths.calls W.Draws.faults W.Starts.faults W.Paths.faults W.Runs.calls W.Runs.faults outside.old.output outside.old.doors outside.old.kit outside.old.services)
-        (hall W.Out.held W.Out.faults W.Doors.given W.Doors.faults W.Time.to_come W.Draws.left W.Starts.calls W.Paths.calls W.Draws.faults W.Starts.faults W.Paths.faults W.Runs.calls W.Runs.faults outside.new.output outside.new.doors outside.new.kit outside.new.services) k k' result }
+        (hall W.Out.held W.Out.faults W.Doors.given W.Doors.faults W.Time.to_come W.Draws.left W.Starts.calls W.Paths.calls W.Draws.faults W.Starts.faults W.Paths.faults W.Runs.calls W.Runs.faults outside.new.output outside.new.doors outside.new.kit outside.new.services) k k' outside.new.end result }
     ensures files { W.Reads.files outside.new.files ≡ W.Reads.files outside.old.files }
     ensures looked { W.Reads.faults outside.old.files ≤ W.Reads.faults outside.new.files }
 {

@@ -47,6 +47,6 @@ pub struct ServeOutside<W: ServeWorld> {
     /// The devices by which services are started, routed and stopped.
     pub services: ServiceKit<W::Runs, W::Paths, W::Time>,
     pub files: W::Reads,
-    /// How the command ended, for what is said to people. No contract speaks of it.
+    /// How the command ended, for what is said to people.
     pub end: Option<End>,
 }
