@@ -56,7 +56,7 @@ made_wanting start x y request text last said closed is moves text_is closed_is 
 
 -- no memory for the reply, or for the visit
 pub made_unsaid : (start : Start) (x y : View) (request : Request) (text : List ℕ) (asked : Asked) (v : Visit) (last : Bool) (said : List ℕ) (closed : Bool)
-    → IsRequestText request text → call_read request ≡ Ok asked → IsDrawn v asked → Visits x v y → IsLeft start v asked → said ≡ no_memory → closed ≡ true
+    → IsRequestText request text → call_read request ≡ Ok asked → IsDrawn v asked → Visits x v y → IsLeft start request v → said ≡ no_memory → closed ≡ true
     → Made start x y text last said closed
 made_unsaid start x y request text asked v last said closed is read drawn visits kept text_is closed_is =
     (unsaid text request v, (λ left rest. (is, record { asked = asked; read = read; drawn = drawn; left = kept }, refl)), visits, closed_is, text_is)
@@ -76,7 +76,8 @@ replied start x y request text asked o v r last said closed is read view final d
   text_is ∙ ap (λ c. reply_text r c) (sym closed_is),
 )
 replied start x y request text asked o v r last said closed is read view final drawn visits gave (inr (text_is, closed_is)) =
-    made_unsaid start x y request text asked v last said closed is read drawn visits (inr (o, gave)) text_is closed_is
+    made_unsaid start x y request text asked v last said closed is read drawn visits
+    (inr (r, record { asked = asked; outcome = o; read = read; drawn = drawn; given = gave; said = view; final = final })) text_is closed_is
 
 -- no memory for the visit
 pub made_unvisited : (start : Start) (x y : View) (request : Request) (text : List ℕ) (asked : Asked) (u : Unanswered) (last : Bool) (said : List ℕ) (closed : Bool)

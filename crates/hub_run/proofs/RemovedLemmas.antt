@@ -29,7 +29,7 @@ use Rattle.hub_machine.specs.declared.refusal.Refusal.TheVariants.{NoValidToken,
 use Rattle.hub_machine.specs.declared.reply.Outcome.{Outcome}
 use Rattle.hub_machine.specs.declared.work.Work as owed
 use Rattle.hub_run.specs.Removed.{Knows, StandsIn, IsTokenRefusal, IsTurnedAway}
-use Rattle.hub_run.specs.Turns.{Turn, View, Visit, Visits, Errand, visited, worked, declined, undrawn, refused, unsaid, unfinished, wanting, routed, unrouted, TurnAt, IsLet, IsGiven, IsAnswered, IsSent, IsUnsaid, IsLeft, Moves}
+use Rattle.hub_run.specs.Turns.{Turn, View, Visit, Visits, Errand, visited, worked, declined, undrawn, refused, unsaid, unfinished, wanting, routed, unrouted, TurnAt, IsLet, IsGiven, IsAnswered, IsSent, IsLeft, Moves}
 use Rattle.hub_run.specs.Routed.{Asking, lets}
 use Rattle.hub_run.specs.declared.routed.Way.{Way}
 use Rattle.hub_run.proofs.CompleteLemmas.{NextIsOne, its_turn}
@@ -148,10 +148,6 @@ module _ (start : Start) (text : List ℕ) (gone later : List Change) (removed :
     no_leave : (o : Outcome) (r : Reply) (call : Asked) (way : Way) → outcome_view o ≡ answered r → lets call.call r ≡ Some way → TurnedAway o → ⊥
     no_leave o r call way said goes away = no_way asked (length v.after) call r way (told_reply o r said away).1 goes
 
-    left_so : IsLeft start v asked → v.after ≡ v.before
-    left_so (inl same) = same
-    left_so (inr gave) = (given gave.0 gave.1).0
-
 -- ---- the turns
 
 module _ (one : NextIsOne) (start : Start) (x y : View) (left : Option (List ℕ)) (bytes more rest : List ℕ) (request : Request) (asked : Asked) (text : List ℕ) (gone later : List Change)
@@ -173,13 +169,20 @@ module _ (one : NextIsOne) (start : Start) (x y : View) (left : Option (List ℕ
       (given start text gone later removed x v asked tells begins knows within token needed h.outcome
       (subst (λ (c : Asked). IsGiven start v c h.outcome) (its_call q h.asked mine h.read) h.given))
 
+  reply_away : (q : Request) (v : Visit) (r : Reply) → q ≡ request → IsAnswered start q v r → IsPrefix x.pass.seen v.before → IsPrefix v.before (map Some (gone ++ later))
+      → (v.after ≡ v.before) × IsTokenRefusal asked (length v.after) r
+  reply_away q v r mine h begins within =
+      told_reply start text gone later removed x v asked tells begins knows within token needed h.outcome r h.said
+      (given start text gone later removed x v asked tells begins knows within token needed h.outcome
+      (subst (λ (c : Asked). IsGiven start v c h.outcome) (its_call q h.asked mine h.read) h.given))
+
+  left_so : (q : Request) (v : Visit) → q ≡ request → IsLeft start q v → IsPrefix x.pass.seen v.before → IsPrefix v.before (map Some (gone ++ later)) → v.after ≡ v.before
+  left_so q v mine (inl same) begins within = same
+  left_so q v mine (inr (r, h)) begins within = (reply_away q v r mine h begins within).0
+
   pub turned_away : (turn : Turn) → TurnAt start left (bytes ++ more) turn rest → Moves x turn y → StandsIn (gone ++ later) turn → IsTurnedAway asked turn
   turned_away (visited t q v r) at moves within =
-      let mine : q ≡ request = its_turn one start left bytes more rest request (visited t q v r) is at in
-      let h : IsAnswered start q v r = at.0.1 in
-      told_reply start text gone later removed x v asked tells moves.begins knows within token needed h.outcome r h.said
-      (given start text gone later removed x v asked tells moves.begins knows within token needed h.outcome
-      (subst (λ (c : Asked). IsGiven start v c h.outcome) (its_call q h.asked mine h.read) h.given))
+      reply_away q v r (its_turn one start left bytes more rest request (visited t q v r) is at) at.0.1 moves.begins within
   turned_away (worked t q v e r) at moves within =
       sent_away q v e (its_turn one start left bytes more rest request (worked t q v e r) is at) at.0.1.sent moves.1.begins within
   turned_away (routed t q v a r) at moves within =
@@ -188,10 +191,7 @@ module _ (one : NextIsOne) (start : Start) (x y : View) (left : Option (List ℕ
   turned_away (undrawn t q) at moves within = tt
   turned_away (refused e) at moves within = tt
   turned_away (unsaid t q v) at moves within =
-      let mine : q ≡ request = its_turn one start left bytes more rest request (unsaid t q v) is at in
-      let h : IsUnsaid start q v = at.1 in
-      left_so start text gone later removed x v asked tells moves.begins knows within token needed
-      (subst (λ (c : Asked). IsLeft start v c) (its_call q h.asked mine h.read) h.left)
+      left_so q v (its_turn one start left bytes more rest request (unsaid t q v) is at) at.1.left moves.begins within
   turned_away (unfinished t q v e) at moves within =
       sent_away q v e (its_turn one start left bytes more rest request (unfinished t q v e) is at) at.1 moves.1.begins within
   turned_away (unrouted t q v a) at moves within =

@@ -68,7 +68,7 @@ pub data Turn : Type 0 where
   undrawn : List ℕ → Request → Turn
   -- bytes that are no request
   refused : WireError → Turn
-  -- a request with its bytes whose call was visited, without memory for what the visit gave, or for the visit itself
+  -- a request with its bytes whose call was visited, without memory for the reply that the visit gave, or for the visit itself
   unsaid : List ℕ → Request → Visit → Turn
   -- a request with its bytes whose call owed work, which broke, or whose end found no memory to be kept, or without memory for the reply
   unfinished : List ℕ → Request → Visit → Errand → Turn
@@ -167,16 +167,16 @@ pub record IsRouted (start : Start) (q : Request) (v : Visit) (a : Asking) (r : 
   pub let_by : IsLet start q v a
   pub reply : IsSaidOf let_by.gave a r
 
--- the entries that it left are those that it found, or those of what it gave to that call
-abbrev pub IsLeft : Start → Visit → Asked → Type 0
-IsLeft start v asked = (v.after ≡ v.before) ⊎ ((o : Outcome) × IsGiven start v asked o)
+-- the entries that it left are those that it found, or it gave a reply, with nothing to be done or asked for it
+abbrev pub IsLeft : Start → Request → Visit → Type 0
+IsLeft start q v = (v.after ≡ v.before) ⊎ ((r : Reply) × IsAnswered start q v r)
 
 -- the visit was for the call of the request
 pub record IsUnsaid (start : Start) (q : Request) (v : Visit) : Type 0 where
   pub asked : Asked
   pub read : call_read q ≡ Ok asked
   pub drawn : IsDrawn v asked
-  pub left : IsLeft start v asked
+  pub left : IsLeft start q v
 
 -- the call of the request draws
 pub record Draws (q : Request) : Type 0 where
