@@ -1,5 +1,5 @@
 -- Which replies a request has to get, and what a 503 tells.
-use Rattle.std.specs.Prelude.{◌≡◌, ◌<◌, ℕ, Bool, true, false, length, Some, None, Ok, Err}
+use Rattle.std.specs.Prelude.{◌≡◌, ◌<◌, ◌⊎◌, ℕ, Bool, true, false, length, Some, None, Ok, Err}
 use Rattle.http_wire.specs.declared.request.Request.{Request}
 use Rattle.hub_api.specs.Calls.{call_read}
 use Rattle.hub_core.specs.History.{Answers, change_of}
@@ -86,6 +86,10 @@ pub record IsRouteDone (start : Start) (request : Request) (v : Visit) (asking :
   pub let_on : IsLetOn start request v asking a
   pub reply : IsSaidOf let_on.gave asking r
 
+-- the visit changed nothing, or the answer has a reply, with nothing to be done for it, and its change, if it has one, is the entry of the visit
+abbrev pub IsWithoutWork : Start → Visit → Answer → Type 0
+IsWithoutWork start v a = (v.after ≡ v.before) ⊎ ((r : Reply) × IsDone start v r a)
+
 -- the turn gives the request the reply of the definition's answer, or of the chain that this answer owes, or of what the route link told where
 -- this answer lets it be asked, the refusal of a request that asks no call, a 503 where no draw came, or a 507
 abbrev pub IsServed : Start → Request → Turn → Type 0
@@ -95,7 +99,7 @@ IsServed start request (routed text q v asking r) = (q ≡ request) × ((a : Ans
 IsServed start request (declined text q e) = (q ≡ request) × (call_read request ≡ Err e)
 IsServed start request (undrawn text q) = q ≡ request
 IsServed start request (refused e) = ⊥
-IsServed start request (unsaid text q v) = q ≡ request
+IsServed start request (unsaid text q v) = (q ≡ request) × ((a : Answer) → IsDue start request v a → IsWithoutWork start v a)
 IsServed start request (unfinished text q v e) = (q ≡ request) × ((a : Answer) → IsDue start request v a → IsSetOut start request v e a)
 IsServed start request (unrouted text q v asking) = (q ≡ request) × ((a : Answer) → IsDue start request v a → IsLetOn start request v asking a)
 IsServed start request wanting = Unit {0}
