@@ -145,7 +145,7 @@ pub its_answer : StateIsOne → AnswerIsOne → (start : Start) (request : Reque
 its_answer states answers start request v r a tells h due = given_answer states answers start request v h.asked h.outcome r a tells h.read h.said h.given due
 
 -- what a visit whose reply wasn't said has left is no work
-its_loss : StateIsOne → AnswerIsOne → (start : Start) (request : Request) (v : Visit) (a : Answer) → start.tells ≡ true
+pub its_loss : StateIsOne → AnswerIsOne → (start : Start) (request : Request) (v : Visit) (a : Answer) → start.tells ≡ true
     → IsLeft start request v → IsDue start request v a → IsWithoutWork start v a
 its_loss states answers start request v a tells (inl same) due = inl same
 its_loss states answers start request v a tells (inr (r, h)) due =

@@ -10,11 +10,11 @@ ghost use Rattle.hub_devices.specs.Faults.{Rises};
 ghost use Rattle.hub_machine.specs.Replies.{Answer, Reply};
 ghost use Rattle.hub_machine.specs.declared.call.Asked.{Asked};
 ghost use Rattle.hub_machine.specs.declared.change.Change.{Change};
-ghost use Rattle.hub_run.specs.Complete.{IsOf, IsDue, IsDone, IsUndone, IsServed, IsSetOut, IsLetOn, IsOfFault, is_work};
+ghost use Rattle.hub_run.specs.Complete.{IsOf, IsDue, IsDone, IsUndone, IsServed, IsSetOut, IsLetOn, IsWithoutWork, IsOfFault, is_work};
 ghost use Rattle.hub_run.specs.Gained.{turn_gain};
 ghost use Rattle.hub_run.specs.Removed.{Knows, StandsIn, IsTurnedAway};
 ghost use Rattle.hub_run.specs.Routed.{Asking};
-ghost use Rattle.hub_run.specs.Turns.{Turn, Turns, TurnAt, View, Visit, Visits, Errand, Works, Routes, Moves, IsAnswered, IsSent, IsWorked, IsLet, IsRouted, at_chain, undrawn};
+ghost use Rattle.hub_run.specs.Turns.{Turn, Turns, TurnAt, View, Visit, Visits, Errand, Works, Routes, Moves, IsAnswered, IsSent, IsWorked, IsLet, IsRouted, IsUnsaid, at_chain, undrawn};
 ghost use Rattle.server_work.specs.Gains.{Gains, sum_of};
 
 use http_wire::laws::next_request_is_one;
@@ -30,7 +30,8 @@ pub fn a_request_gets_its_turn()
 /// Over a history that is told, a visited request has the reply of the one answer that the definition gives to its call in the
 /// state, at the moment and with the draw of the visit, with the answer's change as the visit's entry; or 503 `keeper` with no entry,
 /// only where the answer has a change and the keeper's count of faults rose in that visit. Where that answer owes work, it is what
-/// was done; and where it lets the call ask the route link, that was asked.
+/// was done; and where it lets the call ask the route link, that was asked. Where there was no memory for the reply, or for the visit, the
+/// visit changed nothing, or that answer owes no work.
 pub fn a_visited_request_gets_its_answer()
     ensures answered { (start : Start) (request : Request) (v : Visit) (r : Reply) (a : Answer) → start.tells ≡ true
         → IsAnswered start request v r → IsDue start request v a → IsDone start v r a ⊎ IsUndone v r a }
@@ -38,6 +39,8 @@ pub fn a_visited_request_gets_its_answer()
         → IsSent start request v e → IsDue start request v a → IsSetOut start request v e a }
     ensures let_on { (start : Start) (request : Request) (v : Visit) (asking : Asking) (a : Answer) → start.tells ≡ true
         → IsLet start request v asking → IsDue start request v a → IsLetOn start request v asking a }
+    ensures unsaid { (start : Start) (request : Request) (v : Visit) (a : Answer) → start.tells ≡ true
+        → IsUnsaid start request v → IsDue start request v a → IsWithoutWork start v a }
 {}
 
 /// On a connection in which no visit was counted among those that met a failing keeper, over a history that is told, the turn of each
