@@ -1,8 +1,11 @@
 -- What is known of a store that may be one's own: each conclusion here has one proof at most.
-use Rattle.std.proofs.Common.{List, Bool, IsTrue}
+use Rattle.std.proofs.Common.{◌≡◌, List, Bool, IsTrue, ap}
 use Rattle.std.proofs.Math.Logic.{∥∥₁_elim, ∥∥₁_map}
 use Rattle.std.specs.Coded.{Coded-set, coded_ℕ, coded_list, coded_option, coded_bool, ×_prop, Π_prop}
 use Rattle.std.specs.List.Sorted.{IsStrictlySortedBy-prop}
+use Rattle.sqlite.specs.Effect.{Database}
+use Rattle.sqlite_schema.specs.contracts.schema.Schema as schema
+use Rattle.sqlite_value.specs.contracts.row.Row as row
 use Rattle.keeper.specs.Rows.{Rows, AreSame, Lists, row_cmp}
 use Rattle.keeper.specs.declared.keeper.Row.{Row as Kept}
 
@@ -15,6 +18,12 @@ Lists-prop rows all a b i = record {
   same = AreSame-prop _ rows a.same b.same i;
 }
 
+Database-set : (a b : Database) → IsProp (a ≡ b)
+Database-set a b p q j i = record {
+  schema = Coded-set schema.the_row.coded a.schema b.schema (ap (λ (d : Database). d.schema) p) (ap (λ (d : Database). d.schema) q) j i;
+  trees = λ n. Coded-set (coded_list row.the_row.coded) (a.trees n) (b.trees n) (ap (λ (d : Database). d.trees n) p) (ap (λ (d : Database). d.trees n) q) j i;
+}
+
 -- what follows of a store of one's own, which this one is
 module _ {P : Type 0} {own : Bool} (owned : ∥ (IsTrue own → P) ∥₁) (is_own : IsTrue own) where
   pub lists_known : (rows : Rows) (all : List Kept) → (P → Lists rows all) → Lists rows all
@@ -25,6 +34,9 @@ module _ {P : Type 0} {own : Bool} (owned : ∥ (IsTrue own → P) ∥₁) (is_o
 
   pub stands_known : (open_before : Bool) (a b : Rows) → (P → IsTrue open_before × AreSame a b) → IsTrue open_before × AreSame a b
   stands_known open_before a b h = ∥∥₁_elim owned (×_prop (Coded-set coded_bool _ _) (AreSame-prop a b)) (λ known. h (known is_own))
+
+  pub same_known : (open_before : Bool) (a b : Database) → (P → IsTrue open_before × (a ≡ b)) → IsTrue open_before × (a ≡ b)
+  same_known open_before a b h = ∥∥₁_elim owned (×_prop (Coded-set coded_bool _ _) (Database-set a b)) (λ known. h (known is_own))
 
 pub owned_then : {P Q : Type 0} {own : Bool} → (P → Q) → ∥ (IsTrue own → P) ∥₁ → ∥ (IsTrue own → Q) ∥₁
 owned_then h owned = ∥∥₁_map owned (λ known own. h (known own))

@@ -174,6 +174,7 @@ impl<S: Alter + Drop> Keeper for SqliteKeeper<S> {
     }
 
     /// All rows, in the order of kind and key. A store without tables has none, and one of another form than 1 and 2 is refused.
+    /// A store of this program stays as it is, whether it could be read or not.
     fn load(&mut self) -> Result<Vec<Row>, KeeperError>
         ensures counted { self.old.faults ≤ self.new.faults }
         ensures cause { IfErr result (λ e. e ≡ KeeperError.Failed → Rises self.old.faults self.new.faults) }
@@ -181,6 +182,7 @@ impl<S: Alter + Drop> Keeper for SqliteKeeper<S> {
         ensures listed { IsTold S.Store self.new.connection self.new.is_own → IfOk result (λ all. Lists (told_rows S.Store self.old.connection) all.items) }
         ensures kept { IsTold S.Store self.new.connection self.new.is_own → IsTold S.Store self.old.connection self.old.is_own × AreSame (told_rows S.Store self.new.connection) (told_rows S.Store self.old.connection) }
         ensures own { self.new.is_own ≡ self.old.is_own }
+        ensures stands { HasCleanDisk (state S.Store self.new.connection) → IsTrue self.old.is_own → Stands S.Store self.old.connection self.new.connection }
         ensures tells { HasCleanDisk (state S.Store self.new.connection) → OnOk result (IsTold S.Store self.old.connection self.old.is_own → IsTold S.Store self.new.connection self.new.is_own) }
         ensures stays { HasCleanDisk (state S.Store self.new.connection) → IsTold S.Store self.old.connection self.old.is_own
             → IsTold S.Store self.new.connection self.new.is_own ⊎ IsShutByFault S.Store self.old.connection self.new.connection }

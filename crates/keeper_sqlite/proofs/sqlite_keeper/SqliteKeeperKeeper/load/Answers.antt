@@ -2,9 +2,9 @@ use Rattle.std.proofs.Common.{◌≡◌, ◌≤◌, IsTrue, arith, refl, sym, su
 use Rattle.keeper.specs.Rows.{AreSame}
 use Rattle.sqlite.specs.Held.{state}
 use Rattle.sqlite.specs.State.{HasCleanDisk}
-use Rattle.keeper_sqlite.specs.Own.{told_rows}
+use Rattle.keeper_sqlite.specs.Own.{told_rows, Stands}
 use Rattle.keeper_sqlite.proofs.Open.{goes_on_telling}
-use Rattle.keeper_sqlite.proofs.Props.{lists_known, stands_known, owned_then}
+use Rattle.keeper_sqlite.proofs.Props.{lists_known, stands_known, same_known, owned_then}
 use Rattle.keeper_sqlite.proofs.Told.{loaded_owned, same_told}
 use Rattle.keeper_sqlite.proofs.sqlite_keeper.SqliteKeeperKeeper.load.Goals as goal
 
@@ -52,3 +52,15 @@ returns-in-Err-clause-stays g c =
 pub returns-in-Err-clause-disk : goal.returns-in-Err-clause-disk
 returns-in-Err-clause-disk g c =
     subst (λ h. (state g.S.Store c.args.self.now.connection).faults ≤ (state g.S.Store h).faults) (sym c.refused.ensures.same.0) c.load_rows.ensures.stays.counts
+
+pub returns-in-Ok-clause-stands : goal.returns-in-Ok-clause-stands
+returns-in-Ok-clause-stands g c clean is_own open_now =
+    same_known c.args.self.now.owned is_own (state g.S.Store c.args.self.now.connection).is_open (state g.S.Store c.load_rows.new.conn).now (state g.S.Store c.args.self.now.connection).now
+    (λ own. c.load_rows.ensures.stands clean own open_now)
+
+pub returns-in-Err-clause-stands : goal.returns-in-Err-clause-stands
+returns-in-Err-clause-stands g c =
+    subst (λ h. HasCleanDisk (state g.S.Store h) → IsTrue c.args.self.now.is_own → Stands g.S.Store c.args.self.now.connection h) (sym c.refused.ensures.same.0)
+    (λ clean is_own open_now.
+    same_known c.args.self.now.owned is_own (state g.S.Store c.args.self.now.connection).is_open (state g.S.Store c.load_rows.new.conn).now (state g.S.Store c.args.self.now.connection).now
+    (λ own. c.load_rows.ensures.stands clean own open_now))
