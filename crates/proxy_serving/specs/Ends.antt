@@ -27,19 +27,29 @@ fault_of (Err (hall.Listener n)) (Err (hall.Listener m)) = Listener
 fault_of (Err (hall.Listener n)) (Err hall.Memory) = Memory
 fault_of (Err hall.Memory) answered = Memory
 
--- how both halls end: a listener's fault comes only where its count rose, and without one each gave as many connections as a number can count
-abbrev pub IsOver : (doors doors' api api' forwarded answered : ℕ) → ProxyFault → Type 0
-IsOver doors doors' api api' forwarded answered Memory = (forwarded ≡ 0) ⊎ (answered ≡ 0)
-IsOver doors doors' api api' forwarded answered Output = ⊥
-IsOver doors doors' api api' forwarded answered Listener = Rises doors doors' ⊎ Rises api api'
-IsOver doors doors' api api' forwarded answered Full = (forwarded ≡ 2 ^ 64 - 1) × (answered ≡ 2 ^ 64 - 1)
+-- a listener's serving ended: its count of faults rose, or it gave as many connections as a number can count
+abbrev pub HasEnded : (faults faults' count : ℕ) → Type 0
+HasEnded faults faults' count = Rises faults faults' ⊎ (count ≡ 2 ^ 64 - 1)
 
--- how a proxy ends: so, or since `ready` wasn't written
-abbrev pub IsFault : (doors doors' api api' writes writes' forwarded answered : ℕ) → ProxyFault → Type 0
-IsFault doors doors' api api' writes writes' forwarded answered Memory = (forwarded ≡ 0) ⊎ (answered ≡ 0)
-IsFault doors doors' api api' writes writes' forwarded answered Output = Rises writes writes' × (forwarded ≡ 0) × (answered ≡ 0)
-IsFault doors doors' api api' writes writes' forwarded answered Listener = Rises doors doors' ⊎ Rises api api'
-IsFault doors doors' api api' writes writes' forwarded answered Full = (forwarded ≡ 2 ^ 64 - 1) × (answered ≡ 2 ^ 64 - 1)
+-- the same, or it gave none, where there may have been no memory to begin
+abbrev pub MayHaveBegun : (faults faults' count : ℕ) → Type 0
+MayHaveBegun faults faults' count = (count ≡ 0) ⊎ HasEnded faults faults' count
+
+-- The counts of faults of both listeners, and how many connections each gave.
+module _ (doors doors' api api' forwarded answered : ℕ) where
+  -- how both listeners' servings end
+  abbrev pub IsOver : ProxyFault → Type 0
+  IsOver Memory = ((forwarded ≡ 0) × MayHaveBegun api api' answered) ⊎ (MayHaveBegun doors doors' forwarded × (answered ≡ 0))
+  IsOver Output = ⊥
+  IsOver Listener = (Rises doors doors' × HasEnded api api' answered) ⊎ (HasEnded doors doors' forwarded × Rises api api')
+  IsOver Full = (forwarded ≡ 2 ^ 64 - 1) × (answered ≡ 2 ^ 64 - 1)
+
+  -- how a proxy ends: so, or before it took a connection, since `ready` wasn't written
+  abbrev pub IsFault : (writes writes' : ℕ) → ProxyFault → Type 0
+  IsFault writes writes' Memory = IsOver Memory
+  IsFault writes writes' Output = Rises writes writes' × (forwarded ≡ 0) × (answered ≡ 0)
+  IsFault writes writes' Listener = IsOver Listener
+  IsFault writes writes' Full = IsOver Full
 
 -- what stands on the output: nothing more where there was no memory to begin, a part of `ready` and a line end at a fault, else all of it
 abbrev pub IsSaid : Option (List ℕ) → Option (List ℕ) → ProxyFault → Type 0

@@ -2,7 +2,7 @@
 ghost use Rattle.std.specs.Prelude.{◌≡◌};
 ghost use Rattle.proxy_serving.specs.Ends as spec;
 
-/// Why a proxy ended. It goes on until one of its listeners fails.
+/// Why a proxy ended. It goes on until each of its listeners has failed.
 #[derive(Clone, Copy, Debug, PartialEq, Eq)]
 pub enum ProxyFault {
     Memory,

@@ -1,6 +1,7 @@
 //! The command `proxy`: connections forwarded by their paths, and the interface of the routes beside them.
-//! The contract of `serve_proxy` carries it: over two listeners, it writes `ready`, has each connection of the one forwarded and each of the
-//! other answered, all over one table of routes, and tells how it ended. The program stands above it.
+//! The contract of `serve_proxy` carries it: it writes `ready`, takes the connections of two listeners, each until it fails, and tells how
+//! many each of them gave and why no more. What one serving does is `served` of `Forwarder` and of `ApiServer`; that each connection of a
+//! listener is served so, all over one table of routes, is read in the code. The program stands above it.
 #![tactic(auto)]
 
 mod api_server;

@@ -52,7 +52,7 @@ pub fn serve_proxy<
     ensures forwarded { Gave (L.given browsers.old) result.forwarded (L.given browsers.new) }
     ensures answered { Gave (L.given api.old) result.answered (L.given api.new) }
     ensures fault { IsFault (L.faults browsers.old) (L.faults browsers.new) (L.faults api.old) (L.faults api.new)
-        (O.faults output.old) (O.faults output.new) result.forwarded result.answered result.fault }
+        result.forwarded result.answered (O.faults output.old) (O.faults output.new) result.fault }
     ensures writes { O.faults output.old ≤ O.faults output.new }
 {
     let Ok((desk, pass)) = open(alloc, Routes::new(alloc, PATHS)) else {
