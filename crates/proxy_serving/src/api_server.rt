@@ -20,7 +20,7 @@ pub struct ApiServer<R: RouteService, C: Clock> {
 }
 
 impl<R: RouteService, C: Clock, I: Source, O: Sink> Serves<I, O> for ApiServer<R, C> {
-    ghost served = { λ s i o s' i' o'. IsAnsweredAt R.gave s.secret (C.to_come s.clock) (C.to_come s'.clock)
+    ghost served = { λ s i o s' i' o'. IsAnsweredAt R.gave s.secret s'.secret (C.to_come s.clock) (C.to_come s'.clock)
         (record {
           left = I.left i;
           held = O.held o;
