@@ -129,6 +129,8 @@ target = "http://127.0.0.1:{LOST}"
         fail("the program isn't back by the second connection")
     hub.kill()
     hub.wait()
+    # numbers are seconds, or one more where a program came back within one: in the same second the next hub's route would be an older one's
+    time.sleep(1.1)
     left = started()[1]
     if not runs(left):
         fail("a program ends with a hub that is killed")
