@@ -1,5 +1,5 @@
 //! Where connections come from.
-ghost use Rattle.std.specs.Prelude.{◌≡◌, ℕ, ◌+◌, ◌≤◌, Option, OnOk, OnErr};
+ghost use Rattle.std.specs.Prelude.{◌≡◌, ℕ, ◌+◌, ◌≤◌, Option, IfOk, OnOk, OnErr};
 ghost use Rattle.std.specs.Option.{option_map};
 ghost use Rattle.hub_devices.specs.Faults.{Rises};
 
@@ -13,6 +13,9 @@ pub trait Listener {
 
     type Out: Sink + Drop;
 
+    /// That these are the two sides of one connection, as it was given.
+    ghost are_sides: { Self.In → Self.Out → Type 0 };
+
     /// How many connections it has given, where it tells it.
     ghost given: { Self → Option ℕ };
 
@@ -21,6 +24,7 @@ pub trait Listener {
 
     /// Gives the next connection.
     fn accept(&mut self) -> Result<(Self::In, Self::Out), Failed>
+        ensures sides { IfOk result (λ connection. are_sides connection.0 connection.1) }
         ensures given { OnOk result (given self.new ≡ option_map (λ n. n + 1) (given self.old)) }
         ensures kept { OnErr result (given self.new ≡ given self.old) }
         ensures counted { faults self.old ≤ faults self.new }

@@ -50,11 +50,14 @@ impl<I: Source + Drop, O: Sink + Drop> Listener for MemListener<I, O> {
 
     type Out = O;
 
+    ghost are_sides = { λ _ _. Unit };
+
     ghost given = { λ l. Some l.given };
 
     ghost faults = { λ l. l.script.faults };
 
     fn accept(&mut self) -> Result<(I, O), Failed>
+        ensures sides { IfOk result (λ _. Unit {0}) }
         ensures given { OnOk result (Some self.new.given ≡ option_map (λ n. n + 1) (Some self.old.given)) }
         ensures kept { OnErr result (Some self.new.given ≡ Some self.old.given) }
         ensures counted { self.old.script.faults ≤ self.new.script.faults }
