@@ -333,6 +333,8 @@ impl Listener for SocketListener {
 
     type Out = SocketSink;
 
+    ghost are_sides = { λ _ _. Unit };
+
     ghost given = { λ _. None };
 
     ghost faults = { λ l. l.faults };

@@ -38,6 +38,8 @@ impl Listener for TunnelListener {
 
     type Out = TunnelSink;
 
+    ghost are_sides = { λ _ _. Unit };
+
     ghost given = { λ _. None };
 
     ghost faults = { λ l. l.faults };
