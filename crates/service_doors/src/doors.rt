@@ -125,6 +125,8 @@ impl<'a, D: Listener, R: Running, P: Paths, C: Clock, N: Season> Listener
 
     type Out = D::Out;
 
+    ghost are_sides = { D.are_sides };
+
     ghost given = { λ t. D.given t.doors.now };
 
     ghost faults = { λ t. D.faults t.doors.now };
