@@ -36,7 +36,7 @@ pub fn serve<
     doors: &mut L,
     servers: &mut [S],
     connections: u64,
-) -> (Tally<L::In, L::Out>, Result<(), HallFault>)
+) -> (Tally<L>, Result<(), HallFault>)
     requires servers { 0 < length servers.old }
     ensures given { Gave (L.given doors.old) result.0 (L.given doors.new) }
     ensures most { result.0 ≤ connections }
@@ -78,7 +78,7 @@ fn serve_as<
     front: Front<'a, L>,
     servers: &mut [S],
     connections: u64,
-    tally: &mut Tally<L::In, L::Out>,
+    tally: &mut Tally<L>,
 ) -> (Result<(), HallFault>, Front<'a, L>)
     requires servers { 0 < length servers.old }
     requires name { blank.name ≡ N.name }
@@ -114,7 +114,7 @@ fn serve_as<
 }
 
 // Ok where none is left.
-fn ended<I, O>(left: u64, tally: &Tally<I, O>) -> Result<(), HallFault>
+fn ended<L: Listener>(left: u64, tally: &Tally<L>) -> Result<(), HallFault>
     ensures ok { is_ok result ≡ (left == 0) }
     ensures err { IfErr result (λ e. e ≡ HallFault.Listener tally.now) }
 {

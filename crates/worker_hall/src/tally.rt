@@ -2,6 +2,7 @@
 ghost use Rattle.std.specs.Prelude.{◌≡◌, ◌+◌, ◌<◌, ◌^◌};
 
 use crate::serves::Serves;
+use hub_devices::listener::Listener;
 use std::alloc::Global;
 use std::marker::{Model, PhantomData};
 use std::sync::Wait;
@@ -20,14 +21,14 @@ impl<I, O> Model for Finished<I, O> {
     ghost view = { λ f. (f.input, f.output) };
 }
 
-/// How many connections were served. Contracts see the count.
+/// How many connections of a listener were served. Contracts see the count.
 #[derive(Drop)]
-pub struct Tally<I, O> {
+pub struct Tally<L> {
     count: u64,
-    of: PhantomData<(I, O)>,
+    of: PhantomData<L>,
 }
 
-impl<I, O> Model for Tally<I, O> {
+impl<L> Model for Tally<L> {
     ghost use Rattle.std.specs.Prelude.{ℕ, ◌<◌, ◌^◌};
 
     ghost Value = { ℕ };
@@ -37,9 +38,9 @@ impl<I, O> Model for Tally<I, O> {
     ghost invariant = { λ t. t.count < 2 ^ 64 };
 }
 
-impl<I, O> Tally<I, O> {
+impl<L: Listener> Tally<L> {
     /// A tally of no connection.
-    pub fn new() -> Tally<I, O>
+    pub fn new() -> Tally<L>
         ensures { result ≡ 0 }
     {
         Tally {
@@ -55,15 +56,16 @@ impl<I, O> Tally<I, O> {
         self.count
     }
 
-    /// Has a connection served, and counts it.
-    pub fn serve<S: Serves<I, O>, W: Wait>(
+    /// Has a connection served on its own two sides, and counts it.
+    pub fn serve<S: Serves<L::In, L::Out>, W: Wait>(
         &mut self,
         rt: &W,
         alloc: Global,
         server: &mut S,
-        input: I,
-        output: O,
-    ) -> Finished<I, O>
+        input: L::In,
+        output: L::Out,
+    ) -> Finished<L::In, L::Out>
+        requires sides { L.are_sides input output }
         requires room { self.old + 1 < 2 ^ 64 }
         ensures counted { self.new ≡ self.old + 1 }
         ensures served { S.served server.old input output server.new result.0 result.1 }
@@ -76,7 +78,7 @@ impl<I, O> Tally<I, O> {
     }
 
     /// Adds what another tally counts.
-    pub fn add(&mut self, other: Tally<I, O>)
+    pub fn add(&mut self, other: Tally<L>)
         requires room { self.old + other < 2 ^ 64 }
         ensures { self.new ≡ self.old + other }
     {

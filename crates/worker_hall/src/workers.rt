@@ -13,7 +13,7 @@ use std::thread::{Threads, for_each_mut};
 /// What a worker has. Its share of the connections given is what it has served.
 #[derive(Drop)]
 pub(crate) struct Worker<'k, L: Listener, S, N: Doorway> {
-    pub tally: Tally<L::In, L::Out>,
+    pub tally: Tally<L>,
     pub share: Share<N>,
     pub server: &'k mut S,
     pub ghost one_part: { share.parts ≡ 1 },
@@ -153,7 +153,7 @@ pub(crate) fn join_all<'k, L: Listener, S, N: Doorway>(
     mut workers: Vec<Worker<'k, L, S, N>>,
     taken: &mut ledger::Book<N>,
     all: &mut Share<N>,
-) -> Tally<L::In, L::Out>
+) -> Tally<L>
     requires none { all.old.amount ≡ 0 }
     requires whole { all.old.parts + length workers.items ≡ N.parts }
     requires fits { taken.old.total < 2 ^ 64 }
