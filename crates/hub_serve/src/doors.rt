@@ -84,6 +84,7 @@ impl<'a, L: Listener, N: Doorway> Doors<'a, L, N> {
         requires part { 0 < mine.old.parts }
         ensures parts { mine.new.parts ≡ mine.old.parts }
         ensures some { IfSome result (λ _. (mine.new.amount ≡ mine.old.amount + 1) × (mine.new.amount < 2 ^ 64)) }
+        ensures sides { IfSome result (λ connection. L.are_sides connection.0 connection.1) }
         ensures none { IfNone result (mine.new.amount ≡ mine.old.amount) }
     {
         let Doors {

@@ -14,8 +14,6 @@ use hub_devices::clock::Clock;
 use hub_devices::listener::Listener;
 use hub_devices::random::Random;
 use hub_devices::route_link::RouteLink;
-use hub_devices::sink::Sink;
-use hub_devices::source::Source;
 use hub_devices::spawner::Spawner;
 use hub_machine::change::Change;
 use hub_run::HubKit;
@@ -56,7 +54,7 @@ pub fn serve<
     doors: &mut L,
     kits: &mut [HubKit<S, P, C, R>],
     connections: u64,
-) -> (Book<K, T>, Tally<L::In, L::Out>, Result<(), ServeFault>)
+) -> (Book<K, T>, Tally<L>, Result<(), ServeFault>)
     requires of { pass.of ≡ desk }
     requires kits { 0 < length kits.old }
     ensures begins { IsPrefix pass.seen (entries_of result.0) }
@@ -112,7 +110,7 @@ fn serve_as<
     front: Front<'a, L>,
     kits: &mut [HubKit<S, P, C, R>],
     connections: u64,
-    tally: &mut Tally<L::In, L::Out>,
+    tally: &mut Tally<L>,
 ) -> (Result<(), ServeFault>, Front<'a, L>)
     requires of { pass.old.of ≡ desk.now }
     requires kits { 0 < length kits.old }
@@ -153,7 +151,7 @@ fn serve_as<
 }
 
 // Ok where none is left.
-fn ended<I: Source, O: Sink>(left: u64, tally: &Tally<I, O>) -> Result<(), ServeFault>
+fn ended<L: Listener>(left: u64, tally: &Tally<L>) -> Result<(), ServeFault>
     ensures ok { is_ok result ≡ (left == 0) }
     ensures err { IfErr result (λ e. e ≡ ServeFault.Listener tally.now) }
 {

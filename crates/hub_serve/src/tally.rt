@@ -9,10 +9,9 @@ use desk::{Desk, Pass};
 use http_wire::error::SessionFault;
 use hub_core::book::Book;
 use hub_devices::clock::Clock;
+use hub_devices::listener::Listener;
 use hub_devices::random::Random;
 use hub_devices::route_link::RouteLink;
-use hub_devices::sink::Sink;
-use hub_devices::source::Source;
 use hub_devices::spawner::Spawner;
 use hub_machine::change::Change;
 use hub_run::{HubKit, Served, serve_connection};
@@ -36,14 +35,14 @@ impl<I, O> Model for Finished<I, O> {
     ghost view = { λ f. (f.input, f.output) };
 }
 
-/// How many connections were served. Contracts see the count.
+/// How many connections of a listener were served. Contracts see the count.
 #[derive(Drop)]
-pub struct Tally<I, O> {
+pub struct Tally<L> {
     count: u64,
-    of: PhantomData<(I, O)>,
+    of: PhantomData<L>,
 }
 
-impl<I, O> Model for Tally<I, O> {
+impl<L> Model for Tally<L> {
     ghost use Rattle.std.specs.Prelude.{ℕ, ◌<◌, ◌^◌};
 
     ghost Value = { ℕ };
@@ -53,9 +52,9 @@ impl<I, O> Model for Tally<I, O> {
     ghost invariant = { λ t. t.count < 2 ^ 64 };
 }
 
-impl<I: Source, O: Sink> Tally<I, O> {
+impl<L: Listener> Tally<L> {
     /// A tally of no connection.
-    pub fn new() -> Tally<I, O>
+    pub fn new() -> Tally<L>
         ensures { result ≡ 0 }
     {
         Tally {
@@ -71,7 +70,7 @@ impl<I: Source, O: Sink> Tally<I, O> {
         self.count
     }
 
-    /// Serves a connection as `serve_connection` does, and counts it.
+    /// Serves a connection on its own two sides, as `serve_connection` does, and counts it.
     pub fn serve<
         K: Keeper,
         T: Trail<Entry = Change>,
@@ -86,10 +85,11 @@ impl<I: Source, O: Sink> Tally<I, O> {
         alloc: Global,
         desk: &Desk<Book<K, T>>,
         pass: &mut Pass<Book<K, T>>,
-        input: I,
-        output: O,
+        input: L::In,
+        output: L::Out,
         kit: &mut HubKit<S, P, C, R>,
-    ) -> (Finished<I, O>, Result<Served, SessionFault>)
+    ) -> (Finished<L::In, L::Out>, Result<Served, SessionFault>)
+        requires sides { L.are_sides input output }
         requires at_desk { pass.old.of ≡ desk.now }
         requires room { self.old + 1 < 2 ^ 64 }
         ensures counted { self.new ≡ self.old + 1 }
@@ -98,13 +98,13 @@ impl<I: Source, O: Sink> Tally<I, O> {
         ensures alone { pass.new.alone ≡ pass.old.alone }
         ensures ends { (start : Start) → pass.old.base ≡ Some start
             → ConnectionEnds start
-            (view_of C.to_come R.left S.calls P.calls R.faults S.faults P.faults pass.old kit.old) (I.left input) (O.held output)
+            (view_of C.to_come R.left S.calls P.calls R.faults S.faults P.faults pass.old kit.old) (L.In.left input) (L.Out.held output)
             (view_of C.to_come R.left S.calls P.calls R.faults S.faults P.faults pass.new kit.new)
-            (I.left result.0.0) (O.held result.0.1) result.1 }
-        ensures reads { I.faults input ≤ I.faults result.0.0 }
-        ensures writes { O.faults output ≤ O.faults result.0.1 }
-        ensures read_fault { (n : ℕ) → result.1 ≡ Err (SessionFault.ReadFault n) → Rises (I.faults input) (I.faults result.0.0) }
-        ensures write_fault { (n : ℕ) → result.1 ≡ Err (SessionFault.WriteFault n) → Rises (O.faults output) (O.faults result.0.1) }
+            (L.In.left result.0.0) (L.Out.held result.0.1) result.1 }
+        ensures reads { L.In.faults input ≤ L.In.faults result.0.0 }
+        ensures writes { L.Out.faults output ≤ L.Out.faults result.0.1 }
+        ensures read_fault { (n : ℕ) → result.1 ≡ Err (SessionFault.ReadFault n) → Rises (L.In.faults input) (L.In.faults result.0.0) }
+        ensures write_fault { (n : ℕ) → result.1 ≡ Err (SessionFault.WriteFault n) → Rises (L.Out.faults output) (L.Out.faults result.0.1) }
     {
         let mut input = input;
         let mut output = output;
@@ -114,7 +114,7 @@ impl<I: Source, O: Sink> Tally<I, O> {
     }
 
     /// Adds what another tally counts.
-    pub fn add(&mut self, other: Tally<I, O>)
+    pub fn add(&mut self, other: Tally<L>)
         requires room { self.old + other < 2 ^ 64 }
         ensures { self.new ≡ self.old + other }
     {

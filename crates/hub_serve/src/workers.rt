@@ -11,8 +11,6 @@ use hub_devices::clock::Clock;
 use hub_devices::listener::Listener;
 use hub_devices::random::Random;
 use hub_devices::route_link::RouteLink;
-use hub_devices::sink::Sink;
-use hub_devices::source::Source;
 use hub_devices::spawner::Spawner;
 use hub_machine::change::Change;
 use hub_run::HubKit;
@@ -26,16 +24,17 @@ use std::thread::{Threads, for_each_mut};
 /// What serves connections over a desk of such books.
 pub(crate) trait Serves<B: Booked> {
     /// Serves a connection, and counts it.
-    fn serve<I: Source + Drop, O: Sink + Drop, W: Wait>(
+    fn serve<L: Listener, W: Wait>(
         &mut self,
         rt: &W,
         alloc: Global,
         desk: &Desk<B>,
         pass: &mut Pass<B>,
-        tally: &mut Tally<I, O>,
-        input: I,
-        output: O,
+        tally: &mut Tally<L>,
+        input: L::In,
+        output: L::Out,
     )
+        requires sides { L.are_sides input output }
         requires at_desk { pass.old.of ≡ desk.now }
         requires room { tally.old + 1 < 2 ^ 64 }
         ensures of { pass.new.of ≡ pass.old.of }
@@ -45,16 +44,17 @@ pub(crate) trait Serves<B: Booked> {
 impl<K: Keeper, T: Trail<Entry = Change>, S: Spawner, P: RouteLink, C: Clock, R: Random> Serves<
     Book<K, T>,
 > for HubKit<S, P, C, R> {
-    fn serve<I: Source + Drop, O: Sink + Drop, W: Wait>(
+    fn serve<L: Listener, W: Wait>(
         &mut self,
         rt: &W,
         alloc: Global,
         desk: &Desk<Book<K, T>>,
         pass: &mut Pass<Book<K, T>>,
-        tally: &mut Tally<I, O>,
-        input: I,
-        output: O,
+        tally: &mut Tally<L>,
+        input: L::In,
+        output: L::Out,
     )
+        requires sides { L.are_sides input output }
         requires at_desk { pass.old.of ≡ desk.now }
         requires room { tally.old + 1 < 2 ^ 64 }
         ensures of { pass.new.of ≡ pass.old.of }
@@ -69,7 +69,7 @@ impl<K: Keeper, T: Trail<Entry = Change>, S: Spawner, P: RouteLink, C: Clock, R:
 #[derive(Drop)]
 pub(crate) struct Worker<'k, B: Booked, L: Listener, Q, N: Doorway> {
     pub pass: Pass<B>,
-    pub tally: Tally<L::In, L::Out>,
+    pub tally: Tally<L>,
     pub share: Share<N>,
     pub kit: &'k mut Q,
     pub ghost one_part: { share.parts ≡ 1 },
@@ -238,7 +238,7 @@ pub(crate) fn join_all<'k, L: Listener, B: Booked, Q, N: Doorway>(
     mut workers: Vec<Worker<'k, B, L, Q, N>>,
     taken: &mut ledger::Book<N>,
     all: &mut Share<N>,
-) -> Tally<L::In, L::Out>
+) -> Tally<L>
     requires of { pass.old.of ≡ desk.now }
     requires workers { All (λ w. w.pass.of ≡ desk.now) workers.items }
     requires none { all.old.amount ≡ 0 }

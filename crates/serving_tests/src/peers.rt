@@ -131,6 +131,8 @@ impl<'a, W: Wait> Listener for Street<'a, W> {
 
     type Out = Answered<'a, W>;
 
+    ghost are_sides = { λ _ _. Unit };
+
     ghost given = { λ l. Some l.given };
 
     ghost faults = { λ l. l.faults };
