@@ -50,6 +50,8 @@ impl<'a, W: Wait> Listener for Later<'a, W> {
 
     type Out = Caller<'a, W>;
 
+    ghost are_sides = { λ _ _. Unit };
+
     ghost given = { λ l. ⟦<Doors<'a, W> as Listener>⟧.given l.doors };
 
     ghost faults = { λ l. ⟦<Doors<'a, W> as Listener>⟧.faults l.doors };
