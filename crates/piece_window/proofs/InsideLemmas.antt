@@ -1,10 +1,14 @@
 -- What a window holds when bytes move.
 use Rattle.std.proofs.Common.{◌≡◌, ◌≤◌, ◌+◌, ◌-◌, ℕ, Option, List, [], ◌++◌, length, take, drop, sym, ap, ◌∙◌, arith, append_assoc, length-drop}
-use Rattle.std.proofs.lemmas.List.{take_at, drop-take, length-take-le, drop-append-le}
+use Rattle.std.proofs.lemmas.List.{take_at, drop-take, drop_all, length-take, length-take-le, drop-append-le}
 use Rattle.std.proofs.Math.Seq.{take-add}
 use Rattle.http_wire.specs.Took.{Took}
 use Rattle.upstreams.specs.Upstream.{Told, Moves}
 use Rattle.piece_window.specs.Window.{inside, Came}
+
+-- nothing stands from a place to itself
+pub none_inside : (xs : List ℕ) (at : ℕ) → inside xs at at ≡ []
+none_inside xs at = drop_all at (take at xs) (omega (arith, length-take at xs))
 
 -- bytes that were moved to the front
 pub settled : (xs rest : List ℕ) (start end : ℕ) → start ≤ end → end ≤ length xs → take (end - start) (take (end - start) (drop start xs) ++ rest) ≡ inside xs start end

@@ -55,6 +55,14 @@ impl Window {
         }
     }
 
+    /// Drops all that is held, and leaves room in front as a new one does.
+    pub fn clear(&mut self)
+        ensures { self.new ≡ [] }
+    {
+        self.start = MARGIN;
+        self.end = MARGIN;
+    }
+
     pub fn as_slice(&self) -> &[u8]
         ensures value { result.now ≡ self.now }
         ensures within { length self.now ≤ 16384 }
