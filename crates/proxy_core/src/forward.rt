@@ -6,7 +6,6 @@ ghost use Rattle.proxy_core.specs.Forward as spec;
 
 use crate::passes::pass_on;
 use crate::refusals::{Forwarded, Refusal, refuse, wire_refusal};
-use http_wire::buffer::WireBuffer;
 use http_wire::error::{SessionFault, WireError};
 use http_wire::head::Head;
 use http_wire::heads::read_head;
@@ -14,6 +13,7 @@ use hub_devices::sink::Sink;
 use hub_devices::source::Source;
 use hub_kit::moment::Moment;
 use hub_kit::target::Target;
+use piece_window::rooms::Rooms;
 use proxy_wire::framing::{Framing, request_framing};
 use route_table::lookup::Lookup;
 use route_table::route::RouteRefusal;
@@ -103,17 +103,17 @@ pub fn choose<L: Lookup>(
     }
 }
 
-/// The same as `forward_one`, with a buffer that is handed in and holds nothing.
+/// The same as `forward_one`, in rooms that are handed in and keep nothing.
 fn forward_kept<L: Lookup, I: Source, O: Sink, U: Upstream>(
     alloc: Global,
     routes: &mut L,
     now: Moment,
     input: &mut I,
-    kept: &mut WireBuffer,
+    rooms: &mut Rooms,
     output: &mut O,
     up: &mut U,
 ) -> Result<Forwarded, SessionFault>
-    requires { kept.old ≡ [] }
+    requires { rooms.old.kept ≡ [] }
     ensures ends { (kept : List ℕ) × ForwardEnds L.found now
         (record {
           left = I.left input.old;
@@ -138,7 +138,7 @@ fn forward_kept<L: Lookup, I: Source, O: Sink, U: Upstream>(
     ensures links { U.faults up.old ≤ U.faults up.new }
     ensures writes { O.faults output.old ≤ O.faults output.new }
 {
-    let head = match read_head(alloc, input, kept) {
+    let head = match read_head(alloc, input, &mut rooms.kept) {
         Ok(head) => head,
         Err(e) => return stopped(output, e),
     };
@@ -152,7 +152,7 @@ fn forward_kept<L: Lookup, I: Source, O: Sink, U: Upstream>(
         choice.framing,
         &choice.target,
         input,
-        kept,
+        rooms,
         output,
         up,
     )
@@ -192,6 +192,6 @@ pub fn forward_one<L: Lookup, I: Source, O: Sink, U: Upstream>(
     ensures links { U.faults up.old ≤ U.faults up.new }
     ensures writes { O.faults output.old ≤ O.faults output.new }
 {
-    let mut kept = WireBuffer::new(alloc);
-    forward_kept(alloc, routes, now, input, &mut kept, output, up)
+    let mut rooms = Rooms::new(alloc);
+    forward_kept(alloc, routes, now, input, &mut rooms, output, up)
 }

@@ -9,13 +9,13 @@ ghost use Rattle.proxy_core.specs.Passes.{PassEnds, BackEnds, PassOn};
 
 use crate::exchange::{Stop, exchange};
 use crate::refusals::{Forwarded, Refusal, refuse};
-use http_wire::buffer::WireBuffer;
 use http_wire::error::SessionFault;
 use http_wire::head::Head;
 use http_wire::writes::write_all;
 use hub_devices::sink::Sink;
 use hub_devices::source::{Failed, Source};
 use hub_kit::target::Target;
+use piece_window::rooms::Rooms;
 use piece_window::window::Window;
 use proxy_bodies::backs::{BODY_LIMIT, back_body, write_first};
 use proxy_bodies::parts::trailer_room;
@@ -104,14 +104,14 @@ pub fn give_back<O: Sink, U: Upstream>(
     Ok(Forwarded::Passed)
 }
 
-/// Passes a request on to an upstream that is connected.
+/// Passes a request on to an upstream that is connected. What the windows held before is dropped.
 fn pass_linked<I: Source, O: Sink, U: Upstream>(
     alloc: Global,
     method: &[u8],
     text: &[u8],
     framing: Framing,
     input: &mut I,
-    kept: &mut WireBuffer,
+    rooms: &mut Rooms,
     output: &mut O,
     up: &mut U,
 ) -> Result<Forwarded, SessionFault>
@@ -120,7 +120,7 @@ fn pass_linked<I: Source, O: Sink, U: Upstream>(
     ensures ends { (rest : List ℕ) × PassEnds (record { upgrade = false; method = method.now; text = text.now; framing = framing })
         (record {
           left = I.left input.old;
-          kept = kept.old;
+          kept = rooms.old.kept;
           held = O.held output.old;
           told = U.told up.old;
           reads = I.faults input.old;
@@ -129,7 +129,7 @@ fn pass_linked<I: Source, O: Sink, U: Upstream>(
         })
         (record {
           left = I.left input.new;
-          kept = rest ++ kept.new;
+          kept = rest ++ rooms.new.kept;
           held = O.held output.new;
           told = U.told up.new;
           reads = I.faults input.new;
@@ -140,20 +140,20 @@ fn pass_linked<I: Source, O: Sink, U: Upstream>(
     ensures links { U.faults up.old ≤ U.faults up.new }
     ensures writes { O.faults output.old ≤ O.faults output.new }
 {
-    let mut window = Window::new();
-    let mut back = Window::new();
+    rooms.window.clear();
+    rooms.back.clear();
     match exchange(
         alloc,
         method,
         text,
         framing,
         input,
-        kept,
-        &mut window,
+        &mut rooms.kept,
+        &mut rooms.window,
         up,
-        &mut back,
+        &mut rooms.back,
     ) {
-        Ok(reply) => give_back(alloc, &reply, &mut back, output, up),
+        Ok(reply) => give_back(alloc, &reply, &mut rooms.back, output, up),
         Err(stop) => match stop {
             Stop::Cut => Ok(Forwarded::Cut),
             Stop::ReadFault => Err(SessionFault::ReadFault(0)),
@@ -170,7 +170,7 @@ pub fn pass_on<I: Source, O: Sink, U: Upstream>(
     framing: Framing,
     target: &Target,
     input: &mut I,
-    kept: &mut WireBuffer,
+    rooms: &mut Rooms,
     output: &mut O,
     up: &mut U,
 ) -> Result<Forwarded, SessionFault>
@@ -181,7 +181,7 @@ pub fn pass_on<I: Source, O: Sink, U: Upstream>(
         target.now
         (record {
           left = I.left input.old;
-          kept = kept.old;
+          kept = rooms.old.kept;
           held = O.held output.old;
           told = U.told up.old;
           reads = I.faults input.old;
@@ -190,7 +190,7 @@ pub fn pass_on<I: Source, O: Sink, U: Upstream>(
         })
         (record {
           left = I.left input.new;
-          kept = rest ++ kept.new;
+          kept = rest ++ rooms.new.kept;
           held = O.held output.new;
           told = U.told up.new;
           reads = I.faults input.new;
@@ -214,7 +214,7 @@ pub fn pass_on<I: Source, O: Sink, U: Upstream>(
         text.as_slice(),
         framing,
         input,
-        kept,
+        rooms,
         output,
         up,
     );

@@ -11,7 +11,7 @@ returns-in-Ok-clause-ends g c =
     let q : Going = record { upgrade = false; method = c.args.method.now; text = c.args.text.now; framing = c.args.framing } in
     let old : Place = record {
       left = g.I.Source.left c.args.input.now;
-      kept = c.args.kept.now;
+      kept = c.args.rooms.now.kept;
       held = g.O.Sink.held c.args.output.now;
       told = g.U.Upstream.told c.args.up.now;
       reads = g.I.Source.faults c.args.input.now;
@@ -38,7 +38,7 @@ returns-in-Ok-clause-ends g c =
     } in (
       rest,
       ends_back q old mid new x.0 x.1 x.2 c.exchange.new.back x.3 c.in-Ok.reply.framing c.give_back.result
-          (took_in_front _ _ c.new-window.result c.args.kept.now _ c.new-window.ensures x.4, x.5) x.6 x.8 (no_switch _ x.8.final) refl refl refl refl
+          (took_in_front old.left mid.left c.clear.new.self old.kept (x.0 ++ mid.kept) c.clear.ensures x.4, x.5) x.6 x.8 (no_switch _ x.8.final) refl refl refl refl
           c.exchange.ensures.links c.give_back.ensures.links c.give_back.ensures.writes
           (subst (λ (t : List ℕ). BackEnds t c.in-Ok.reply.framing c.exchange.new.back mid.held new.held mid.told new.told mid.links new.links mid.writes new.writes c.give_back.result)
           x.7 c.give_back.ensures.ends),
@@ -48,18 +48,43 @@ pub returns-in-Cut-clause-ends : goal.returns-in-Cut-clause-ends
 returns-in-Cut-clause-ends g c =
     let e = rw c.in-Cut.is at c.in-Err.ensures.err in (
       c.exchange.new.window,
-      (e.0, e.1, e.2, (took_in_front _ _ c.new-window.result c.args.kept.now _ c.new-window.ensures e.3, e.4), e.5.0, e.5.1, refl),
+      (
+        e.0,
+        e.1,
+        e.2,
+        (
+          took_in_front (g.I.Source.left c.args.input.now) (g.I.Source.left c.exchange.new.input) c.clear.new.self c.args.rooms.now.kept
+              (e.0 ++ (c.exchange.new.window ++ c.exchange.new.kept)) c.clear.ensures e.3,
+          e.4,
+        ),
+        e.5.0,
+        e.5.1,
+        refl,
+      ),
     )
 
 pub returns-in-ReadFault-clause-ends : goal.returns-in-ReadFault-clause-ends
 returns-in-ReadFault-clause-ends g c =
     let e = rw c.in-ReadFault.is at c.in-Err.ensures.err in (
       c.exchange.new.window,
-      (e.0, e.1, e.2, (took_in_front _ _ c.new-window.result c.args.kept.now _ c.new-window.ensures e.3, e.4), e.5.0, e.5.1, refl, refl),
+      (
+        e.0,
+        e.1,
+        e.2,
+        (
+          took_in_front (g.I.Source.left c.args.input.now) (g.I.Source.left c.exchange.new.input) c.clear.new.self c.args.rooms.now.kept
+              (e.0 ++ (c.exchange.new.window ++ c.exchange.new.kept)) c.clear.ensures e.3,
+          e.4,
+        ),
+        e.5.0,
+        e.5.1,
+        refl,
+        refl,
+      ),
     )
 
-pub returns-clause-ends : goal.returns-clause-ends
-returns-clause-ends g c =
+pub returns-in-Refused-clause-ends : goal.returns-in-Refused-clause-ends
+returns-in-Refused-clause-ends g c =
     let e = rw c.in-Refused.is at c.in-Err.ensures.err in
     let rest : List ℕ = c.exchange.new.window in (
       rest,
@@ -67,7 +92,7 @@ returns-clause-ends g c =
           (record { upgrade = false; method = c.args.method.now; text = c.args.text.now; framing = c.args.framing })
           (record {
             left = g.I.Source.left c.args.input.now;
-            kept = c.args.kept.now;
+            kept = c.args.rooms.now.kept;
             held = g.O.Sink.held c.args.output.now;
             told = g.U.Upstream.told c.args.up.now;
             reads = g.I.Source.faults c.args.input.now;
@@ -83,8 +108,11 @@ returns-clause-ends g c =
             links = g.U.Upstream.faults c.exchange.new.up;
             writes = g.O.Sink.faults c.refuse.new.output;
           })
-          c.in-Refused.refusal e.0 e.1 e.2 c.refuse.result c.refuse.ensures.written
-          (took_in_front _ _ c.new-window.result c.args.kept.now _ c.new-window.ensures e.3, e.4) e.5,
+          c.in-Refused.refusal e.0 e.1 e.2 c.refuse.result c.refuse.ensures.written (
+            took_in_front (g.I.Source.left c.args.input.now) (g.I.Source.left c.exchange.new.input) c.clear.new.self c.args.rooms.now.kept
+                (e.0 ++ (c.exchange.new.window ++ c.exchange.new.kept)) c.clear.ensures e.3,
+            e.4,
+          ) e.5,
     )
 
 pub give_back-requires : goal.give_back-requires
