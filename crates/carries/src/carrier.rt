@@ -3,11 +3,11 @@ ghost use Rattle.std.specs.Prelude.{◌≡◌, ◌≢◌, ◌≤◌, ◌++◌, �
 ghost use Rattle.carries.specs.Carries.{CarryOn, going};
 
 use crate::carried::Carried;
-use http_wire::buffer::WireBuffer;
 use http_wire::error::SessionFault;
 use http_wire::head::Head;
 use hub_devices::source::Source;
 use hub_kit::target::Target;
+use piece_window::rooms::Rooms;
 use proxy_wire::framing::Framing;
 use std::alloc::Global;
 use tunnel::shuts::Shuts;
@@ -23,7 +23,7 @@ pub trait Carrier<I: Source, O: Shuts>: Tunnelled {
         framing: Framing,
         target: &Target,
         input: &mut I,
-        kept: &mut WireBuffer,
+        rooms: &mut Rooms,
         output: &mut O,
     ) -> Result<Carried<Self::Reads, Self::Writes>, SessionFault>
         requires minor { head.now.minor ≤ 1 }
@@ -41,7 +41,7 @@ pub trait Carrier<I: Source, O: Shuts>: Tunnelled {
             (going head.now framing) target.now
             (record {
               left = I.left input.old;
-              kept = kept.old;
+              kept = rooms.old.kept;
               held = O.held output.old;
               told = Self.told self.old;
               reads = I.faults input.old;
@@ -50,7 +50,7 @@ pub trait Carrier<I: Source, O: Shuts>: Tunnelled {
             })
             (record {
               left = I.left input.new;
-              kept = rest ++ kept.new;
+              kept = rest ++ rooms.new.kept;
               held = O.held output.new;
               told = Self.told self.new;
               reads = I.faults input.new;

@@ -5,13 +5,13 @@ ghost use Rattle.carries.specs.Carries.{CarryOn, CarryEnds, going};
 use crate::carried::{Carried, one_of};
 use crate::carrier::Carrier;
 use crate::upgraded::carry_upgrade;
-use http_wire::buffer::WireBuffer;
 use http_wire::error::SessionFault;
 use http_wire::head::Head;
 use http_wire::heads::read_head;
 use hub_devices::source::Source;
 use hub_kit::moment::Moment;
 use hub_kit::target::Target;
+use piece_window::rooms::Rooms;
 use proxy_core::forward::{choose, stopped};
 use proxy_core::passes::pass_on;
 use proxy_core::refusals::refuse;
@@ -33,7 +33,7 @@ pub fn carry_head<R: Threads, I: Source + Send, O: Shuts, U: Tunnelled<Writes: S
     framing: Framing,
     target: &Target,
     input: &mut I,
-    kept: &mut WireBuffer,
+    rooms: &mut Rooms,
     output: &mut O,
     up: &mut U,
 ) -> Result<Carried<U::Reads, U::Writes>, SessionFault>
@@ -52,7 +52,7 @@ pub fn carry_head<R: Threads, I: Source + Send, O: Shuts, U: Tunnelled<Writes: S
         (going head.now framing) target.now
         (record {
           left = I.left input.old;
-          kept = kept.old;
+          kept = rooms.old.kept;
           held = O.held output.old;
           told = U.told up.old;
           reads = I.faults input.old;
@@ -61,7 +61,7 @@ pub fn carry_head<R: Threads, I: Source + Send, O: Shuts, U: Tunnelled<Writes: S
         })
         (record {
           left = I.left input.new;
-          kept = rest ++ kept.new;
+          kept = rest ++ rooms.new.kept;
           held = O.held output.new;
           told = U.told up.new;
           reads = I.faults input.new;
@@ -73,22 +73,22 @@ pub fn carry_head<R: Threads, I: Source + Send, O: Shuts, U: Tunnelled<Writes: S
     ensures writes { O.faults output.old ≤ O.faults output.new }
 {
     if is_upgrade(head, framing) {
-        return carry_upgrade(rt, alloc, head, target, input, kept, output, up);
+        return carry_upgrade(rt, alloc, head, target, input, rooms, output, up);
     }
-    one_of(pass_on(alloc, head, framing, target, input, kept, output, up))
+    one_of(pass_on(alloc, head, framing, target, input, rooms, output, up))
 }
 
-/// The same as `carry_one`, with a buffer that is handed in and holds nothing.
+/// The same as `carry_one`, in rooms that keep nothing.
 fn carry_kept<L: Lookup, I: Source, O: Shuts, U: Carrier<I, O>>(
     alloc: Global,
     routes: &mut L,
     now: Moment,
     input: &mut I,
-    kept: &mut WireBuffer,
+    rooms: &mut Rooms,
     output: &mut O,
     up: &mut U,
 ) -> Result<Carried<U::Reads, U::Writes>, SessionFault>
-    requires { kept.old ≡ [] }
+    requires { rooms.old.kept ≡ [] }
     ensures ends { (kept : List ℕ) × CarryEnds L.found
         (λ reads writes. record {
           left = U.Reads.left reads;
@@ -121,7 +121,7 @@ fn carry_kept<L: Lookup, I: Source, O: Shuts, U: Carrier<I, O>>(
     ensures links { U.faults up.old ≤ U.faults up.new }
     ensures writes { O.faults output.old ≤ O.faults output.new }
 {
-    let head = match read_head(alloc, input, kept) {
+    let head = match read_head(alloc, input, &mut rooms.kept) {
         Ok(head) => head,
         Err(e) => return one_of(stopped(output, e)),
     };
@@ -135,18 +135,19 @@ fn carry_kept<L: Lookup, I: Source, O: Shuts, U: Carrier<I, O>>(
         choice.framing,
         &choice.target,
         input,
-        kept,
+        rooms,
         output,
     )
 }
 
 /// Reads one request and carries it to the target of its path's route: as a tunnel, where it is an upgrade and the upstream's reply
-/// switches over, and else as `forward_one` does. A tunnel ends when both directions have.
+/// switches over, and else as `forward_one` does. A tunnel ends when both directions have. What the rooms held before is dropped.
 pub fn carry_one<L: Lookup, I: Source, O: Shuts, U: Carrier<I, O>>(
     alloc: Global,
     routes: &mut L,
     now: Moment,
     input: &mut I,
+    rooms: &mut Rooms,
     output: &mut O,
     up: &mut U,
 ) -> Result<Carried<U::Reads, U::Writes>, SessionFault>
@@ -182,6 +183,6 @@ pub fn carry_one<L: Lookup, I: Source, O: Shuts, U: Carrier<I, O>>(
     ensures links { U.faults up.old ≤ U.faults up.new }
     ensures writes { O.faults output.old ≤ O.faults output.new }
 {
-    let mut kept = WireBuffer::new(alloc);
-    carry_kept(alloc, routes, now, input, &mut kept, output, up)
+    rooms.clear();
+    carry_kept(alloc, routes, now, input, rooms, output, up)
 }

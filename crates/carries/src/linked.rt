@@ -16,7 +16,8 @@ use std::thread::Threads;
 use tunnel::shuts::Shuts;
 use upstreams::tunnelled::Tunnelled;
 
-/// Sends an upgrade on, whose client has sent `first` behind its head, and opens a tunnel, or passes back what else comes.
+/// Sends an upgrade on, whose client has sent `first` behind its head, and opens a tunnel, or passes back what else comes. What
+/// `back` held before is dropped.
 pub(crate) fn carry_linked<R: Threads, I: Source + Send, O: Shuts, U: Tunnelled<Writes: Send>>(
     rt: &R,
     alloc: Global,
@@ -24,6 +25,7 @@ pub(crate) fn carry_linked<R: Threads, I: Source + Send, O: Shuts, U: Tunnelled<
     text: &[u8],
     first: &[u8],
     input: &mut I,
+    back: &mut Window,
     output: &mut O,
     up: &mut U,
 ) -> Result<Carried<U::Reads, U::Writes>, SessionFault>
@@ -60,8 +62,8 @@ pub(crate) fn carry_linked<R: Threads, I: Source + Send, O: Shuts, U: Tunnelled<
     ensures links { U.faults up.old ≤ U.faults up.new }
     ensures writes { O.faults output.old ≤ O.faults output.new }
 {
-    let mut back = Window::new();
-    let reply = match ask_switch(alloc, method, text, up, &mut back) {
+    back.clear();
+    let reply = match ask_switch(alloc, method, text, up, back) {
         Ok(reply) => reply,
         Err(refusal) => return one_of(refuse(output, refusal)),
     };
@@ -76,5 +78,5 @@ pub(crate) fn carry_linked<R: Threads, I: Source + Send, O: Shuts, U: Tunnelled<
             up,
         );
     }
-    one_of(give_back(alloc, &reply, &mut back, output, up))
+    one_of(give_back(alloc, &reply, back, output, up))
 }

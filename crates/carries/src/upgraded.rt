@@ -6,11 +6,11 @@ ghost use Rattle.carries.specs.Carries.{CarryOn, upgrade_of};
 use crate::carried::{Carried, one_of};
 use crate::early::take_kept;
 use crate::linked::carry_linked;
-use http_wire::buffer::WireBuffer;
 use http_wire::error::SessionFault;
 use http_wire::head::Head;
 use hub_devices::source::Source;
 use hub_kit::target::Target;
+use piece_window::rooms::Rooms;
 use proxy_core::refusals::{Refusal, refuse};
 use proxy_wire::heads::request_text;
 use std::alloc::Global;
@@ -26,7 +26,7 @@ pub(crate) fn carry_upgrade<R: Threads, I: Source + Send, O: Shuts, U: Tunnelled
     head: &Head,
     target: &Target,
     input: &mut I,
-    kept: &mut WireBuffer,
+    rooms: &mut Rooms,
     output: &mut O,
     up: &mut U,
 ) -> Result<Carried<U::Reads, U::Writes>, SessionFault>
@@ -44,7 +44,7 @@ pub(crate) fn carry_upgrade<R: Threads, I: Source + Send, O: Shuts, U: Tunnelled
         (upgrade_of head.now.method (heads.request_text true head.now)) target.now
         (record {
           left = I.left input.old;
-          kept = kept.old;
+          kept = rooms.old.kept;
           held = O.held output.old;
           told = U.told up.old;
           reads = I.faults input.old;
@@ -53,7 +53,7 @@ pub(crate) fn carry_upgrade<R: Threads, I: Source + Send, O: Shuts, U: Tunnelled
         })
         (record {
           left = I.left input.new;
-          kept = rest ++ kept.new;
+          kept = rest ++ rooms.new.kept;
           held = O.held output.new;
           told = U.told up.new;
           reads = I.faults input.new;
@@ -67,7 +67,7 @@ pub(crate) fn carry_upgrade<R: Threads, I: Source + Send, O: Shuts, U: Tunnelled
     let Ok(text) = request_text(alloc, true, head) else {
         return one_of(refuse(output, Refusal::Memory));
     };
-    let Ok(first) = take_kept(alloc, kept) else {
+    let Ok(first) = take_kept(alloc, &mut rooms.kept) else {
         return one_of(refuse(output, Refusal::Memory));
     };
     match up.connect(target) {
@@ -81,6 +81,7 @@ pub(crate) fn carry_upgrade<R: Threads, I: Source + Send, O: Shuts, U: Tunnelled
         text.as_slice(),
         first.as_slice(),
         input,
+        &mut rooms.back,
         output,
         up,
     );

@@ -1,6 +1,7 @@
 use Rattle.std.proofs.Common.{◌++◌, Err, refl, ap, subst, inl, inr}
 use Rattle.http_wire.specs.declared.head.Head.{Head}
 use Rattle.proxy_core.specs.Forward.{IsUnchosen}
+use Rattle.proxy_core.specs.Passes.{Place}
 use Rattle.proxy_core.proofs.ForwardLemmas.{took_from, chosen_of}
 use Rattle.carries.specs.Carries.{Sides}
 use Rattle.carries.proofs.CarryLemmas.{carried_of}
@@ -15,7 +16,7 @@ returns-in-Err-clause-ends g c =
         c.one_of.ensures,
         inl (record {
           error = c.in-Err.e;
-          took = took_from _ _ c.args.kept.now _ c.requires e.0;
+          took = took_from _ _ c.args.rooms.now.kept _ c.requires e.0;
           refused = e.1;
           told = refl;
           same = refl;
@@ -35,7 +36,7 @@ returns-in-Err-choose-clause-ends g c =
         inr (record {
           head = read.0;
           is = read.1;
-          took = took_from _ _ c.args.kept.now _ c.requires read.3;
+          took = took_from _ _ c.args.rooms.now.kept _ c.requires read.3;
           told = refl;
           refused = c.in-Err-choose.refusal;
           why = subst (λ (h : Head). IsUnchosen g.L.Lookup.found h c.args.now c.args.routes.now c.choose.new.routes c.in-Err-choose.refusal) read.2 c.in-Err-choose.ensures.err;
@@ -56,8 +57,26 @@ returns-clause-ends g c =
       writes = g.U.Writes.Sink.faults writes;
       upper_shut = g.U.Writes.Sink.closed writes;
       lower_shut = g.O.Sink.closed c.carry.new.output;
+    } in
+    let old : Place = record {
+      left = g.I.Source.left c.read_head.new.input;
+      kept = c.read_head.new.kept;
+      held = g.O.Sink.held c.args.output.now;
+      told = g.U.Upstream.told c.args.up.now;
+      reads = g.I.Source.faults c.read_head.new.input;
+      links = g.U.Upstream.faults c.args.up.now;
+      writes = g.O.Sink.faults c.args.output.now;
+    } in
+    let new : Place = record {
+      left = g.I.Source.left c.carry.new.input;
+      kept = carried.0 ++ c.carry.new.rooms.kept;
+      held = g.O.Sink.held c.carry.new.output;
+      told = g.U.Upstream.told c.carry.new.self;
+      reads = g.I.Source.faults c.carry.new.input;
+      links = g.U.Upstream.faults c.carry.new.self;
+      writes = g.O.Sink.faults c.carry.new.output;
     } in (
-      carried.0 ++ c.carry.new.kept,
+      carried.0 ++ c.carry.new.rooms.kept,
       inr (record {
         head = read.0;
         is = read.1;
@@ -66,9 +85,10 @@ returns-clause-ends g c =
         reads = g.I.Source.faults c.read_head.new.input;
         framing = c.in-Ok-choose.choice.framing;
         target = c.in-Ok-choose.choice.target;
-        took = took_from _ _ c.args.kept.now _ c.requires read.3;
+        took = took_from _ _ c.args.rooms.now.kept _ c.requires read.3;
         counted = c.read_head.ensures.counted;
-        chosen = chosen_of g.L.Lookup.found c.in-Ok.head read.0 _ _ _ _ _ read.2 chosen.0;
-        carried = carried_of sides c.in-Ok.head read.0 _ _ _ _ _ read.2 carried.1;
+        chosen = chosen_of g.L.Lookup.found c.in-Ok.head read.0 c.args.now c.args.routes.now c.choose.new.routes c.in-Ok-choose.choice.framing
+            c.in-Ok-choose.choice.target read.2 chosen.0;
+        carried = carried_of sides c.in-Ok.head read.0 c.in-Ok-choose.choice.framing c.in-Ok-choose.choice.target old new c.carry.result read.2 carried.1;
       }),
     )

@@ -39,7 +39,7 @@ returns-in-Err-clause-ends g c =
           cause = Link;
           written = c.refuse-in-Err.ensures.written;
           left = refl;
-          kept = all_taken c.in-Ok-take_kept.first c.args.kept.now c.take_kept.new.kept all.0 all.1;
+          kept = all_taken c.in-Ok-take_kept.first c.args.rooms.now.kept c.take_kept.new.kept all.0 all.1;
           why = inr (refl, c.in-Err.ensures.err, c.in-Err.ensures.cause);
         }),
       ),
@@ -59,7 +59,7 @@ returns-clause-ends g c =
     } in
     let old : Place = record {
       left = g.I.Source.left c.args.input.now;
-      kept = c.args.kept.now;
+      kept = c.args.rooms.now.kept;
       held = g.O.Sink.held c.args.output.now;
       told = g.U.Upstream.told c.args.up.now;
       reads = g.I.Source.faults c.args.input.now;
@@ -81,11 +81,11 @@ returns-clause-ends g c =
       first,
       carried_through sides (upgrade_of c.args.head.now.method (request_text true c.args.head.now)) c.args.target.now old new linked moved links
           c.carry_linked-outcome.result c.in-Ok-connect.ensures.ok c.connect.ensures.counted c.finish.ensures.finished
-          (link_as sides c.as_bytes.result.now c.args.head.now.method c.as_slice.result.now (request_text true c.args.head.now) c.as_slice-2.result.now c.args.kept.now
+          (link_as sides c.as_bytes.result.now c.args.head.now.method c.as_slice.result.now (request_text true c.args.head.now) c.as_slice-2.result.now c.args.rooms.now.kept
           (first ++ c.take_kept.new.kept) (g.U.Upstream.faults c.carry_linked-outcome.new.up) (g.U.Upstream.faults c.finish.new.self)
           (record old { told = linked; links = links }) (record new { told = moved }) c.carry_linked-outcome.result
           c.as_bytes.ensures (c.as_slice.ensures ∙ c.in-Ok.ensures) (c.as_slice-2.ensures ∙ all.0)
-          (c.as_slice-2.ensures ∙ (all.0 ∙ sym (all_taken first c.args.kept.now c.take_kept.new.kept all.0 all.1))) c.finish.ensures.counted
+          (c.as_slice-2.ensures ∙ (all.0 ∙ sym (all_taken first c.args.rooms.now.kept c.take_kept.new.kept all.0 all.1))) c.finish.ensures.counted
           c.carry_linked-outcome.ensures.ends),
     )
 
