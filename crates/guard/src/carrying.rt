@@ -7,7 +7,6 @@ ghost use Rattle.guard.specs.Carrying.{CarryFollows, GuardCarries};
 use crate::denials::deny;
 use crate::guards::{Verdict, judge};
 use carries::{Carried, Carrier, one_of};
-use http_wire::buffer::WireBuffer;
 use http_wire::error::SessionFault;
 use http_wire::head::Head;
 use http_wire::heads::read_head;
@@ -15,13 +14,14 @@ use hub_devices::source::Source;
 use hub_kit::names::ServerKey;
 use hub_kit::target::Target;
 use hub_link::link::HubLink;
+use piece_window::rooms::Rooms;
 use proxy_core::forward::stopped;
 use proxy_core::refusals::{Refusal, refuse, wire_refusal};
 use proxy_wire::framing::{Framing, request_framing};
 use std::alloc::Global;
 use tunnel::shuts::Shuts;
 
-/// Carries a request, or refuses it with nothing sent. Of what was read, `rest` and then what `kept` has is behind the request.
+/// Carries a request, or refuses it with nothing sent. Of what was read, `rest` and then what is kept is behind the request.
 pub fn carry_follow<I: Source, O: Shuts, U: Carrier<I, O>>(
     alloc: Global,
     verdict: Verdict,
@@ -29,7 +29,7 @@ pub fn carry_follow<I: Source, O: Shuts, U: Carrier<I, O>>(
     framing: Framing,
     target: &Target,
     input: &mut I,
-    kept: &mut WireBuffer,
+    rooms: &mut Rooms,
     output: &mut O,
     up: &mut U,
 ) -> Result<Carried<U::Reads, U::Writes>, SessionFault>
@@ -48,7 +48,7 @@ pub fn carry_follow<I: Source, O: Shuts, U: Carrier<I, O>>(
         (going head.now framing) target.now
         (record {
           left = I.left input.old;
-          kept = kept.old;
+          kept = rooms.old.kept;
           held = O.held output.old;
           told = U.told up.old;
           reads = I.faults input.old;
@@ -57,7 +57,7 @@ pub fn carry_follow<I: Source, O: Shuts, U: Carrier<I, O>>(
         })
         (record {
           left = I.left input.new;
-          kept = rest ++ kept.new;
+          kept = rest ++ rooms.new.kept;
           held = O.held output.new;
           told = U.told up.new;
           reads = I.faults input.new;
@@ -69,24 +69,24 @@ pub fn carry_follow<I: Source, O: Shuts, U: Carrier<I, O>>(
     ensures writes { O.faults output.old ≤ O.faults output.new }
 {
     match verdict {
-        Verdict::Pass => up.carry(alloc, head, framing, target, input, kept, output),
+        Verdict::Pass => up.carry(alloc, head, framing, target, input, rooms, output),
         Verdict::Deny(denial) => one_of(deny(output, denial)),
         Verdict::Memory => one_of(refuse(output, Refusal::Memory)),
     }
 }
 
-/// The same as `guard_carry_one`, with a buffer that is handed in and holds nothing.
+/// The same as `guard_carry_one`, in rooms that keep nothing.
 fn guard_carry_kept<H: HubLink, I: Source, O: Shuts, U: Carrier<I, O>>(
     alloc: Global,
     key: &ServerKey,
     target: &Target,
     link: &mut H,
     input: &mut I,
-    kept: &mut WireBuffer,
+    rooms: &mut Rooms,
     output: &mut O,
     up: &mut U,
 ) -> Result<Carried<U::Reads, U::Writes>, SessionFault>
-    requires { kept.old ≡ [] }
+    requires { rooms.old.kept ≡ [] }
     ensures ends { (asks : List Exchange) × (kept : List ℕ) × Asks H.asked H.does link.old asks link.new
         × GuardCarries key.now target.now
         (λ reads writes. record {
@@ -121,7 +121,7 @@ fn guard_carry_kept<H: HubLink, I: Source, O: Shuts, U: Carrier<I, O>>(
     ensures links { U.faults up.old ≤ U.faults up.new }
     ensures writes { O.faults output.old ≤ O.faults output.new }
 {
-    let head = match read_head(alloc, input, kept) {
+    let head = match read_head(alloc, input, &mut rooms.kept) {
         Ok(head) => head,
         Err(e) => return one_of(stopped(output, e)),
     };
@@ -131,18 +131,19 @@ fn guard_carry_kept<H: HubLink, I: Source, O: Shuts, U: Carrier<I, O>>(
     };
     let verdict = judge(alloc, key, &head, link);
     carry_follow(
-        alloc, verdict, &head, framing, target, input, kept, output, up,
+        alloc, verdict, &head, framing, target, input, rooms, output, up,
     )
 }
 
 /// The same as `guard_one`, and a tunnel where the request is an upgrade that the hub admits and the upstream's reply switches over. A
-/// token that is taken away doesn't cut a tunnel that is open.
+/// token that is taken away doesn't cut a tunnel that is open. What the rooms held before is dropped.
 pub fn guard_carry_one<H: HubLink, I: Source, O: Shuts, U: Carrier<I, O>>(
     alloc: Global,
     key: &ServerKey,
     target: &Target,
     link: &mut H,
     input: &mut I,
+    rooms: &mut Rooms,
     output: &mut O,
     up: &mut U,
 ) -> Result<Carried<U::Reads, U::Writes>, SessionFault>
@@ -180,6 +181,6 @@ pub fn guard_carry_one<H: HubLink, I: Source, O: Shuts, U: Carrier<I, O>>(
     ensures links { U.faults up.old ≤ U.faults up.new }
     ensures writes { O.faults output.old ≤ O.faults output.new }
 {
-    let mut kept = WireBuffer::new(alloc);
-    guard_carry_kept(alloc, key, target, link, input, &mut kept, output, up)
+    rooms.clear();
+    guard_carry_kept(alloc, key, target, link, input, rooms, output, up)
 }

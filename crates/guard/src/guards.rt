@@ -9,7 +9,6 @@ ghost use Rattle.guard.specs.Guards as spec;
 
 use crate::access::{Access, ask_access};
 use crate::denials::{Denial, deny};
-use http_wire::buffer::WireBuffer;
 use http_wire::error::SessionFault;
 use http_wire::head::Head;
 use http_wire::heads::read_head;
@@ -20,6 +19,7 @@ use hub_devices::source::Source;
 use hub_kit::names::ServerKey;
 use hub_kit::target::Target;
 use hub_link::link::HubLink;
+use piece_window::rooms::Rooms;
 use proxy_core::forward::stopped;
 use proxy_core::passes::pass_on;
 use proxy_core::refusals::{Forwarded, Refusal, refuse, wire_refusal};
@@ -80,7 +80,7 @@ pub(crate) fn judge<H: HubLink>(
     }
 }
 
-/// Passes a request on, or refuses it with nothing sent. Of what was read, `rest` and then what `kept` has is behind the request.
+/// Passes a request on, or refuses it with nothing sent. Of what was read, `rest` and then what is kept is behind the request.
 pub fn follow<I: Source, O: Sink, U: Upstream>(
     alloc: Global,
     verdict: Verdict,
@@ -88,7 +88,7 @@ pub fn follow<I: Source, O: Sink, U: Upstream>(
     framing: Framing,
     target: &Target,
     input: &mut I,
-    kept: &mut WireBuffer,
+    rooms: &mut Rooms,
     output: &mut O,
     up: &mut U,
 ) -> Result<Forwarded, SessionFault>
@@ -99,7 +99,7 @@ pub fn follow<I: Source, O: Sink, U: Upstream>(
         target.now
         (record {
           left = I.left input.old;
-          kept = kept.old;
+          kept = rooms.old.kept;
           held = O.held output.old;
           told = U.told up.old;
           reads = I.faults input.old;
@@ -108,7 +108,7 @@ pub fn follow<I: Source, O: Sink, U: Upstream>(
         })
         (record {
           left = I.left input.new;
-          kept = rest ++ kept.new;
+          kept = rest ++ rooms.new.kept;
           held = O.held output.new;
           told = U.told up.new;
           reads = I.faults input.new;
@@ -120,24 +120,24 @@ pub fn follow<I: Source, O: Sink, U: Upstream>(
     ensures writes { O.faults output.old ≤ O.faults output.new }
 {
     match verdict {
-        Verdict::Pass => pass_on(alloc, head, framing, target, input, kept, output, up),
+        Verdict::Pass => pass_on(alloc, head, framing, target, input, rooms, output, up),
         Verdict::Deny(denial) => deny(output, denial),
         Verdict::Memory => refuse(output, Refusal::Memory),
     }
 }
 
-/// The same as `guard_one`, with a buffer that is handed in and holds nothing.
+/// The same as `guard_one`, in rooms that are handed in and keep nothing.
 fn guard_kept<H: HubLink, I: Source, O: Sink, U: Upstream>(
     alloc: Global,
     key: &ServerKey,
     target: &Target,
     link: &mut H,
     input: &mut I,
-    kept: &mut WireBuffer,
+    rooms: &mut Rooms,
     output: &mut O,
     up: &mut U,
 ) -> Result<Forwarded, SessionFault>
-    requires { kept.old ≡ [] }
+    requires { rooms.old.kept ≡ [] }
     ensures ends { (asks : List Exchange) × (kept : List ℕ) × Asks H.asked H.does link.old asks link.new
         × GuardEnds key.now target.now asks (H.faults link.old) (H.faults link.new)
         (record {
@@ -163,7 +163,7 @@ fn guard_kept<H: HubLink, I: Source, O: Sink, U: Upstream>(
     ensures links { U.faults up.old ≤ U.faults up.new }
     ensures writes { O.faults output.old ≤ O.faults output.new }
 {
-    let head = match read_head(alloc, input, kept) {
+    let head = match read_head(alloc, input, &mut rooms.kept) {
         Ok(head) => head,
         Err(e) => return stopped(output, e),
     };
@@ -173,7 +173,7 @@ fn guard_kept<H: HubLink, I: Source, O: Sink, U: Upstream>(
     };
     let verdict = judge(alloc, key, &head, link);
     follow(
-        alloc, verdict, &head, framing, target, input, kept, output, up,
+        alloc, verdict, &head, framing, target, input, rooms, output, up,
     )
 }
 
@@ -215,6 +215,6 @@ pub fn guard_one<H: HubLink, I: Source, O: Sink, U: Upstream>(
     ensures links { U.faults up.old ≤ U.faults up.new }
     ensures writes { O.faults output.old ≤ O.faults output.new }
 {
-    let mut kept = WireBuffer::new(alloc);
-    guard_kept(alloc, key, target, link, input, &mut kept, output, up)
+    let mut rooms = Rooms::new(alloc);
+    guard_kept(alloc, key, target, link, input, &mut rooms, output, up)
 }

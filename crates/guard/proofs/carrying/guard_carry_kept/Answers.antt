@@ -21,7 +21,7 @@ returns-in-Err-clause-ends g c =
         inl (record {
           unasked = refl;
           error = c.in-Err.e;
-          took = took_from _ _ c.args.kept.now _ c.requires e.0;
+          took = took_from _ _ c.args.rooms.now.kept _ c.requires e.0;
           refused = e.1;
           told = refl;
           stopped = c.stopped.ensures.stopped;
@@ -43,7 +43,7 @@ returns-in-Err-request_framing-clause-ends g c =
           unasked = refl;
           head = read.0;
           is = read.1;
-          took = took_from _ _ c.args.kept.now _ c.requires read.3;
+          took = took_from _ _ c.args.rooms.now.kept _ c.requires read.3;
           told = refl;
           error = c.in-Err-request_framing.e;
           why = sym (c.in-Err-request_framing.ensures.framing ∙ ap (λ (h : Head). request_framing h.headers) read.2);
@@ -76,7 +76,7 @@ returns-clause-ends g c =
     } in
     let new : Place = record {
       left = g.I.Source.left c.carry_follow.new.input;
-      kept = followed.0 ++ c.carry_follow.new.kept;
+      kept = followed.0 ++ c.carry_follow.new.rooms.kept;
       held = g.O.Sink.held c.carry_follow.new.output;
       told = g.U.Upstream.told c.carry_follow.new.up;
       reads = g.I.Source.faults c.carry_follow.new.input;
@@ -84,7 +84,7 @@ returns-clause-ends g c =
       writes = g.O.Sink.faults c.carry_follow.new.output;
     } in (
       judged.0,
-      followed.0 ++ c.carry_follow.new.kept,
+      followed.0 ++ c.carry_follow.new.rooms.kept,
       judged.1,
       inr (record {
         head = read.0;
@@ -94,7 +94,7 @@ returns-clause-ends g c =
         reads = g.I.Source.faults c.read_head.new.input;
         framing = c.in-Ok-request_framing.framing;
         verdict = c.judge-verdict.result;
-        took = took_from _ _ c.args.kept.now _ c.requires read.3;
+        took = took_from _ _ c.args.rooms.now.kept _ c.requires read.3;
         counted = c.read_head.ensures.counted;
         framed = sym (c.in-Ok-request_framing.ensures.framing ∙ ap (λ (h : Head). request_framing h.headers) read.2);
         judged = judges_of c.in-Ok.head read.0 _ _ _ _ _ read.2 judged.2;

@@ -2,6 +2,7 @@ use Rattle.std.proofs.Common.{[], ◌++◌, Err, refl, ap, sym, ◌∙◌, inl, 
 use Rattle.http_wire.specs.declared.head.Head.{Head}
 use Rattle.hub_link.proofs.AskLemmas.{no_ask}
 use Rattle.proxy_wire.specs.Framing.{request_framing}
+use Rattle.proxy_core.specs.Passes.{Place}
 use Rattle.proxy_core.proofs.ForwardLemmas.{took_from}
 use Rattle.guard.proofs.GuardLemmas.{judges_of, follows_of}
 use Rattle.guard.proofs.guards.guard_kept.Goals as goal
@@ -15,7 +16,7 @@ returns-in-Err-clause-ends g c =
       inl (record {
         unasked = refl;
         error = c.in-Err.e;
-        took = took_from _ _ c.args.kept.now _ c.requires e.0;
+        took = took_from _ _ c.args.rooms.now.kept _ c.requires e.0;
         refused = e.1;
         told = refl;
         stopped = c.stopped.ensures.stopped;
@@ -33,7 +34,7 @@ returns-in-Err-request_framing-clause-ends g c =
         unasked = refl;
         head = read.0;
         is = read.1;
-        took = took_from _ _ c.args.kept.now _ c.requires read.3;
+        took = took_from _ _ c.args.rooms.now.kept _ c.requires read.3;
         told = refl;
         error = c.in-Err-request_framing.e;
         why = sym (c.in-Err-request_framing.ensures.framing ∙ ap (λ (h : Head). request_framing h.headers) read.2);
@@ -45,9 +46,27 @@ pub returns-clause-ends : goal.returns-clause-ends
 returns-clause-ends g c =
     let read = c.in-Ok.ensures.ok in
     let judged = c.judge-verdict.ensures.judges in
-    let followed = c.follow.ensures.ends in (
+    let followed = c.follow.ensures.ends in
+    let old : Place = record {
+      left = g.I.Source.left c.read_head.new.input;
+      kept = c.read_head.new.kept;
+      held = g.O.Sink.held c.args.output.now;
+      told = g.U.Upstream.told c.args.up.now;
+      reads = g.I.Source.faults c.read_head.new.input;
+      links = g.U.Upstream.faults c.args.up.now;
+      writes = g.O.Sink.faults c.args.output.now;
+    } in
+    let new : Place = record {
+      left = g.I.Source.left c.follow.new.input;
+      kept = followed.0 ++ c.follow.new.rooms.kept;
+      held = g.O.Sink.held c.follow.new.output;
+      told = g.U.Upstream.told c.follow.new.up;
+      reads = g.I.Source.faults c.follow.new.input;
+      links = g.U.Upstream.faults c.follow.new.up;
+      writes = g.O.Sink.faults c.follow.new.output;
+    } in (
       judged.0,
-      followed.0 ++ c.follow.new.kept,
+      followed.0 ++ c.follow.new.rooms.kept,
       judged.1,
       inr (inr (record {
         head = read.0;
@@ -57,10 +76,11 @@ returns-clause-ends g c =
         reads = g.I.Source.faults c.read_head.new.input;
         framing = c.in-Ok-request_framing.framing;
         verdict = c.judge-verdict.result;
-        took = took_from _ _ c.args.kept.now _ c.requires read.3;
+        took = took_from _ _ c.args.rooms.now.kept _ c.requires read.3;
         counted = c.read_head.ensures.counted;
         framed = sym (c.in-Ok-request_framing.ensures.framing ∙ ap (λ (h : Head). request_framing h.headers) read.2);
         judged = judges_of c.in-Ok.head read.0 _ _ _ _ _ read.2 judged.2;
-        follows = follows_of c.in-Ok.head read.0 _ _ _ _ _ _ read.2 followed.1;
+        follows = follows_of c.in-Ok.head read.0 c.judge-verdict.result c.in-Ok-request_framing.framing c.args.target.now old new c.follow.result
+            read.2 followed.1;
       })),
     )
