@@ -15,13 +15,13 @@ use carries::{Carried, Carrier};
 use guard::carrying::carry_follow;
 use guard::denials::Denial;
 use guard::guards::{Verdict, judge_token};
-use http_wire::buffer::WireBuffer;
 use http_wire::error::SessionFault;
 use http_wire::head::Head;
 use http_wire::heads::read_head;
 use hub_devices::random::Random;
 use hub_devices::source::Source;
 use hub_link::link::HubLink;
+use piece_window::rooms::Rooms;
 use proxy_core::forward::stopped;
 use proxy_core::refusals::{refuse, wire_refusal};
 use proxy_wire::framing::{Framing, request_framing};
@@ -70,7 +70,7 @@ fn judge_given<H: HubLink>(alloc: Global, door: &Door, head: &Head, link: &mut H
     }
 }
 
-/// Takes a request whose head was read. Of what was read, `rest` and then what `kept` has is behind the request.
+/// Takes a request whose head was read. Of what was read, `rest` and then what is kept is behind the request.
 fn enter<H: HubLink, R: Random, I: Source, O: Shuts, U: Carrier<I, O>>(
     alloc: Global,
     door: &Door,
@@ -79,7 +79,7 @@ fn enter<H: HubLink, R: Random, I: Source, O: Shuts, U: Carrier<I, O>>(
     link: &mut H,
     random: &mut R,
     input: &mut I,
-    kept: &mut WireBuffer,
+    rooms: &mut Rooms,
     output: &mut O,
     up: &mut U,
 ) -> Result<Entered<U::Reads, U::Writes>, SessionFault>
@@ -98,7 +98,7 @@ fn enter<H: HubLink, R: Random, I: Source, O: Shuts, U: Carrier<I, O>>(
         (is_upgrade head.now framing) door.now head.now framing asks (H.faults link.old) (H.faults link.new)
         (record {
           left = I.left input.old;
-          kept = kept.old;
+          kept = rooms.old.kept;
           held = O.held output.old;
           told = U.told up.old;
           reads = I.faults input.old;
@@ -107,7 +107,7 @@ fn enter<H: HubLink, R: Random, I: Source, O: Shuts, U: Carrier<I, O>>(
         })
         (record {
           left = I.left input.new;
-          kept = rest ++ kept.new;
+          kept = rest ++ rooms.new.kept;
           held = O.held output.new;
           told = U.told up.new;
           reads = I.faults input.new;
@@ -129,29 +129,29 @@ fn enter<H: HubLink, R: Random, I: Source, O: Shuts, U: Carrier<I, O>>(
             framing,
             &door.target,
             input,
-            kept,
+            rooms,
             output,
             up,
         ))
     } else {
         signed_as(sign_in(
-            alloc, door, head, framing, link, random, input, kept, output, up,
+            alloc, door, head, framing, link, random, input, rooms, output, up,
         ))
     }
 }
 
-/// The same as `enter_one`, with a buffer that is handed in and holds nothing.
+/// The same as `enter_one`, in rooms that keep nothing.
 fn enter_kept<H: HubLink, R: Random, I: Source, O: Shuts, U: Carrier<I, O>>(
     alloc: Global,
     door: &Door,
     link: &mut H,
     random: &mut R,
     input: &mut I,
-    kept: &mut WireBuffer,
+    rooms: &mut Rooms,
     output: &mut O,
     up: &mut U,
 ) -> Result<Entered<U::Reads, U::Writes>, SessionFault>
-    requires { kept.old ≡ [] }
+    requires { rooms.old.kept ≡ [] }
     ensures ends { (asks : List Exchange) × (kept : List ℕ) × Asks H.asked H.does link.old asks link.new
         × EnterEnds R.left R.faults random.old random.new
         (λ reads writes. record {
@@ -187,7 +187,7 @@ fn enter_kept<H: HubLink, R: Random, I: Source, O: Shuts, U: Carrier<I, O>>(
     ensures links { U.faults up.old ≤ U.faults up.new }
     ensures writes { O.faults output.old ≤ O.faults output.new }
 {
-    let head = match read_head(alloc, input, kept) {
+    let head = match read_head(alloc, input, &mut rooms.kept) {
         Ok(head) => head,
         Err(e) => return signed_as(signing(stopped(output, e))),
     };
@@ -196,18 +196,20 @@ fn enter_kept<H: HubLink, R: Random, I: Source, O: Shuts, U: Carrier<I, O>>(
         Err(e) => return signed_as(signing(refuse(output, wire_refusal(e)))),
     };
     enter(
-        alloc, door, &head, framing, link, random, input, kept, output, up,
+        alloc, door, &head, framing, link, random, input, rooms, output, up,
     )
 }
 
 /// Takes one request. An upgrade is carried exactly where the hub admits its token, which is that of its header or of the guard's cookie,
-/// and is refused otherwise, since it is no page that a browser could go to. Any other request goes as in `login_one`.
+/// and is refused otherwise, since it is no page that a browser could go to. Any other request goes as in `login_one`. What the rooms held
+/// before is dropped.
 pub fn enter_one<H: HubLink, R: Random, I: Source, O: Shuts, U: Carrier<I, O>>(
     alloc: Global,
     door: &Door,
     link: &mut H,
     random: &mut R,
     input: &mut I,
+    rooms: &mut Rooms,
     output: &mut O,
     up: &mut U,
 ) -> Result<Entered<U::Reads, U::Writes>, SessionFault>
@@ -246,6 +248,6 @@ pub fn enter_one<H: HubLink, R: Random, I: Source, O: Shuts, U: Carrier<I, O>>(
     ensures links { U.faults up.old ≤ U.faults up.new }
     ensures writes { O.faults output.old ≤ O.faults output.new }
 {
-    let mut kept = WireBuffer::new(alloc);
-    enter_kept(alloc, door, link, random, input, &mut kept, output, up)
+    rooms.clear();
+    enter_kept(alloc, door, link, random, input, rooms, output, up)
 }

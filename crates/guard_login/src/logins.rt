@@ -9,7 +9,6 @@ use crate::answers::{Signed, carrying, deny, give, signing, start_text, want, wr
 use crate::door::Door;
 use crate::steps::{Step, next_step};
 use guard::denials::Denial;
-use http_wire::buffer::WireBuffer;
 use http_wire::error::SessionFault;
 use http_wire::head::Head;
 use http_wire::heads::read_head;
@@ -17,6 +16,7 @@ use hub_devices::random::Random;
 use hub_devices::sink::Sink;
 use hub_devices::source::Source;
 use hub_link::link::HubLink;
+use piece_window::rooms::Rooms;
 use proxy_core::forward::stopped;
 use proxy_core::passes::pass_on;
 use proxy_core::refusals::{refuse, wire_refusal};
@@ -47,7 +47,7 @@ fn start<R: Random, O: Sink>(
     }
 }
 
-/// Does what the step says. Of what was read, `rest` and then what `kept` has is behind the request.
+/// Does what the step says. Of what was read, `rest` and then what is kept is behind the request.
 fn finish<R: Random, I: Source, O: Sink, U: Upstream>(
     alloc: Global,
     door: &Door,
@@ -56,7 +56,7 @@ fn finish<R: Random, I: Source, O: Sink, U: Upstream>(
     step: &Step,
     random: &mut R,
     input: &mut I,
-    kept: &mut WireBuffer,
+    rooms: &mut Rooms,
     output: &mut O,
     up: &mut U,
 ) -> Result<Signed, SessionFault>
@@ -65,7 +65,7 @@ fn finish<R: Random, I: Source, O: Sink, U: Upstream>(
     ensures ends { (rest : List ℕ) × Finishes R.left R.faults random.old random.new door.now head.now framing step.now
         (record {
           left = I.left input.old;
-          kept = kept.old;
+          kept = rooms.old.kept;
           held = O.held output.old;
           told = U.told up.old;
           reads = I.faults input.old;
@@ -74,7 +74,7 @@ fn finish<R: Random, I: Source, O: Sink, U: Upstream>(
         })
         (record {
           left = I.left input.new;
-          kept = rest ++ kept.new;
+          kept = rest ++ rooms.new.kept;
           held = O.held output.new;
           told = U.told up.new;
           reads = I.faults input.new;
@@ -93,7 +93,7 @@ fn finish<R: Random, I: Source, O: Sink, U: Upstream>(
             framing,
             &door.target,
             input,
-            kept,
+            rooms,
             output,
             up,
         )),
@@ -103,7 +103,7 @@ fn finish<R: Random, I: Source, O: Sink, U: Upstream>(
     }
 }
 
-/// Asks about a request whose head was read, and answers it or passes it on. Of what was read, `rest` and then what `kept` has is behind
+/// Asks about a request whose head was read, and answers it or passes it on. Of what was read, `rest` and then what is kept is behind
 /// the request.
 pub(crate) fn sign_in<H: HubLink, R: Random, I: Source, O: Sink, U: Upstream>(
     alloc: Global,
@@ -113,7 +113,7 @@ pub(crate) fn sign_in<H: HubLink, R: Random, I: Source, O: Sink, U: Upstream>(
     link: &mut H,
     random: &mut R,
     input: &mut I,
-    kept: &mut WireBuffer,
+    rooms: &mut Rooms,
     output: &mut O,
     up: &mut U,
 ) -> Result<Signed, SessionFault>
@@ -123,7 +123,7 @@ pub(crate) fn sign_in<H: HubLink, R: Random, I: Source, O: Sink, U: Upstream>(
         × Follows R.left R.faults random.old random.new door.now head.now framing asks (H.faults link.old) (H.faults link.new)
         (record {
           left = I.left input.old;
-          kept = kept.old;
+          kept = rooms.old.kept;
           held = O.held output.old;
           told = U.told up.old;
           reads = I.faults input.old;
@@ -132,7 +132,7 @@ pub(crate) fn sign_in<H: HubLink, R: Random, I: Source, O: Sink, U: Upstream>(
         })
         (record {
           left = I.left input.new;
-          kept = rest ++ kept.new;
+          kept = rest ++ rooms.new.kept;
           held = O.held output.new;
           told = U.told up.new;
           reads = I.faults input.new;
@@ -150,22 +150,22 @@ pub(crate) fn sign_in<H: HubLink, R: Random, I: Source, O: Sink, U: Upstream>(
         Err(_) => return want(output),
     };
     finish(
-        alloc, door, head, framing, &step, random, input, kept, output, up,
+        alloc, door, head, framing, &step, random, input, rooms, output, up,
     )
 }
 
-/// The same as `login_one`, with a buffer that is handed in and holds nothing.
+/// The same as `login_one`, in rooms that are handed in and keep nothing.
 fn login_kept<H: HubLink, R: Random, I: Source, O: Sink, U: Upstream>(
     alloc: Global,
     door: &Door,
     link: &mut H,
     random: &mut R,
     input: &mut I,
-    kept: &mut WireBuffer,
+    rooms: &mut Rooms,
     output: &mut O,
     up: &mut U,
 ) -> Result<Signed, SessionFault>
-    requires { kept.old ≡ [] }
+    requires { rooms.old.kept ≡ [] }
     ensures ends { (asks : List Exchange) × (kept : List ℕ) × Asks H.asked H.does link.old asks link.new
         × LoginEnds R.left R.faults random.old random.new door.now asks (H.faults link.old) (H.faults link.new)
         (record {
@@ -192,7 +192,7 @@ fn login_kept<H: HubLink, R: Random, I: Source, O: Sink, U: Upstream>(
     ensures links { U.faults up.old ≤ U.faults up.new }
     ensures writes { O.faults output.old ≤ O.faults output.new }
 {
-    let head = match read_head(alloc, input, kept) {
+    let head = match read_head(alloc, input, &mut rooms.kept) {
         Ok(head) => head,
         Err(e) => return signing(stopped(output, e)),
     };
@@ -201,7 +201,7 @@ fn login_kept<H: HubLink, R: Random, I: Source, O: Sink, U: Upstream>(
         Err(e) => return signing(refuse(output, wire_refusal(e))),
     };
     sign_in(
-        alloc, door, &head, framing, link, random, input, kept, output, up,
+        alloc, door, &head, framing, link, random, input, rooms, output, up,
     )
 }
 
@@ -244,6 +244,6 @@ pub fn login_one<H: HubLink, R: Random, I: Source, O: Sink, U: Upstream>(
     ensures links { U.faults up.old ≤ U.faults up.new }
     ensures writes { O.faults output.old ≤ O.faults output.new }
 {
-    let mut kept = WireBuffer::new(alloc);
-    login_kept(alloc, door, link, random, input, &mut kept, output, up)
+    let mut rooms = Rooms::new(alloc);
+    login_kept(alloc, door, link, random, input, &mut rooms, output, up)
 }

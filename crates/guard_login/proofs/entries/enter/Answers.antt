@@ -19,7 +19,7 @@ returns-then-is_upgrade-clause-ends g c =
     } in
     let old : Place = record {
       left = g.I.Source.left c.args.input.now;
-      kept = c.args.kept.now;
+      kept = c.args.rooms.now.kept;
       held = g.O.Sink.held c.args.output.now;
       told = g.U.Upstream.told c.args.up.now;
       reads = g.I.Source.faults c.args.input.now;
@@ -28,7 +28,7 @@ returns-then-is_upgrade-clause-ends g c =
     } in
     let new : Place = record {
       left = g.I.Source.left c.carry_follow.new.input;
-      kept = carried.0 ++ c.carry_follow.new.kept;
+      kept = carried.0 ++ c.carry_follow.new.rooms.kept;
       held = g.O.Sink.held c.carry_follow.new.output;
       told = g.U.Upstream.told c.carry_follow.new.up;
       reads = g.I.Source.faults c.carry_follow.new.input;
@@ -57,7 +57,7 @@ returns-else-is_upgrade-clause-ends g c =
     } in
     let old : Place = record {
       left = g.I.Source.left c.args.input.now;
-      kept = c.args.kept.now;
+      kept = c.args.rooms.now.kept;
       held = g.O.Sink.held c.args.output.now;
       told = g.U.Upstream.told c.args.up.now;
       reads = g.I.Source.faults c.args.input.now;
@@ -66,7 +66,7 @@ returns-else-is_upgrade-clause-ends g c =
     } in
     let new : Place = record {
       left = g.I.Source.left c.sign_in.new.input;
-      kept = signed.1 ++ c.sign_in.new.kept;
+      kept = signed.1 ++ c.sign_in.new.rooms.kept;
       held = g.O.Sink.held c.sign_in.new.output;
       told = g.U.Upstream.told c.sign_in.new.up;
       reads = g.I.Source.faults c.sign_in.new.input;

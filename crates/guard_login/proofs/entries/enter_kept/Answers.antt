@@ -19,7 +19,7 @@ returns-in-Err-clause-ends g c =
         inl (record {
           unasked = refl;
           error = c.in-Err.e;
-          took = took_from _ _ c.args.kept.now _ c.requires e.0;
+          took = took_from _ _ c.args.rooms.now.kept _ c.requires e.0;
           refused = e.1;
           told = refl;
           stopped = c.stopped.ensures.stopped;
@@ -42,7 +42,7 @@ returns-in-Err-request_framing-clause-ends g c =
           unasked = refl;
           head = read.0;
           is = read.1;
-          took = took_from _ _ c.args.kept.now _ c.requires read.3;
+          took = took_from _ _ c.args.rooms.now.kept _ c.requires read.3;
           told = refl;
           error = c.in-Err-request_framing.e;
           why = sym (c.in-Err-request_framing.ensures.framing ∙ ap (λ (h : Head). request_framing h.headers) read.2);
@@ -77,7 +77,7 @@ returns-clause-ends g c =
     } in
     let new : Place = record {
       left = g.I.Source.left c.enter.new.input;
-      kept = entered.1 ++ c.enter.new.kept;
+      kept = entered.1 ++ c.enter.new.rooms.kept;
       held = g.O.Sink.held c.enter.new.output;
       told = g.U.Upstream.told c.enter.new.up;
       reads = g.I.Source.faults c.enter.new.input;
@@ -85,7 +85,7 @@ returns-clause-ends g c =
       writes = g.O.Sink.faults c.enter.new.output;
     } in (
       entered.0,
-      entered.1 ++ c.enter.new.kept,
+      entered.1 ++ c.enter.new.rooms.kept,
       entered.2,
       inr (record {
         head = read.0;
@@ -94,7 +94,7 @@ returns-clause-ends g c =
         kept = c.read_head.new.kept;
         reads = g.I.Source.faults c.read_head.new.input;
         framing = c.in-Ok-request_framing.framing;
-        took = took_from _ _ c.args.kept.now _ c.requires read.3;
+        took = took_from _ _ c.args.rooms.now.kept _ c.requires read.3;
         counted = c.read_head.ensures.counted;
         framed = sym (c.in-Ok-request_framing.ensures.framing ∙ ap (λ (h : Head). request_framing h.headers) read.2);
         enters = enters_of g.R.Random.left g.R.Random.faults c.args.random.now c.enter.new.random sides c.args.door.now c.in-Ok.head read.0

@@ -17,7 +17,7 @@ returns-in-Err-clause-ends g c =
         inl (record {
           unasked = refl;
           error = c.in-Err.e;
-          took = took_from _ _ c.args.kept.now _ c.requires e.0;
+          took = took_from _ _ c.args.rooms.now.kept _ c.requires e.0;
           refused = e.1;
           told = refl;
           stopped = c.stopped.ensures.stopped;
@@ -40,7 +40,7 @@ returns-in-Err-request_framing-clause-ends g c =
           unasked = refl;
           head = read.0;
           is = read.1;
-          took = took_from _ _ c.args.kept.now _ c.requires read.3;
+          took = took_from _ _ c.args.rooms.now.kept _ c.requires read.3;
           told = refl;
           error = c.in-Err-request_framing.e;
           why = sym (c.in-Err-request_framing.ensures.framing ∙ ap (λ (h : Head). request_framing h.headers) read.2);
@@ -56,7 +56,7 @@ returns-clause-ends g c =
     let read = c.in-Ok.ensures.ok in
     let signed = c.sign_in.ensures.ends in (
       signed.0,
-      signed.1 ++ c.sign_in.new.kept,
+      signed.1 ++ c.sign_in.new.rooms.kept,
       signed.2,
       inr (record {
         head = read.0;
@@ -65,7 +65,7 @@ returns-clause-ends g c =
         kept = c.read_head.new.kept;
         reads = g.I.Source.faults c.read_head.new.input;
         framing = c.in-Ok-request_framing.framing;
-        took = took_from _ _ c.args.kept.now _ c.requires read.3;
+        took = took_from _ _ c.args.rooms.now.kept _ c.requires read.3;
         counted = c.read_head.ensures.counted;
         framed = sym (c.in-Ok-request_framing.ensures.framing ∙ ap (λ (h : Head). request_framing h.headers) read.2);
         follows = follows_of g.R.Random.left g.R.Random.faults c.args.random.now c.sign_in.new.random c.args.door.now c.in-Ok.head read.0
