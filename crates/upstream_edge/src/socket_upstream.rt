@@ -4,7 +4,6 @@ ghost use Rattle.hub_devices.specs.FailingCalls.{one_more};
 
 use crate::sides::{TunnelSink, TunnelSource};
 use carries::{Carried, Carrier, carry_head};
-use http_wire::buffer::WireBuffer;
 use http_wire::error::SessionFault;
 use http_wire::head::Head;
 use http_wire::writes::write_all;
@@ -13,6 +12,7 @@ use hub_devices::source::{Failed, Source};
 use hub_edge::connection::{SocketSink, SocketSource};
 use hub_edge::targets::connect;
 use hub_kit::target::Target;
+use piece_window::rooms::Rooms;
 use proxy_wire::framing::Framing;
 use std::alloc::Global;
 use std::thread::Threads;
@@ -178,12 +178,12 @@ impl<'a, T: Threads, O: Shuts> Carrier<SocketSource, O> for SocketUpstream<'a, T
         framing: Framing,
         target: &Target,
         input: &mut SocketSource,
-        kept: &mut WireBuffer,
+        rooms: &mut Rooms,
         output: &mut O,
     ) -> Result<Carried<TunnelSource, TunnelSink>, SessionFault> {
         let threads = self.threads;
         carry_head(
-            threads, alloc, head, framing, target, input, kept, output, self,
+            threads, alloc, head, framing, target, input, rooms, output, self,
         )
     }
 }
