@@ -9,10 +9,11 @@ use hub_devices::random::Random;
 use hub_kit::names::ServerKey;
 use hub_kit::target::Target;
 use hub_link::link::HubLink;
+use piece_window::rooms::Rooms;
 use std::alloc::{AllocError, Global};
 use upstreams::upstream::Upstream;
 
-/// A guard by tokens for each kit.
+/// A guard by tokens for each kit, with rooms of its own.
 pub(crate) fn hire_by_token<'a, H: HubLink + Drop, R: Random + Drop, U: Upstream + Drop>(
     alloc: Global,
     key: &'a ServerKey,
@@ -23,12 +24,18 @@ pub(crate) fn hire_by_token<'a, H: HubLink + Drop, R: Random + Drop, U: Upstream
 {
     let mut guards = Vec::new(alloc);
     while let Some(kit) = kits.pop() {
-        guards.push(TokenGuard { key, target, kit })?;
+        let rooms = Rooms::new(alloc);
+        guards.push(TokenGuard {
+            key,
+            target,
+            kit,
+            rooms,
+        })?;
     }
     Ok(guards)
 }
 
-/// A guard that lets browsers sign in for each kit.
+/// A guard that lets browsers sign in for each kit, with rooms of its own.
 pub(crate) fn hire_at_door<'a, H: HubLink + Drop, R: Random + Drop, U: Upstream + Drop>(
     alloc: Global,
     door: &'a Door,
@@ -38,7 +45,8 @@ pub(crate) fn hire_at_door<'a, H: HubLink + Drop, R: Random + Drop, U: Upstream 
 {
     let mut guards = Vec::new(alloc);
     while let Some(kit) = kits.pop() {
-        guards.push(SignInGuard { door, kit })?;
+        let rooms = Rooms::new(alloc);
+        guards.push(SignInGuard { door, kit, rooms })?;
     }
     Ok(guards)
 }

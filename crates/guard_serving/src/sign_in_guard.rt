@@ -9,6 +9,7 @@ use guard_login::entries::enter_one;
 use hub_devices::random::Random;
 use hub_devices::source::Source;
 use hub_link::link::HubLink;
+use piece_window::rooms::Rooms;
 use std::alloc::Global;
 use std::sync::Wait;
 use tunnel::shuts::Shuts;
@@ -20,6 +21,8 @@ use worker_hall::Serves;
 pub struct SignInGuard<'a, H: HubLink, R: Random, U: Upstream> {
     pub door: &'a Door,
     pub kit: GuardKit<H, R, U>,
+    /// What each connection goes through.
+    pub rooms: Rooms,
 }
 
 impl<'a, H: HubLink, R: Random, U: Carrier<I, O>, I: Source, O: Shuts> Serves<I, O>
@@ -61,6 +64,7 @@ impl<'a, H: HubLink, R: Random, U: Carrier<I, O>, I: Source, O: Shuts> Serves<I,
             &mut self.kit.link,
             &mut self.kit.random,
             input,
+            &mut self.rooms,
             output,
             &mut self.kit.upstream,
         );

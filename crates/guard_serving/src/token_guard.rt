@@ -10,6 +10,7 @@ use hub_devices::source::Source;
 use hub_kit::names::ServerKey;
 use hub_kit::target::Target;
 use hub_link::link::HubLink;
+use piece_window::rooms::Rooms;
 use std::alloc::Global;
 use std::sync::Wait;
 use tunnel::shuts::Shuts;
@@ -22,6 +23,8 @@ pub struct TokenGuard<'a, H: HubLink, R: Random, U: Upstream> {
     pub key: &'a ServerKey,
     pub target: &'a Target,
     pub kit: GuardKit<H, R, U>,
+    /// What each connection goes through.
+    pub rooms: Rooms,
 }
 
 impl<'a, H: HubLink, R: Random, U: Carrier<I, O>, I: Source, O: Shuts> Serves<I, O>
@@ -63,6 +66,7 @@ impl<'a, H: HubLink, R: Random, U: Carrier<I, O>, I: Source, O: Shuts> Serves<I,
             self.target,
             &mut self.kit.link,
             input,
+            &mut self.rooms,
             output,
             &mut self.kit.upstream,
         );
