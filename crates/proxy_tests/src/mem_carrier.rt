@@ -1,11 +1,11 @@
 //! An upstream in memory that carries requests itself.
 use carries::{Carried, Carrier, carry_head};
-use http_wire::buffer::WireBuffer;
 use http_wire::error::SessionFault;
 use http_wire::head::Head;
 use hub_devices::mem_bytes::{MemSink, MemSource};
 use hub_devices::source::Failed;
 use hub_kit::target::Target;
+use piece_window::rooms::Rooms;
 use proxy_wire::framing::Framing;
 use std::alloc::Global;
 use std::thread::Threads;
@@ -62,12 +62,12 @@ impl<'a, T: Threads, O: Shuts> Carrier<MemSource, O> for MemCarrier<'a, T> {
         framing: Framing,
         target: &Target,
         input: &mut MemSource,
-        kept: &mut WireBuffer,
+        rooms: &mut Rooms,
         output: &mut O,
     ) -> Result<Carried<MemSource, Gate<MemSink>>, SessionFault> {
         let threads = self.threads;
         carry_head(
-            threads, alloc, head, framing, target, input, kept, output, self,
+            threads, alloc, head, framing, target, input, rooms, output, self,
         )
     }
 }

@@ -4,7 +4,6 @@ ghost use Rattle.std.specs.Prelude.{◌<◌, ◌≤◌, None, false, ℕ, length
 use crate::check::{bytes, check, table};
 use crate::mem_carrier::MemCarrier;
 use carries::{Carried, Carrier, carry_head, carry_one};
-use http_wire::buffer::WireBuffer;
 use http_wire::error::SessionFault;
 use http_wire::head::Head;
 use hub_devices::mem_bytes::{MemSink, MemSource};
@@ -12,6 +11,7 @@ use hub_devices::sink::Sink;
 use hub_devices::source::{Failed, Source};
 use hub_kit::moment::Moment;
 use hub_kit::target::Target;
+use piece_window::rooms::Rooms;
 use proxy_core::refusals::Forwarded;
 use proxy_wire::framing::Framing;
 use std::alloc::Global;
@@ -156,7 +156,14 @@ fn ended_so(ended: Result<Carried<MemSource, Gate<MemSink>>, SessionFault>, end:
     }
 }
 
-fn ends_so<R: Threads + Abort>(rt: &R, alloc: Global, cut: usize, row: &Carriage) -> bool {
+/// Carries a row's request through rooms that may hold what an earlier row has left.
+fn ends_so<R: Threads + Abort>(
+    rt: &R,
+    alloc: Global,
+    cut: usize,
+    rooms: &mut Rooms,
+    row: &Carriage,
+) -> bool {
     let mut routes = table(rt, alloc);
     let mut source = MemSource::new(bytes(rt, alloc, row.input), cut, Vec::new(alloc));
     let mut sink = Gate::new(MemSink::new(alloc, Vec::new(alloc)));
@@ -170,6 +177,7 @@ fn ends_so<R: Threads + Abort>(rt: &R, alloc: Global, cut: usize, row: &Carriage
         &mut routes,
         Moment::zero(),
         &mut source,
+        rooms,
         &mut sink,
         &mut up,
     );
@@ -185,8 +193,9 @@ fn ends_so<R: Threads + Abort>(rt: &R, alloc: Global, cut: usize, row: &Carriage
 #[test]
 fn carriages(rt: HostRuntime) {
     let alloc = rt.alloc();
+    let mut rooms = Rooms::new(alloc);
     for row in &CARRIAGES {
-        check(&rt, ends_so(&rt, alloc, 1000, row), row.name);
+        check(&rt, ends_so(&rt, alloc, 1000, &mut rooms, row), row.name);
     }
 }
 
@@ -194,9 +203,10 @@ fn carriages(rt: HostRuntime) {
 #[test]
 fn byte_by_byte(rt: HostRuntime) {
     let alloc = rt.alloc();
+    let mut rooms = Rooms::new(alloc);
     for row in &CARRIAGES {
         if row.failing == NEVER {
-            check(&rt, ends_so(&rt, alloc, 1, row), row.name);
+            check(&rt, ends_so(&rt, alloc, 1, &mut rooms, row), row.name);
         }
     }
 }
@@ -328,12 +338,12 @@ impl<'a, T: Threads, O: Shuts> Carrier<Waiting<'a>, O> for WaitingUp<'a, T> {
         framing: Framing,
         target: &Target,
         input: &mut Waiting<'a>,
-        kept: &mut WireBuffer,
+        rooms: &mut Rooms,
         output: &mut O,
     ) -> Result<Carried<Waiting<'a>, Gate<Telling<'a>>>, SessionFault> {
         let threads = self.threads;
         carry_head(
-            threads, alloc, head, framing, target, input, kept, output, self,
+            threads, alloc, head, framing, target, input, rooms, output, self,
         )
     }
 }
@@ -363,6 +373,7 @@ fn one_byte_each<'a, R: Threads + Abort>(
         &mut routes,
         Moment::zero(),
         &mut input,
+        &mut Rooms::new(alloc),
         &mut output,
         &mut up,
     );
