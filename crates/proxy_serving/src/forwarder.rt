@@ -5,6 +5,7 @@ ghost use Rattle.proxy_serving.specs.Served.{IsForwarded};
 use carries::{Carrier, carry_one};
 use hub_devices::clock::Clock;
 use hub_devices::source::Source;
+use piece_window::rooms::Rooms;
 use route_table::lookup::Lookup;
 use std::alloc::Global;
 use std::sync::Wait;
@@ -24,6 +25,8 @@ pub struct ProxyKit<U: Upstream, C: Clock> {
 pub struct Forwarder<R: Lookup, U: Upstream, C: Clock> {
     pub routes: R,
     pub kit: ProxyKit<U, C>,
+    /// What each connection goes through.
+    pub rooms: Rooms,
 }
 
 impl<R: Lookup, U: Carrier<I, O>, C: Clock, I: Source, O: Shuts> Serves<I, O>
@@ -66,6 +69,7 @@ impl<R: Lookup, U: Carrier<I, O>, C: Clock, I: Source, O: Shuts> Serves<I, O>
             &mut self.routes,
             now,
             input,
+            &mut self.rooms,
             output,
             &mut self.kit.upstream,
         );

@@ -4,12 +4,13 @@ ghost use Rattle.std.specs.Prelude.{◌≡◌, ◌<◌, length, All, IfOk};
 use crate::forwarder::{Forwarder, ProxyKit};
 use desk::{Desk, Pass};
 use hub_devices::clock::Clock;
+use piece_window::rooms::Rooms;
 use route_desk::{RouteBook, Router};
 use std::alloc::{AllocError, Global};
 use std::sync::Wait;
 use upstreams::upstream::Upstream;
 
-/// A forwarder for each kit.
+/// A forwarder for each kit, with rooms of its own.
 pub(crate) fn hire<'a, U: Upstream + Drop, C: Clock + Drop, W: Wait>(
     alloc: Global,
     wait: &'a W,
@@ -25,7 +26,8 @@ pub(crate) fn hire<'a, U: Upstream + Drop, C: Clock + Drop, W: Wait>(
     while let Some(kit) = kits.pop() {
         let pass = desk.split(pass)?;
         let routes = Router { wait, desk, pass };
-        forwarders.push(Forwarder { routes, kit })?;
+        let rooms = Rooms::new(alloc);
+        forwarders.push(Forwarder { routes, kit, rooms })?;
     }
     Ok(forwarders)
 }
