@@ -20,7 +20,7 @@ use Rattle.hub_core.specs.Live.{AreAdopting}
 use Rattle.hub_core.specs.Visits.{Entry, Reached, Standing, entries_of}
 use Rattle.hub_core.specs.declared.live.LiveServer.{LiveServer}
 use Rattle.hub_core.specs.declared.start.Start.{Start}
-use Rattle.hub_run.specs.Turns.{View, at_chain}
+use Rattle.hub_core.specs.Views.{View, at_chain}
 use Rattle.hub_adopt.specs.Adopting.{Looks, work_of}
 use Rattle.hub_adopt.specs.Found.{AreFound}
 

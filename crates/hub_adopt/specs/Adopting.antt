@@ -12,7 +12,7 @@ use Rattle.hub_core.specs.LifeBook.{LeadsToLives, Notes}
 use Rattle.hub_core.specs.Visits.{Entry}
 use Rattle.hub_core.specs.declared.live.LiveServer.{LiveServer}
 use Rattle.hub_core.specs.declared.start.Start.{Start}
-use Rattle.hub_run.specs.Turns.{View, at_chain}
+use Rattle.hub_core.specs.Views.{View, at_chain}
 use Rattle.hub_adopt.specs.Found.{AreFound}
 
 -- the work of a server that is adopted, by the path of its route; nothing is started, so there is no secret

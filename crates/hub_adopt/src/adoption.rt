@@ -2,18 +2,18 @@
 ghost use Rattle.std.specs.Prelude.{◌≡◌, ◌≤◌, Some, IfOk, IfErr};
 ghost use Rattle.hub_adopt.specs.Adopting.{Looks, TakesBack};
 ghost use Rattle.hub_core.specs.declared.start.Start.{Start};
-ghost use Rattle.hub_run.specs.Turns.{view_of};
+ghost use Rattle.hub_core.specs.Views.{view_of};
 
 use crate::search::Search;
 use crate::works::works_for;
 use desk::{Desk, Pass};
 use hub_core::book::Book;
+use hub_core::kit::HubKit;
 use hub_devices::clock::Clock;
 use hub_devices::random::Random;
 use hub_devices::route_link::RouteLink;
 use hub_devices::spawner::Spawner;
 use hub_machine::change::Change;
-use hub_run::HubKit;
 use keeper::keeper::Keeper;
 use keeper::trail::Trail;
 use server_work::adopt::Adopted;

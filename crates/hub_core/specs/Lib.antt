@@ -13,3 +13,4 @@ pub mod Carrying
 pub mod Tied
 pub mod Opened
 pub mod Removed
+pub mod Views

@@ -10,6 +10,7 @@ mod caller;
 mod decide;
 mod dispatch;
 mod holding;
+pub mod kit;
 mod laws;
 pub mod life_book;
 pub mod live;

@@ -13,7 +13,7 @@ use Rattle.hub_opening.specs.declared.config.ConfigToken.{ConfigToken}
 use Rattle.hub_opening.specs.declared.config.ConfigUser.{ConfigUser}
 use Rattle.hub_opening.specs.declared.config.HubConfig.{HubConfig}
 use Rattle.hub_run.specs.Turns.{View, view_of}
-use Rattle.hub_run.specs.declared.kit.HubKit.{HubKit}
+use Rattle.hub_core.specs.declared.kit.HubKit.{HubKit}
 use Rattle.keeper.specs.Rows.{no_rows}
 use Rattle.load_asks.specs.Numbers.{draw}
 use Rattle.scope_filters.specs.declared.holder.Owner.TheVariants.{User}

@@ -4,7 +4,7 @@ use Rattle.hub_devices.specs.declared.calls.Spawning.{Spawning}
 use Rattle.hub_devices.specs.declared.calls.Routing.{Routing}
 use Rattle.hub_devices.specs.declared.calls.Told.{Told}
 use Rattle.hub_run.specs.Turns.{Faults}
-use Rattle.hub_run.specs.declared.kit.HubKit.{HubKit}
+use Rattle.hub_core.specs.declared.kit.HubKit.{HubKit}
 
 -- the bytes that a source has left, or that a sink holds, and its faults
 pub record StreamTold : Type 0 where

@@ -1,14 +1,11 @@
 -- The turns of a connection: what each reads, what it answers, and what it leaves of the pass and of the devices.
 use Rattle.std.specs.Prelude.{◌≡◌, ◌⊎◌, ℕ, ◌+◌, ◌≤◌, Bool, true, ltb, if◌then◌else◌, List, [], ◌∷◌, ◌++◌, Option, Some, None, is_some, Ok, Err}
 use mathlib.Core.List.{IsPrefix}
-use Rattle.desk.specs.Passes.{PassState, IsSamePass}
+use Rattle.desk.specs.Passes.{IsSamePass}
 use Rattle.desk.specs.OwnEntries.{added}
 use Rattle.hub_devices.specs.ToCome.{Tells}
 use Rattle.hub_devices.specs.Faults.{Rises}
 use Rattle.hub_devices.specs.Streams.{Takes}
-use Rattle.hub_devices.specs.declared.calls.Spawning.{Spawning}
-use Rattle.hub_devices.specs.declared.calls.Routing.{Routing}
-use Rattle.hub_devices.specs.declared.calls.Told.{Told}
 use Rattle.hub_devices.specs.Calls.{Grows}
 use Rattle.http_wire.specs.declared.error.WireError.{WireError}
 use Rattle.http_wire.specs.declared.request.Request.{Request}
@@ -19,7 +16,7 @@ use Rattle.server_work.specs.declared.work.Work.{Work}
 use Rattle.server_work.specs.declared.work.Device.{Device}
 use Rattle.server_work.specs.declared.work.Device.TheVariants.{Spawner, Proxy}
 use Rattle.server_work.specs.declared.tale.Tale.{Tale}
-use Rattle.server_work.specs.Chains.{At, Chain, ChainEnds, Comes, sight}
+use Rattle.server_work.specs.Chains.{Chain, ChainEnds, Comes, sight}
 use Rattle.hub_machine.specs.Draws.{draws}
 use Rattle.hub_machine.specs.Replies.{Reply, answered, working}
 use Rattle.hub_machine.specs.Answers.{outcome_view}
@@ -28,6 +25,7 @@ use Rattle.hub_machine.specs.declared.call.Asked.{Asked}
 use Rattle.hub_machine.specs.declared.reply.Outcome.{Outcome}
 use Rattle.hub_core.specs.Visits.{Entry, AnsweredAt, FaultedAt}
 use Rattle.hub_core.specs.LifeBook.{LeadsToLives, Notes}
+pub use Rattle.hub_core.specs.Views.{Faults, View, view_of, at_chain}
 use Rattle.hub_core.specs.declared.start.Start.{Start}
 use Rattle.hub_api.specs.Calls.{call_read}
 use Rattle.hub_api.specs.Refusals.{api_refusal, no_draw, wire_refusal}
@@ -35,7 +33,6 @@ use Rattle.hub_api.specs.declared.refusal.ApiRefusal.{ApiRefusal}
 use Rattle.reply_texts.specs.ReplyText.{reply_text, no_memory}
 use Rattle.hub_run.specs.Routed.{Asking, IsAskingOf, IsPlanned, IsSaidOf, has_failed, lets, told_of}
 use Rattle.hub_run.specs.Works.{errand_of, path_for, tale_reply}
-use Rattle.hub_run.specs.declared.kit.HubKit.{HubKit}
 use Rattle.hub_run.specs.declared.routed.Way.{Way}
 
 -- a visit: its moment and its draw, the entries that it found and those that it left, and the keeper's counts of faults before and after it
@@ -226,33 +223,6 @@ TurnAt start left bytes wanting rest = (gone : List ℕ) × WithinRequest gone �
 
 -- ---- what it leaves
 
--- how often the source of draws, the spawner and the route link have failed
-pub record Faults : Type 0 where
-  pub random : ℕ
-  pub spawner : ℕ
-  pub routes : ℕ
-
--- what a connection knows beside its bytes: its pass, the moments and the draws to come, the calls that the spawner and the route link tell, and the faults
-pub record View : Type 0 where
-  pub pass : PassState Entry Start
-  pub clock : Option (ℕ → ℕ)
-  pub draws : Option (List (List ℕ))
-  pub spawner : Option (List (Spawning × Told))
-  pub routes : Option (List (Routing × Told))
-  pub faults : Faults
-
--- what a connection knows of a pass and a kit of devices, by what these tell
-abbrev pub view_of : {S P C R : Type 0} → (C → Option (ℕ → ℕ)) → (R → Option (List (List ℕ))) → (S → Option (List (Spawning × Told))) → (P → Option (List (Routing × Told)))
-    → (R → ℕ) → (S → ℕ) → (P → ℕ) → PassState Entry Start → HubKit S P C R → View
-view_of to_come left spawned linked draw_faults spawn_faults route_faults pass kit = record {
-  pass = pass;
-  clock = to_come kit.clock;
-  draws = left kit.random;
-  spawner = spawned kit.spawner;
-  routes = linked kit.routes;
-  faults = record { random = draw_faults kit.random; spawner = spawn_faults kit.spawner; routes = route_faults kit.routes };
-}
-
 -- what was drawn was the first to come, if something was
 abbrev pub Drew : Option (List ℕ) → Option (List (List ℕ)) → ℕ → Option (List (List ℕ)) → ℕ → Type 0
 Drew None left faults left' faults' = (left' ≡ left) × (faults' ≡ faults)
@@ -277,10 +247,6 @@ pub record Visits (x : View) (v : Visit) (y : View) : Type 0 where
   pub spawner : y.spawner ≡ x.spawner
   pub routes : y.routes ≡ x.routes
   pub others : (y.faults.spawner ≡ x.faults.spawner) × (y.faults.routes ≡ x.faults.routes)
-
--- the pass, and the calls that the devices tell
-abbrev pub at_chain : View → At Entry Start
-at_chain x = record { pass = x.pass; spawner = x.spawner; routes = x.routes }
 
 -- the count of a device: it doesn't fall, and it rose where a call of this device was the first of the chain to fail
 abbrev pub IsCounted : Device → Option Tale → ℕ → ℕ → Type 0

@@ -9,7 +9,6 @@ ghost use Rattle.hub_run.specs.Turns.{view_of};
 ghost use Rattle.hub_run.specs.Works.{path_for};
 ghost use Rattle.hub_run.specs.Written.{written_bytes};
 
-use crate::kit::HubKit;
 use crate::routed::{text_of_reply, way_of};
 use crate::visit::{Unanswered, ask};
 use crate::works::{path_for, work_done};
@@ -18,6 +17,7 @@ use desk::{Desk, Pass};
 use http_wire::request::Request;
 use hub_api::{ApiRefusal, read_call};
 use hub_core::book::Book;
+use hub_core::kit::HubKit;
 use hub_devices::clock::Clock;
 use hub_devices::random::Random;
 use hub_devices::route_link::RouteLink;

@@ -5,13 +5,13 @@ ghost use Rattle.hub_devices.specs.Faults.{Rises};
 ghost use Rattle.hub_run.specs.Connections.{ConnectionEnds};
 ghost use Rattle.hub_run.specs.Turns.{view_of};
 
-use crate::kit::HubKit;
 use crate::served::{Served, TurnEnd};
 use crate::turn::turn;
 use desk::{Desk, Pass};
 use http_wire::buffer::WireBuffer;
 use http_wire::error::SessionFault;
 use hub_core::book::Book;
+use hub_core::kit::HubKit;
 use hub_devices::clock::Clock;
 use hub_devices::random::Random;
 use hub_devices::route_link::RouteLink;

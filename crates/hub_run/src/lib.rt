@@ -5,7 +5,6 @@
 
 mod answering;
 mod connection;
-mod kit;
 mod laws;
 mod routed;
 mod served;
@@ -15,7 +14,7 @@ mod works;
 mod written;
 
 pub use connection::{REPLY_LIMIT, serve_connection};
-pub use kit::HubKit;
+pub use hub_core::kit::HubKit;
 pub use laws::{
     a_503_is_counted, a_connection_gains_what_its_turns_gain, a_removed_token_is_turned_away,
     a_request_gets_its_turn, a_request_without_faults_is_served, a_visited_request_gets_its_answer,

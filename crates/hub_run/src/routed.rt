@@ -25,10 +25,10 @@ ghost use Rattle.hub_sync.specs.declared.calls.SyncFault.{SyncFault};
 ghost use Rattle.hub_sync.specs.declared.calls.SyncFault.TheVariants as Fault;
 ghost use Rattle.server_work.specs.Chains.{sight, Comes};
 
-use crate::kit::HubKit;
 use crate::written::{Written, text_of};
 use desk::{Desk, Pass};
 use hub_core::book::Book;
+use hub_core::kit::HubKit;
 use hub_devices::calls::ListedRoute;
 use hub_devices::clock::Clock;
 use hub_devices::link_error::LinkError;

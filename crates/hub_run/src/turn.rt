@@ -11,7 +11,6 @@ ghost use Rattle.hub_run.specs.Turns.{Turn, TurnAt, Moves, turn_text, closes, vi
 ghost use Rattle.hub_run.specs.Written.{written_bytes};
 
 use crate::answering::answer;
-use crate::kit::HubKit;
 use crate::served::TurnEnd;
 use crate::written::{Written, text_of_wire};
 use desk::{Desk, Pass};
@@ -20,6 +19,7 @@ use http_wire::error::WireError;
 use http_wire::requests::read_request;
 use http_wire::writes::write_all;
 use hub_core::book::Book;
+use hub_core::kit::HubKit;
 use hub_devices::clock::Clock;
 use hub_devices::random::Random;
 use hub_devices::route_link::RouteLink;

@@ -7,11 +7,11 @@ ghost use Rattle.hub_machine.specs.Draws.{draws};
 ghost use Rattle.hub_run.specs.Steps.{Asks};
 ghost use Rattle.hub_run.specs.Turns.{Drew, view_of};
 
-use crate::kit::HubKit;
 use desk::{Desk, Pass};
 use hub_api::draws;
 use hub_core::ask::Ask;
 use hub_core::book::Book;
+use hub_core::kit::HubKit;
 use hub_devices::clock::Clock;
 use hub_devices::random::Random;
 use hub_devices::route_link::RouteLink;

@@ -5,9 +5,9 @@ ghost use Rattle.hub_run.specs.Turns.{Errand, Drives, view_of};
 ghost use Rattle.hub_run.specs.Works as spec;
 ghost use Rattle.hub_run.specs.Works.{errand_of};
 
-use crate::kit::HubKit;
 use desk::{Desk, Pass};
 use hub_core::book::Book;
+use hub_core::kit::HubKit;
 use hub_devices::clock::Clock;
 use hub_devices::random::Random;
 use hub_devices::route_link::RouteLink;

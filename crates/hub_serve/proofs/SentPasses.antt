@@ -11,7 +11,7 @@ use Rattle.desk.specs.declared.booked.Booked as booked
 use Rattle.desk.specs.contracts.desk.Desk as Desk
 use Rattle.desk.specs.contracts.desk.Desk.TheInside as Inside
 use Rattle.desk.specs.contracts.desk.Pass as Pass
-use Rattle.hub_run.specs.contracts.kit.HubKit as HubKit
+use Rattle.hub_core.specs.contracts.kit.HubKit as HubKit
 
 module _ (B E A : RattleType) (g : booked.Ghosts B.Denot E.Denot A.Denot) where
   pub pass_send : IsSend B → IsSend (Pass.the_row B E A g)

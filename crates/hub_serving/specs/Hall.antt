@@ -7,7 +7,7 @@ use Rattle.hub_devices.specs.declared.calls.Told.{Told}
 use Rattle.hub_core.specs.Visits.{Entry}
 use Rattle.hub_core.specs.declared.start.Start.{Start}
 use Rattle.hub_run.specs.Turns.{View}
-use Rattle.hub_run.specs.declared.kit.HubKit.{HubKit}
+use Rattle.hub_core.specs.declared.kit.HubKit.{HubKit}
 use Rattle.hub_main.specs.Told.{StreamTold, KitTold, kit_told}
 use Rattle.services_run.specs.Calls.{RunCall}
 use Rattle.service_doors.specs.Tending.{ServicesTold, services_told}

@@ -6,7 +6,7 @@ use Rattle.server_work.specs.Gains.{sum_of}
 use Rattle.hub_core.specs.LifeBook.{LeadsToLives, Notes}
 use Rattle.hub_core.specs.Visits.{Entry}
 use Rattle.hub_core.specs.declared.start.Start.{Start}
-use Rattle.hub_run.specs.Turns.{View, at_chain, view_of}
+use Rattle.hub_core.specs.Views.{View, at_chain, view_of}
 use Rattle.hub_adopt.specs.Adopting.{work_of}
 use Rattle.hub_adopt.proofs.Looking.{all_small, finds, gains_since, looks}
 use Rattle.hub_adopt.proofs.adoption.adopt.Goals as goal

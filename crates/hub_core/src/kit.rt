@@ -1,4 +1,4 @@
-//! The devices of a connection, but for its bytes.
+//! The devices of those who visit the book.
 
 /// What starts programs, adds routes, tells the time and gives random bytes.
 #[derive(Drop)]
