@@ -8,9 +8,9 @@ use Rattle.hub_machine.specs.State.{Hub}
 use Rattle.hub_machine.specs.Replies as spec
 use Rattle.hub_machine.specs.Replies.{Answer, answered, outcome_of, refusal_reply}
 use Rattle.hub_machine.specs.Apply.{apply}
-use Rattle.hub_core.proofs.Tied.{follows_more}
+use Rattle.hub_core.proofs.Tied.{follows_more, none_more}
 use Rattle.hub_core.specs.History.{Answers, IsEntry, change_of, state_after}
-use Rattle.hub_core.specs.Visits.{Standing, Entry, Gave, Faulted, Reached, Visited, AnsweredAt, FaultedAt, VisitedAt, listed, noted, noted_as, with_entry, told_after}
+use Rattle.hub_core.specs.Visits.{Standing, Entry, Follows, Gave, Faulted, Reached, Visited, AnsweredAt, FaultedAt, VisitedAt, listed, noted, noted_as, with_entry, told_after}
 use Rattle.hub_core.specs.Tied.{IsTied}
 use Rattle.hub_core.specs.Carrying.{Carrier, Carried, Did, Undid, long_after}
 use Rattle.hub_core.specs.declared.start.Start.{Start}
@@ -48,7 +48,7 @@ pub reached : (start : Hub) (has : Bool) (hub : Hub) (told : Option (List Change
 reached start has hub None long t = record {
   length = listed_length start hub None long t;
   told = λ e. absurd (true_false (sym e));
-  blank = λ e. refl;
+  blank = λ e. (t.led.0, ap (listed None) (t.longer ∙ sym t.led.1), t.led.2);
 }
 reached start has hub (Some h) long t = record {
   length = listed_length start hub (Some h) long t;
@@ -192,6 +192,18 @@ one_state start before s t tells here there =
     let b = there.told tells in
     a.2.state ∙ ap (state_after start.machine) (same_told a.0 b.0 (sym a.1 ∙ b.1)) ∙ sym b.2.state
 
+-- ---- no entries lead to the state of the opening
+
+at_once : (start s : Hub) (h : List Change) → length h ≡ 0 → Follows start s h → s ≡ start
+at_once start s h none f = f.state ∙ ap (state_after start) (none_more h none)
+
+no_entries : (start : Start) (s : Hub) (tells : Bool) → start.tells ≡ tells → Reached start [] s → s ≡ start.machine
+no_entries start s true e r = let a = r.told e in at_once start.machine s a.0 (sym (length-map a.0 Some) ∙ ap length (sym a.1)) a.2
+no_entries start s false e r = let a = r.blank e in at_once start.machine s a.0 (sym (length-replicate (length a.0) None) ∙ ap length (sym a.1)) a.2
+
+pub at_opening : (start : Start) (s : Hub) → Reached start [] s → s ≡ start.machine
+at_opening start s r = no_entries start s start.tells refl r
+
 -- ---- one entry more
 
 reached_more : (start : Start) (before : List Entry) (s : Hub) (c : Change) (tells : Bool) → start.tells ≡ tells → Reached start before s → IsEntry s c
@@ -204,7 +216,12 @@ reached_more start before s c true told h entry = record {
 reached_more start before s c false told h entry = record {
   length = ap (λ n. n + 1) h.length ∙ sym (length-append before (None ∷ []));
   told = λ e. absurd (true_false (sym e ∙ told));
-  blank = λ e. ap (λ es. es ++ None ∷ []) (h.blank told) ∙ sym (replicate_next s.length None);
+  blank = λ e.
+      let b = h.blank told in (
+        b.0 ++ c ∷ [],
+        ap (λ es. es ++ None ∷ []) b.1 ∙ sym (replicate_next (length b.0) None) ∙ ap (listed None) (sym (length-append b.0 (c ∷ []))),
+        follows_more start.machine s b.0 c b.2 entry,
+      );
 }
 
 -- the entries lead to the state after the last of them

@@ -33,10 +33,17 @@ follows_more s t h c f e = record {
   state = ap (apply c) f.state ∙ sym (state_more s h c);
 }
 
+-- one change more behind those that led here
+led_more : (start s : Hub) (long : ℕ) (c : Change) → IsEntry s c → (h : List Change) × (length h ≡ long) × Follows start s h
+    → (h : List Change) × (length h ≡ long + 1) × Follows start (apply c s) h
+led_more start s long c entry led =
+    (led.0 ++ c ∷ [], length-append led.0 (c ∷ []) ∙ ap (λ n. n + 1) led.1, follows_more start s led.0 c led.2 entry)
+
 pub tied_more : (start s : Hub) (told : Option (List Change)) (long : ℕ) (c : Change) → IsEntry s c → IsTied start s told long
     → IsTied start (apply c s) (told_after (Some c) told) (long + 1)
 tied_more start s None long c entry t = record {
   followed = λ h e. absurd (none_some h e);
+  led = led_more start s long c entry t.led;
   longer = ap (λ n. n + 1) t.longer;
   counted = λ h e. absurd (none_some h e);
 }
@@ -44,6 +51,7 @@ tied_more start s (Some h0) long c entry t = record {
   followed = λ h e.
       let P : List Change → Type 0 = λ x. Follows start (apply c s) x in
       subst P (same_some _ _ e) (follows_more start s h0 c (t.followed h0 refl) entry);
+  led = led_more start s long c entry t.led;
   longer = ap (λ n. n + 1) t.longer;
   counted = λ h e. ap (λ n. n + 1) (t.counted h0 refl) ∙ sym (length-append h0 (c ∷ [])) ∙ ap length (same_some _ _ e);
 }
@@ -74,7 +82,7 @@ tied_carried start now draw asked a says (Err e) b b' answers t carried =
 
 -- ---- at opening
 
-none_more : (h : List Change) → length h ≡ 0 → h ≡ []
+pub none_more : (h : List Change) → length h ≡ 0 → h ≡ []
 none_more [] e = refl
 none_more (c ∷ h) e = absurd (omega (arith, e))
 
@@ -84,6 +92,7 @@ tied_opening start hub told long same fresh none counted = record {
   followed = λ h e.
       let P : List Change → Type 0 = λ x. Follows start hub x in
       subst P (sym (none_more h (counted h e ∙ none))) (record { legal = tt; state = sym same });
+  led = ([], sym none, record { legal = tt; state = sym same });
   longer = fresh ∙ sym none;
   counted = λ h e. fresh ∙ sym none ∙ sym (counted h e);
 }

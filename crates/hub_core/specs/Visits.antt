@@ -108,11 +108,11 @@ abbrev pub with_entry : (tells : Bool) → Option Change → List Entry → List
 with_entry tells None before = before
 with_entry tells (Some c) before = before ++ noted_as tells c ∷ []
 
--- this state is what the entries left, and they are legal, where they are told; else they are blank, as many as the state says
+-- legal changes led from the start to this state, and these are their entries: the changes themselves where they are told, else blank ones
 pub record Reached (start : Start) (before : List Entry) (state : Hub) : Type 0 where
-  pub length : state.length ≡ length before
   pub told : start.tells ≡ true → (h : List Change) × (before ≡ map Some h) × Follows start.machine state h
-  pub blank : start.tells ≡ false → before ≡ replicate state.length None
+  pub blank : start.tells ≡ false → (h : List Change) × (before ≡ replicate (length h) None) × Follows start.machine state h
+  pub length : state.length ≡ length before
 
 -- the outcome is that of the answer in the state that the entries before it left
 pub record AnsweredAt (start : Start) (before after : List Entry) (now : ℕ) (draw : Option (List ℕ)) (asked : Asked) (o : Outcome) : Type 0 where

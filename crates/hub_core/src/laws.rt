@@ -1,5 +1,5 @@
 //! What a place of the history decides.
-ghost use Rattle.std.specs.Prelude.{◌≡◌, ◌++◌, ℕ, true, List, Option, Some};
+ghost use Rattle.std.specs.Prelude.{◌≡◌, ◌++◌, ℕ, true, List, [], Option, Some};
 ghost use Rattle.hub_machine.specs.State.{Hub};
 ghost use Rattle.hub_machine.specs.Replies.{Answer};
 ghost use Rattle.hub_machine.specs.declared.call.Asked.{Asked};
@@ -13,6 +13,11 @@ ghost use Rattle.hub_core.specs.declared.start.Start.{Start};
 /// Where the history is told, its entries lead to one state. It does nothing: its contract is the law.
 pub fn entries_lead_to_one_state()
     ensures { (start : Start) (before : List Entry) (s t : Hub) → start.tells ≡ true → Reached start before s → Reached start before t → s ≡ t }
+{}
+
+/// No entries lead to the state of the opening, also where the history isn't told. It does nothing: its contract is the law.
+pub fn no_entries_lead_to_the_opening()
+    ensures { (start : Start) (s : Hub) → Reached start [] s → s ≡ start.machine }
 {}
 
 /// An asked call has one answer in a state, at a moment and with what was drawn. It does nothing: its contract is the law.
