@@ -14,10 +14,10 @@ use Rattle.hub_main.specs.declared.cause.Cause.TheVariants.{Memory}
 use Rattle.hub_main.proofs.Books.{opened_by_end}
 use Rattle.hub_main.proofs.Configurations.{file_fits, file_scopes}
 use Rattle.hub_serving.specs.Hall.{Hall}
-use Rattle.hub_serving.specs.Plans.{HasNoPlan, IsPlanOf}
+use Rattle.hub_serving.specs.Plans.{HasNoPlan, IsPlanOf, IsRead}
 use Rattle.hub_serving.specs.Ends.{End, status_of}
 use Rattle.hub_serving.specs.Served.{EndsOver}
-use Rattle.hub_serving.specs.Commands.{CommandEnds, EndsChosen, RunEnds}
+use Rattle.hub_serving.specs.Commands.{EndsChosen, EndsPlanned, RunEnds}
 use Rattle.hub_serving.specs.declared.plan.Plan.{Plan}
 use Rattle.hub_serving.specs.declared.end.NotServed.TheVariants.{Because}
 
@@ -25,12 +25,12 @@ both_true : (a b : Bool) → (a && b) ≡ true → a ≡ true
 both_true true b h = refl
 both_true false b h = cc
 
-pub plan_fits : (found : Option ServeWords) (files : FilesTold) (plan : Plan) → IsPlanOf found files plan → plan.hub.limits.trail_bytes ≤ 2 ^ 62
+plan_fits : (found : Option ServeWords) (files : FilesTold) (plan : Plan) → IsPlanOf found files plan → plan.hub.limits.trail_bytes ≤ 2 ^ 62
 plan_fits None files plan is = absurd is
 plan_fits (Some words) files plan is =
     subst (λ (c : HubConfig). c.limits.trail_bytes ≤ 2 ^ 62) (sym is.says.hub) (file_fits files words.config is.file is.found)
 
-pub plan_scopes : (found : Option ServeWords) (files : FilesTold) (plan : Plan) → IsPlanOf found files plan → MakeTable plan.hub.custom_scopes
+plan_scopes : (found : Option ServeWords) (files : FilesTold) (plan : Plan) → IsPlanOf found files plan → MakeTable plan.hub.custom_scopes
 plan_scopes None files plan is = absurd is
 plan_scopes (Some words) files plan is =
     subst (λ (c : HubConfig). MakeTable c.custom_scopes) (sym is.says.hub) (file_scopes files words.config is.file is.found)
@@ -39,6 +39,15 @@ pub plan_apart : (found : Option ServeWords) (files : FilesTold) (plan : Plan) �
 plan_apart None files plan is = absurd is
 plan_apart (Some words) files plan is =
     subst (λ (ms : List ConfigManaged). are_distinct ms ≡ true) (sym is.says.managed) (both_true _ _ is.found.said.sound.apart)
+
+pub read_fits : (plan : Plan) → IsRead plan → plan.hub.limits.trail_bytes ≤ 2 ^ 62
+read_fits plan (found, files, is) = plan_fits found files plan is
+
+pub read_scopes : (plan : Plan) → IsRead plan → MakeTable plan.hub.custom_scopes
+read_scopes plan (found, files, is) = plan_scopes found files plan is
+
+pub read_apart : (plan : Plan) → IsRead plan → are_distinct plan.managed ≡ true
+read_apart plan (found, files, is) = plan_apart found files plan is
 
 -- memory was wanting to read the words
 pub wanting_plan : (found : Option ServeWords) (files : FilesTold) → HasNoPlan found files files (Because Memory)
@@ -58,13 +67,13 @@ module _ {K : Type 0} (Tells : K → Type 0) (rows : K → Rows) (faults : K →
 
 module _ {K : Type 0} (Tells : K → Type 0) (rows : K → Rows) (faults : K → ℕ) (Chooses : K → Option (List ℕ) → K → Type 0) where
   -- the store was taken from the outside and put back
-  pub run_ends : (found : Option ServeWords) (files files' : FilesTold) (h h' : Hall) (taken back k k' : K) (end : End) (status : ℕ)
-      → CommandEnds Tells rows faults Chooses found files files' h h' taken back end → status ≡ status_of end → Some taken ≡ Some k → Some back ≡ Some k'
-      → RunEnds Tells rows faults Chooses found files files' h h' k k' (Some end) status
-  run_ends found files files' h h' taken back k k' end status ends is before after = (
+  pub run_ends : (plan : Plan) (h h' : Hall) (taken back k k' : K) (end : End) (status : ℕ)
+      → EndsPlanned Tells rows faults Chooses plan h h' taken back end → status ≡ status_of end → Some taken ≡ Some k → Some back ≡ Some k'
+      → RunEnds Tells rows faults Chooses plan h h' k k' (Some end) status
+  run_ends plan h h' taken back k k' end status ends is before after = (
     end,
     refl,
-    subst (λ (x : K). CommandEnds Tells rows faults Chooses found files files' h h' x k' end) (same taken k before)
-        (subst (λ (x : K). CommandEnds Tells rows faults Chooses found files files' h h' taken x end) (same back k' after) ends),
+    subst (λ (x : K). EndsPlanned Tells rows faults Chooses plan h h' x k' end) (same taken k before)
+        (subst (λ (x : K). EndsPlanned Tells rows faults Chooses plan h h' taken x end) (same back k' after) ends),
     is,
   )

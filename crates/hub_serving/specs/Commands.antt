@@ -3,16 +3,12 @@ use Rattle.std.specs.Prelude.{◌≡◌, ◌⊎◌, ℕ, List, Option, Some, Err
 use Rattle.keeper.specs.Rows.{Rows}
 use Rattle.hub_devices.specs.ToCome as moments
 use Rattle.hub_core.specs.declared.start.Start.{Start}
-use Rattle.hub_words.specs.declared.serve.ServeWords.{ServeWords}
-use Rattle.hub_main.specs.Told.{FilesTold}
 use Rattle.hub_main.specs.Opened.{IsChosen, IsOpened, IsUnchosen, IsUnopened, Stays}
 use Rattle.hub_main.specs.declared.cause.Cause.{Cause}
 use Rattle.hub_serving.specs.Hall.{Hall, IsQuiet}
-use Rattle.hub_serving.specs.Plans.{HasNoPlan, IsPlanOf}
 use Rattle.hub_serving.specs.Ends.{End, status_of}
 use Rattle.hub_serving.specs.Served.{EndsOver}
 use Rattle.hub_serving.specs.declared.plan.Plan.{Plan}
-use Rattle.hub_serving.specs.declared.end.NotServed.{NotServed}
 use Rattle.hub_serving.specs.declared.end.NotServed.TheVariants.{Because}
 
 -- of stores of a kind that tells of each whether its rows are told, its rows and its count of faults: the store k, which is k' at the end
@@ -53,19 +49,6 @@ module _ {K : Type 0} (Tells : K → Type 0) (rows : K → Rows) (faults : K →
   abbrev pub EndsPlanned : Plan → Hall → Hall → K → K → End → Type 0
   EndsPlanned plan h h' k k' end = EndsUnchosen Tells rows faults h h' k k' end ⊎ EndsAt plan h h' k k' end
 
-  -- the words, or what their file says, are none to serve by
-  pub record EndsUnplanned (found : Option ServeWords) (files files' : FilesTold) (h h' : Hall) (k k' : K) (end : End) : Type 0 where
-    pub why : NotServed
-    pub is : end ≡ Err why
-    pub none : HasNoPlan found files files' why
-    pub quiet : IsQuiet h h'
-    pub store : k' ≡ k
-
-  abbrev pub CommandEnds : Option ServeWords → FilesTold → FilesTold → Hall → Hall → K → K → End → Type 0
-  CommandEnds found files files' h h' k k' end =
-      EndsUnplanned found files files' h h' k k' end ⊎ ((plan : Plan) × IsPlanOf found files plan × EndsPlanned plan h h' k k' end)
-
   -- how the command ended, as it is told at the end, and the status of that
-  abbrev pub RunEnds : Option ServeWords → FilesTold → FilesTold → Hall → Hall → K → K → (told : Option End) → (status : ℕ) → Type 0
-  RunEnds found files files' h h' k k' told status =
-      (end : End) × (told ≡ Some end) × CommandEnds found files files' h h' k k' end × (status ≡ status_of end)
+  abbrev pub RunEnds : Plan → Hall → Hall → K → K → (told : Option End) → (status : ℕ) → Type 0
+  RunEnds plan h h' k k' told status = (end : End) × (told ≡ Some end) × EndsPlanned plan h h' k k' end × (status ≡ status_of end)

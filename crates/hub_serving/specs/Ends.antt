@@ -1,5 +1,5 @@
 -- How `serve` ends, what it writes then, and which status that has.
-use Rattle.std.specs.Prelude.{◌≡◌, ℕ, List, ◌++◌, codes, decimal, Option, Result, Ok, Err, if◌then◌else◌}
+use Rattle.std.specs.Prelude.{◌≡◌, ℕ, Bool, ◌&&◌, List, ◌++◌, codes, decimal, Option, Result, Ok, Err, if◌then◌else◌}
 use Rattle.hub_devices.specs.Faults.{Rises}
 use Rattle.hub_devices.specs.Streams.{Appends}
 use Rattle.hub_main.specs.Ends.{cause_status}
@@ -48,3 +48,8 @@ unserved_status NoAddress = 3
 abbrev pub status_of : End → ℕ
 status_of (Ok ended) = if ended.failed then 8 else line_status ended.line
 status_of (Err why) = unserved_status why
+
+-- the same, where a listener that was closed from within hasn't failed
+abbrev pub forgiven_status : (closed : Bool) → End → ℕ
+forgiven_status closed (Ok ended) = if ended.failed && closed then line_status ended.line else status_of (Ok ended)
+forgiven_status closed (Err why) = unserved_status why

@@ -36,6 +36,10 @@ abbrev pub IsPlanOf : Option ServeWords → FilesTold → Plan → Type 0
 IsPlanOf None files plan = ⊥
 IsPlanOf (Some words) files plan = IsPlan files words plan
 
+-- some words and the file that they name say so
+abbrev pub IsRead : Plan → Type 0
+IsRead plan = (found : Option ServeWords) × (files : FilesTold) × IsPlanOf found files plan
+
 -- the words are refused, or memory was wanting to read them; or they are those of `serve`
 abbrev pub HasNoPlan : Option ServeWords → (files files' : FilesTold) → NotServed → Type 0
 HasNoPlan None files files' why = ((why ≡ Because Words) ⊎ (why ≡ Because Memory)) × (files' ≡ files)

@@ -70,6 +70,22 @@ pub fn status_of(end: &End) -> u8
     }
 }
 
+/// The same of a listener that may have been closed from within: then it hasn't failed, and all that it had accepted was served.
+pub fn forgiven_status(end: &End, closed: bool) -> u8
+    ensures { result ≡ spec.forgiven_status closed end.now }
+{
+    match end {
+        Ok(ended) => {
+            if ended.failed && closed {
+                line_status(ended.line)
+            } else {
+                status_of(end)
+            }
+        }
+        Err(why) => why.status(),
+    }
+}
+
 impl NotServed {
     /// The exit status.
     pub fn status(&self) -> u8

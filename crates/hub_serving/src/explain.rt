@@ -17,8 +17,12 @@ fn config_name(alloc: Global, words: &[Text]) -> Result<Text, AllocError> {
     }
 }
 
-/// Why nobody was served.
-fn explain_why(alloc: Global, words: &[Text], why: &NotServed) -> Result<String, AllocError> {
+/// Why these words or their file are none to serve by, in a line.
+pub fn explain_refusal(
+    alloc: Global,
+    words: &[Text],
+    why: &NotServed,
+) -> Result<String, AllocError> {
     match why {
         NotServed::Because(Cause::Words) => format!(in alloc; "{why}: {USAGE}"),
         NotServed::Because(Cause::NoFile) | NotServed::NoAddress => {
@@ -48,13 +52,13 @@ fn explain_ended(ended: &Ended) -> Option<&'static str> {
     }
 }
 
-/// Why `serve` with these words didn't do its work, in a line; nothing where it did.
-pub fn explain(alloc: Global, words: &[Text], end: &End) -> Result<Option<String>, AllocError> {
+/// Why `serve` didn't do its work by its plan, in a line; nothing where it did.
+pub fn explain_end(alloc: Global, end: &End) -> Result<Option<String>, AllocError> {
     match end {
         Ok(ended) => match explain_ended(ended) {
             Some(said) => Ok(Some(String::from_str(alloc, said)?)),
             None => Ok(None),
         },
-        Err(why) => Ok(Some(explain_why(alloc, words, why)?)),
+        Err(why) => Ok(Some(format!(in alloc; "{why}")?)),
     }
 }

@@ -52,7 +52,9 @@ impl Drop for Plan {
     }
 }
 
-/// Reads the words `serve --config F [--db F] [--no-trail] [--workers N] [--connections N]` and their file. It refuses as `run` does.
+/// Reads the words `serve --config F [--db F] [--no-trail] [--workers N] [--connections N]` and their file, once. The status of a refusal is 2
+/// where the words are refused; 3 where the file can't be read, is no configuration, or names no address to listen at; and 7 where memory is
+/// wanting.
 pub fn read_plan<F: Files>(alloc: Global, files: &mut F, words: &[Text]) -> Result<Plan, NotServed>
     ensures ok { IfOk result (spec.IsPlanOf (serve_read words.now) (files_told F.files F.faults files.old)) }
     ensures err { IfErr result (spec.HasNoPlan (serve_read words.now) (files_told F.files F.faults files.old) (files_told F.files F.faults files.new)) }

@@ -1,19 +1,17 @@
-//! The command `serve`, over the outside that the program makes.
+//! The command `serve` by its plan, over the outside that the program makes.
 ghost use Rattle.std.specs.Prelude.{◌≡◌, ◌≤◌, ◌<◌, ◌^◌, not, Some, IsSome, is_some, length, true};
-ghost use Rattle.hub_main.specs.Told.{files_told};
 ghost use Rattle.hub_config.specs.Managed.{are_distinct};
 ghost use Rattle.hub_opening.specs.Kept.{MakeTable};
 ghost use Rattle.hub_serving.specs.Commands as spec;
 ghost use Rattle.hub_serving.specs.Hall.{hall};
-ghost use Rattle.hub_words.specs.Serve.{serve_read};
+ghost use Rattle.hub_serving.specs.Plans.{IsRead};
 
 use crate::end::{End, NotServed, status_of};
-use crate::plan::{Plan, read_plan};
+use crate::plan::Plan;
 use crate::serving::serve_book;
 use crate::world::{ServeOutside, ServeWorld};
 use hub_devices::clock::Clock;
 use hub_kit::moment::Moment;
-use hub_kit::text::Text;
 use hub_machine::change::Change;
 use hub_main::opening::{choose, open_book};
 use keeper::trail::{CountTrail, ListTrail, Trail};
@@ -37,10 +35,9 @@ fn run_over<W: ServeWorld, T: Trail<Entry = Change> + Send, R: Threads + Wait + 
     requires scopes { MakeTable plan.now.hub.custom_scopes }
     requires apart { are_distinct plan.now.managed ≡ true }
     requires kits { 0 < length outside.old.kits.items }
-    ensures ends { spec.EndsChosen W.Store.Tells W.Store.rows W.Store.faults plan.now now
+    ensures { spec.EndsChosen W.Store.Tells W.Store.rows W.Store.faults plan.now now
         (hall W.Out.held W.Out.faults W.Doors.given W.Doors.faults W.Time.to_come W.Draws.left W.Starts.calls W.Paths.calls W.Draws.faults W.Starts.faults W.Paths.faults W.Runs.calls W.Runs.faults outside.old.output outside.old.doors outside.old.kit outside.old.services)
         (hall W.Out.held W.Out.faults W.Doors.given W.Doors.faults W.Time.to_come W.Draws.left W.Starts.calls W.Paths.calls W.Draws.faults W.Starts.faults W.Paths.faults W.Runs.calls W.Runs.faults outside.new.output outside.new.doors outside.new.kit outside.new.services) store result.1 result.0 }
-    ensures files { outside.new.files ≡ outside.old.files }
 {
     match open_book(alloc, store, trail, &plan.hub, now) {
         Ok(book) => serve_book(rt, alloc, book, plan, outside),
@@ -61,10 +58,9 @@ fn run_at<W: ServeWorld, R: Threads + Wait + Sync>(
     requires scopes { MakeTable plan.now.hub.custom_scopes }
     requires apart { are_distinct plan.now.managed ≡ true }
     requires kits { 0 < length outside.old.kits.items }
-    ensures ends { spec.EndsChosen W.Store.Tells W.Store.rows W.Store.faults plan.now now
+    ensures { spec.EndsChosen W.Store.Tells W.Store.rows W.Store.faults plan.now now
         (hall W.Out.held W.Out.faults W.Doors.given W.Doors.faults W.Time.to_come W.Draws.left W.Starts.calls W.Paths.calls W.Draws.faults W.Starts.faults W.Paths.faults W.Runs.calls W.Runs.faults outside.old.output outside.old.doors outside.old.kit outside.old.services)
         (hall W.Out.held W.Out.faults W.Doors.given W.Doors.faults W.Time.to_come W.Draws.left W.Starts.calls W.Paths.calls W.Draws.faults W.Starts.faults W.Paths.faults W.Runs.calls W.Runs.faults outside.new.output outside.new.doors outside.new.kit outside.new.services) store result.1 result.0 }
-    ensures files { outside.new.files ≡ outside.old.files }
 {
     if plan.hub.no_trail {
         run_over(rt, alloc, plan, now, CountTrail::new(), store, outside)
@@ -73,7 +69,7 @@ fn run_at<W: ServeWorld, R: Threads + Wait + Sync>(
     }
 }
 
-/// What follows the words and their file. The hub is opened at the clock's moment.
+/// What follows the plan. The hub is opened at the clock's moment.
 fn run_planned<W: ServeWorld, R: Threads + Wait + Sync>(
     rt: &R,
     alloc: Global,
@@ -85,10 +81,9 @@ fn run_planned<W: ServeWorld, R: Threads + Wait + Sync>(
     requires scopes { MakeTable plan.now.hub.custom_scopes }
     requires apart { are_distinct plan.now.managed ≡ true }
     requires kits { 0 < length outside.old.kits.items }
-    ensures ends { spec.EndsPlanned W.Store.Tells W.Store.rows W.Store.faults W.Store.Chooses plan.now
+    ensures { spec.EndsPlanned W.Store.Tells W.Store.rows W.Store.faults W.Store.Chooses plan.now
         (hall W.Out.held W.Out.faults W.Doors.given W.Doors.faults W.Time.to_come W.Draws.left W.Starts.calls W.Paths.calls W.Draws.faults W.Starts.faults W.Paths.faults W.Runs.calls W.Runs.faults outside.old.output outside.old.doors outside.old.kit outside.old.services)
         (hall W.Out.held W.Out.faults W.Doors.given W.Doors.faults W.Time.to_come W.Draws.left W.Starts.calls W.Paths.calls W.Draws.faults W.Starts.faults W.Paths.faults W.Runs.calls W.Runs.faults outside.new.output outside.new.doors outside.new.kit outside.new.services) store result.1 result.0 }
-    ensures files { outside.new.files ≡ outside.old.files }
 {
     let mut store = store;
     if let Err(cause) = choose(&mut store, &plan.db) {
@@ -98,60 +93,33 @@ fn run_planned<W: ServeWorld, R: Threads + Wait + Sync>(
     run_at(rt, alloc, plan, now, store, outside)
 }
 
-/// The command of these words. Words that are refused do nothing.
-fn run_words<W: ServeWorld, R: Threads + Wait + Sync>(
-    rt: &R,
-    alloc: Global,
-    words: &[Text],
-    store: W::Store,
-    outside: &mut ServeOutside<W>,
-) -> (End, W::Store)
-    requires kits { 0 < length outside.old.kits.items }
-    ensures ends { spec.CommandEnds W.Store.Tells W.Store.rows W.Store.faults W.Store.Chooses (serve_read words.now) (files_told W.Reads.files W.Reads.faults outside.old.files) (files_told W.Reads.files W.Reads.faults outside.new.files)
-        (hall W.Out.held W.Out.faults W.Doors.given W.Doors.faults W.Time.to_come W.Draws.left W.Starts.calls W.Paths.calls W.Draws.faults W.Starts.faults W.Paths.faults W.Runs.calls W.Runs.faults outside.old.output outside.old.doors outside.old.kit outside.old.services)
-        (hall W.Out.held W.Out.faults W.Doors.given W.Doors.faults W.Time.to_come W.Draws.left W.Starts.calls W.Paths.calls W.Draws.faults W.Starts.faults W.Paths.faults W.Runs.calls W.Runs.faults outside.new.output outside.new.doors outside.new.kit outside.new.services) store result.1 result.0 }
-    ensures files { W.Reads.files outside.new.files ≡ W.Reads.files outside.old.files }
-    ensures looked { W.Reads.faults outside.old.files ≤ W.Reads.faults outside.new.files }
-{
-    match read_plan(alloc, &mut outside.files, words) {
-        Ok(plan) => {
-            let ended = run_planned(rt, alloc, &plan, store, outside);
-            // in one call, since it has many parts
-            drop(plan);
-            ended
-        }
-        Err(why) => (Err(why), store),
-    }
-}
-
-/// Runs the command `serve`, over the store that the outside has, which is put back at the end, whatever the status.
+/// Runs the command `serve` by its plan, over the store that the outside has, which is put back at the end, whatever the status. The plan is
+/// what `read_plan` read: nothing is read of its file again.
 ///
-/// The status is 2 where the words are refused; 3 where the file of configuration can't be read, is none, names no address to listen at, or
-/// has a name in a list that is neither kept nor configured, where a running server has a target that the pool hasn't, or a table would
-/// pass its limit; 4 where the store doesn't take its place, fails at opening, or has a row that doesn't read; 7 where memory is wanting
-/// before the first connection. Nothing is accepted or written then. Otherwise running servers were taken back, the routes were brought into
-/// step unless their link failed, the services were tended and stopped, the line `served N` is written, and the rows are those of the last
-/// state of the history. The status is then 0 where as many connections were served as the words ask for, 8 where the listener failed before
-/// that, 6 where the output failed, and 7 where memory was wanting for the line.
+/// The status is 3 where a name in a list is neither kept nor configured, where a running server has a target that the pool hasn't, or a
+/// table would pass its limit; 4 where the store doesn't take its place, fails at opening, or has a row that doesn't read; 7 where memory is
+/// wanting before the first connection. Nothing is accepted or written then. Otherwise running servers were taken back, the routes were
+/// brought into step unless their link failed, the services were tended and stopped, the line `served N` is written, and the rows are those
+/// of the last state of the history. The status is then 0 where as many connections were served as the words ask for, 8 where the listener
+/// failed before that, 6 where the output failed, and 7 where memory was wanting for the line.
 pub fn run<W: ServeWorld, R: Threads + Wait + Sync>(
     rt: &R,
     alloc: Global,
-    words: &[Text],
+    plan: &Plan,
     outside: &mut ServeOutside<W>,
 ) -> u8
+    requires read { IsRead plan.now }
     requires store { IsSome outside.old.store }
     requires kits { 0 < length outside.old.kits.items }
     ensures store { IsSome outside.new.store }
-    ensures ends { (k k' : W.Store) → outside.old.store ≡ Some k → outside.new.store ≡ Some k' → spec.RunEnds W.Store.Tells W.Store.rows W.Store.faults W.Store.Chooses (serve_read words.now) (files_told W.Reads.files W.Reads.faults outside.old.files) (files_told W.Reads.files W.Reads.faults outside.new.files)
+    ensures ends { (k k' : W.Store) → outside.old.store ≡ Some k → outside.new.store ≡ Some k' → spec.RunEnds W.Store.Tells W.Store.rows W.Store.faults W.Store.Chooses plan.now
         (hall W.Out.held W.Out.faults W.Doors.given W.Doors.faults W.Time.to_come W.Draws.left W.Starts.calls W.Paths.calls W.Draws.faults W.Starts.faults W.Paths.faults W.Runs.calls W.Runs.faults outside.old.output outside.old.doors outside.old.kit outside.old.services)
         (hall W.Out.held W.Out.faults W.Doors.given W.Doors.faults W.Time.to_come W.Draws.left W.Starts.calls W.Paths.calls W.Draws.faults W.Starts.faults W.Paths.faults W.Runs.calls W.Runs.faults outside.new.output outside.new.doors outside.new.kit outside.new.services) k k' outside.new.end result }
-    ensures files { W.Reads.files outside.new.files ≡ W.Reads.files outside.old.files }
-    ensures looked { W.Reads.faults outside.old.files ≤ W.Reads.faults outside.new.files }
 {
     let Some(store) = outside.store.take() else {
         unreachable!()
     };
-    let (end, store) = run_words(rt, alloc, words, store, outside);
+    let (end, store) = run_planned(rt, alloc, plan, store, outside);
     let status = status_of(&end);
     outside.store = Some(store);
     outside.end = Some(end);

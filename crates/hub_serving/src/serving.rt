@@ -49,7 +49,6 @@ pub(crate) fn serve_book<W: ServeWorld, T: Trail<Entry = Change> + Send, R: Thre
     ensures ends { spec.EndsOver W.Store.Tells W.Store.rows W.Store.faults book.start book.faults plan.now
         (hall W.Out.held W.Out.faults W.Doors.given W.Doors.faults W.Time.to_come W.Draws.left W.Starts.calls W.Paths.calls W.Draws.faults W.Starts.faults W.Paths.faults W.Runs.calls W.Runs.faults outside.old.output outside.old.doors outside.old.kit outside.old.services)
         (hall W.Out.held W.Out.faults W.Doors.given W.Doors.faults W.Time.to_come W.Draws.left W.Starts.calls W.Paths.calls W.Draws.faults W.Starts.faults W.Paths.faults W.Runs.calls W.Runs.faults outside.new.output outside.new.doors outside.new.kit outside.new.services) result.1 result.0 }
-    ensures files { outside.new.files ≡ outside.old.files }
     ensures had { W.Store.Tells result.1 → IsTrue book.start.has_rows }
 {
     match Desk::open(alloc, book) {
@@ -79,7 +78,6 @@ fn serve_desk<W: ServeWorld, T: Trail<Entry = Change> + Send, R: Threads + Wait 
     ensures ends { (start : Start) → pass.base ≡ Some start → spec.EndsDesk W.Store.Tells W.Store.rows W.Store.faults start pass plan.now
         (hall W.Out.held W.Out.faults W.Doors.given W.Doors.faults W.Time.to_come W.Draws.left W.Starts.calls W.Paths.calls W.Draws.faults W.Starts.faults W.Paths.faults W.Runs.calls W.Runs.faults outside.old.output outside.old.doors outside.old.kit outside.old.services)
         (hall W.Out.held W.Out.faults W.Doors.given W.Doors.faults W.Time.to_come W.Draws.left W.Starts.calls W.Paths.calls W.Draws.faults W.Starts.faults W.Paths.faults W.Runs.calls W.Runs.faults outside.new.output outside.new.doors outside.new.kit outside.new.services) result.1 result.0 }
-    ensures files { outside.new.files ≡ outside.old.files }
     ensures had { (start : Start) → pass.base ≡ Some start → W.Store.Tells result.1 → IsTrue start.has_rows }
 {
     match adopt(rt, alloc, &desk, &mut pass, &mut outside.kit) {
@@ -119,7 +117,6 @@ fn serve_synced<W: ServeWorld, T: Trail<Entry = Change> + Send, R: Threads + Wai
     ensures ends { (start : Start) → pass.base ≡ Some start → spec.EndsSynced W.Store.Tells W.Store.rows W.Store.faults start pass plan.now
         (hall W.Out.held W.Out.faults W.Doors.given W.Doors.faults W.Time.to_come W.Draws.left W.Starts.calls W.Paths.calls W.Draws.faults W.Starts.faults W.Paths.faults W.Runs.calls W.Runs.faults outside.old.output outside.old.doors outside.old.kit outside.old.services)
         (hall W.Out.held W.Out.faults W.Doors.given W.Doors.faults W.Time.to_come W.Draws.left W.Starts.calls W.Paths.calls W.Draws.faults W.Starts.faults W.Paths.faults W.Runs.calls W.Runs.faults outside.new.output outside.new.doors outside.new.kit outside.new.services) result.1 result.0 }
-    ensures files { outside.new.files ≡ outside.old.files }
     ensures had { (start : Start) → pass.base ≡ Some start → W.Store.Tells result.1 → IsTrue start.has_rows }
 {
     let hub = plan.hub.hub_url.as_ref();
@@ -147,7 +144,6 @@ fn serve_ready<W: ServeWorld, T: Trail<Entry = Change> + Send, R: Threads + Wait
     ensures ends { (start : Start) → pass.base ≡ Some start → spec.EndsReady W.Store.Tells W.Store.rows W.Store.faults start pass.seen plan.now
         (hall W.Out.held W.Out.faults W.Doors.given W.Doors.faults W.Time.to_come W.Draws.left W.Starts.calls W.Paths.calls W.Draws.faults W.Starts.faults W.Paths.faults W.Runs.calls W.Runs.faults outside.old.output outside.old.doors outside.old.kit outside.old.services)
         (hall W.Out.held W.Out.faults W.Doors.given W.Doors.faults W.Time.to_come W.Draws.left W.Starts.calls W.Paths.calls W.Draws.faults W.Starts.faults W.Paths.faults W.Runs.calls W.Runs.faults outside.new.output outside.new.doors outside.new.kit outside.new.services) result.1 result.0 }
-    ensures files { outside.new.files ≡ outside.old.files }
     ensures had { (start : Start) → pass.base ≡ Some start → W.Store.Tells result.1 → IsTrue start.has_rows }
 {
     match services_of(alloc, plan.managed.as_slice()) {
@@ -177,7 +173,6 @@ fn serve_attended<W: ServeWorld, T: Trail<Entry = Change> + Send, R: Threads + W
     ensures ends { (start : Start) → pass.base ≡ Some start → spec.EndsReady W.Store.Tells W.Store.rows W.Store.faults start pass.seen plan.now
         (hall W.Out.held W.Out.faults W.Doors.given W.Doors.faults W.Time.to_come W.Draws.left W.Starts.calls W.Paths.calls W.Draws.faults W.Starts.faults W.Paths.faults W.Runs.calls W.Runs.faults outside.old.output outside.old.doors outside.old.kit outside.old.services)
         (hall W.Out.held W.Out.faults W.Doors.given W.Doors.faults W.Time.to_come W.Draws.left W.Starts.calls W.Paths.calls W.Draws.faults W.Starts.faults W.Paths.faults W.Runs.calls W.Runs.faults outside.new.output outside.new.doors outside.new.kit outside.new.services) result.1 result.0 }
-    ensures files { outside.new.files ≡ outside.old.files }
     ensures had { (start : Start) → pass.base ≡ Some start → W.Store.Tells result.1 → IsTrue start.has_rows }
 {
     let (book, count, served, services) = serve_services::<W, T, R>(

@@ -1,7 +1,6 @@
 //! The outside of the command `serve`.
 use crate::end::End;
 use hub_devices::clock::Clock;
-use hub_devices::files::Files;
 use hub_devices::listener::Listener;
 use hub_devices::random::Random;
 use hub_devices::route_link::RouteLink;
@@ -28,12 +27,10 @@ pub trait ServeWorld {
 
     type Doors: Listener<In: Send, Out: Send> + Send + Drop;
 
-    type Reads: Files + Drop;
-
     type Runs: Running + Send + Drop;
 }
 
-/// What the program hands to the command.
+/// What the program hands to the command, once its plan is read: there is no file in it.
 #[derive(Drop)]
 pub struct ServeOutside<W: ServeWorld> {
     pub output: W::Out,
@@ -46,7 +43,6 @@ pub struct ServeOutside<W: ServeWorld> {
     pub doors: W::Doors,
     /// The devices by which services are started, routed and stopped.
     pub services: ServiceKit<W::Runs, W::Paths, W::Time>,
-    pub files: W::Reads,
     /// How the command ended, for what is said to people.
     pub end: Option<End>,
 }

@@ -1,5 +1,7 @@
 //! The command `serve`: a hub on a socket, which starts programs.
-ghost use Rattle.std.specs.Prelude.{◌<◌, length, IfOk};
+ghost use Rattle.std.specs.Prelude.{◌≡◌, ◌<◌, Bool, length, IfOk, IfSome};
+ghost use Rattle.hub_serving.specs.Ends.{forgiven_status};
+ghost use Rattle.hub_serving.specs.Plans.{IsRead};
 
 use crate::paths::HubRoutes;
 use crate::services::service_kit;
@@ -16,7 +18,7 @@ use hub_edge::routes::AllRoutes;
 use hub_kit::list::List;
 use hub_kit::text::Text;
 use hub_run::HubKit;
-use hub_serving::end::{End, line_status};
+use hub_serving::end::{End, NotServed, forgiven_status};
 use hub_serving::plan::{Plan, read_plan};
 use hub_serving::run::run;
 use hub_serving::world::ServeOutside;
@@ -124,47 +126,51 @@ fn outside<K: ProgramStore + Send, H: Threads + Wait + Copy + Send + Sync>(
         kits,
         doors: listener,
         services,
-        files: SystemFiles::new(rt),
         end: None,
     })
 }
 
-/// The status, where a listener that was closed since standard input ended hasn't failed: what was accepted is served.
-fn forgiving(status: u8, end: &Option<End>, closer: &Closer) -> u8 {
+/// The status. A listener that was closed since standard input ended hasn't failed.
+fn status_at_end(status: u8, end: &Option<End>, closer: &Closer) -> u8
+    ensures { IfSome end.now (λ e. (closed : Bool) × (result ≡ forgiven_status closed e)) }
+{
     match end {
-        Some(Ok(ended)) if ended.failed && closer.is_closed() => line_status(ended.line),
-        _ => status,
+        Some(end) => forgiven_status(end, closer.is_closed()),
+        None => status,
     }
 }
 
-/// Runs the command over these devices and this store, and says why it didn't do its work if it didn't.
+/// Runs the command by its plan over these devices and this store, and says why it didn't do its work if it didn't.
 fn run_over<K: ProgramStore + Send, H: Threads + Wait + Copy + Send + Sync>(
     rt: &HostRuntime,
     handle: &H,
-    words: &[Text],
+    plan: &Plan,
     outside: &mut ServeOutside<ServeSystem<K, H>>,
     store: K,
     closer: &Closer,
 ) -> u8
-    requires { 0 < length outside.old.kits.items }
+    requires read { IsRead plan.now }
+    requires kits { 0 < length outside.old.kits.items }
+    ensures { IfSome outside.new.end (λ e. (closed : Bool) × (result ≡ forgiven_status closed e)) }
 {
     outside.store = Some(store);
-    let status = run(handle, rt.alloc(), words, outside);
-    let status = forgiving(status, &outside.end, closer);
+    let status = run(handle, rt.alloc(), plan, outside);
+    let status = status_at_end(status, &outside.end, closer);
     if status != 0 {
-        tell_served(rt, words, outside);
+        tell_served(rt, outside);
     }
     status
 }
 
-/// Serves what the words and their file say.
+/// Serves what the plan says.
 fn serve_plan<K: ProgramStore + Send, H: Threads + Wait + Copy + Send + Sync>(
     rt: HostRuntime,
     handle: H,
-    words: &[Text],
     plan: &Plan,
     store: K,
-) -> ExitCode {
+) -> ExitCode
+    requires { IsRead plan.now }
+{
     let Ok((listener, closer)) = open_listener(rt, &handle, &plan.listen) else {
         drop(store);
         return say(
@@ -178,7 +184,7 @@ fn serve_plan<K: ProgramStore + Send, H: Threads + Wait + Copy + Send + Sync>(
         drop(store);
         return say(&rt, 7, "there is no memory");
     };
-    let status = run_over(&rt, &handle, words, &mut outside, store, &closer);
+    let status = run_over(&rt, &handle, plan, &mut outside, store, &closer);
     if let Some(store) = outside.store.take() {
         store.close();
     }
@@ -190,12 +196,13 @@ fn serve_plan<K: ProgramStore + Send, H: Threads + Wait + Copy + Send + Sync>(
 fn serve_in_memory<H: Threads + Wait + Copy + Send + Sync>(
     rt: HostRuntime,
     handle: H,
-    words: &[Text],
     plan: &Plan,
-) -> ExitCode {
+) -> ExitCode
+    requires { IsRead plan.now }
+{
     let alloc = rt.alloc();
     match MemKeeper::new(alloc, Vec::new(alloc), Vec::new(alloc)) {
-        Ok(store) => serve_plan(rt, handle, words, plan, store),
+        Ok(store) => serve_plan(rt, handle, plan, store),
         Err(_) => say(&rt, 7, "there is no memory"),
     }
 }
@@ -211,10 +218,11 @@ fn keep<S: Start, H: Wait + Copy>(rt: HostRuntime, start: S, thread: StoreThread
 fn serve_in_file<S: Start + Send + 'static, H: Threads + Wait + Copy + Send + Sync + 'static>(
     rt: HostRuntime,
     handle: H,
-    words: &[Text],
     plan: &Plan,
     start: S,
-) -> ExitCode {
+) -> ExitCode
+    requires { IsRead plan.now }
+{
     let Ok((store, thread)) = far_store(rt.alloc(), handle) else {
         drop(start);
         return say(&rt, 7, "there is no memory");
@@ -223,14 +231,22 @@ fn serve_in_file<S: Start + Send + 'static, H: Threads + Wait + Copy + Send + Sy
         drop(store);
         return say(&rt, 7, "there is no memory for a thread");
     };
-    let code = serve_plan(rt, handle, words, plan, store);
+    let code = serve_plan(rt, handle, plan, store);
     // the file is closed by then
     keeping.join(&handle);
     code
 }
 
-/// Runs the command `serve` with these words over the system's devices. `S` names what is supposed of the first contents of the file of
-/// SQLite, where the words name one.
+/// The plan of these words and their file, which is read here and nowhere else.
+fn planned(alloc: Global, files: &mut SystemFiles, words: &[Text]) -> Result<Plan, NotServed>
+    ensures { IfOk result (λ plan. IsRead plan) }
+{
+    read_plan(alloc, files, words)
+}
+
+/// Runs the command `serve` with these words over the system's devices. The file of configuration that they name is read once, and the hub
+/// is set up, listens and runs by the one plan that this gives. `S` names what is supposed of the first contents of the file of SQLite,
+/// where the words name one.
 pub fn serve<S: Start + Send + 'static, H: Threads + Wait + Copy + Send + Sync + 'static>(
     rt: HostRuntime,
     handle: H,
@@ -238,13 +254,13 @@ pub fn serve<S: Start + Send + 'static, H: Threads + Wait + Copy + Send + Sync +
     start: S,
 ) -> ExitCode {
     let mut files = SystemFiles::new(rt);
-    match read_plan(rt.alloc(), &mut files, words) {
+    match planned(rt.alloc(), &mut files, words) {
         Ok(plan) => {
             let code = if plan.db.is_some() {
-                serve_in_file(rt, handle, words, &plan, start)
+                serve_in_file(rt, handle, &plan, start)
             } else {
                 drop(start);
-                serve_in_memory(rt, handle, words, &plan)
+                serve_in_memory(rt, handle, &plan)
             };
             drop(plan);
             code

@@ -1,7 +1,6 @@
 //! The system's devices.
 use crate::paths::HubRoutes;
 use hub_edge::clock::SystemClock;
-use hub_edge::files::SystemFiles;
 use hub_edge::listener::SocketListener;
 use hub_edge::output::Output;
 use hub_edge::programs::Programs;
@@ -33,8 +32,6 @@ impl<K: ProgramStore + Send, H: Threads + Wait + Copy + Send + Sync> ServeWorld
     type Draws = SystemRandom<HostRuntime>;
 
     type Doors = SocketListener;
-
-    type Reads = SystemFiles;
 
     type Runs = ServicePrograms<H>;
 }

@@ -6,6 +6,7 @@ use hub_edge::listener::SocketListener;
 use hub_kit::text::Text;
 use hub_main::cause::Cause;
 use hub_serving::end::NotServed;
+use hub_serving::explain::{explain_end, explain_refusal};
 use hub_serving::plan::Plan;
 use hub_serving::world::ServeOutside;
 use hub_store::command::ProgramStore;
@@ -52,37 +53,19 @@ fn store_cause<K: ProgramStore>(store: &Option<K>) -> Option<&'static str> {
     }
 }
 
-/// What the devices add.
-fn device_cause<K: ProgramStore>(
-    cause: &Cause,
-    files: &SystemFiles,
-    store: &Option<K>,
-) -> Option<&'static str> {
-    match cause {
-        Cause::NoFile => Some(file_cause(files)),
-        Cause::NoStore => store_cause(store),
-        _ => None,
-    }
-}
-
 /// Says why the hub didn't serve all that it was asked for, if it didn't.
 pub(crate) fn tell_served<K: ProgramStore + Send, H: Threads + Wait + Copy + Send + Sync>(
     rt: &HostRuntime,
-    words: &[Text],
     outside: &ServeOutside<ServeSystem<K, H>>,
 ) {
     let Some(end) = &outside.end else {
         return;
     };
     let more = match end {
-        Err(NotServed::Because(cause)) => device_cause(cause, &outside.files, &outside.store),
+        Err(NotServed::Because(Cause::NoStore)) => store_cause(&outside.store),
         _ => None,
     };
-    say_why(
-        rt,
-        hub_serving::explain::explain(rt.alloc(), words, end),
-        more,
-    );
+    say_why(rt, explain_end(rt.alloc(), end), more);
 }
 
 /// Says why the words or the file of `serve` are refused.
@@ -92,18 +75,16 @@ pub(crate) fn tell_refused(
     files: &SystemFiles,
     why: NotServed,
 ) -> ExitCode {
-    let status = why.status();
     let more = match &why {
         NotServed::Because(Cause::NoFile) => Some(file_cause(files)),
         _ => None,
     };
-    let end = Err(why);
-    say_why(
-        rt,
-        hub_serving::explain::explain(rt.alloc(), words, &end),
-        more,
-    );
-    ExitCode::from(status)
+    let said = match explain_refusal(rt.alloc(), words, &why) {
+        Ok(said) => Ok(Some(said)),
+        Err(_) => Err(AllocError),
+    };
+    say_why(rt, said, more);
+    ExitCode::from(why.status())
 }
 
 /// Says where the hub listens, over which store, and with how many configured users and workers.

@@ -5,7 +5,6 @@ use crate::check::{check, failing, words_of};
 use crate::in_memory::{MemKit, NEVER, files, kit, store};
 use hub_devices::mem_bytes::{MemSink, MemSource};
 use hub_devices::mem_clock::FixedClock;
-use hub_devices::mem_files::MemFiles;
 use hub_devices::mem_listener::MemListener;
 use hub_devices::mem_random::ListRandom;
 use hub_devices::mem_routes::MemRouteLink;
@@ -44,8 +43,6 @@ impl<K: Keeper + Send> ServeWorld for InMemory<K> {
     type Draws = ListRandom;
 
     type Doors = MemListener<MemSource, MemSink>;
-
-    type Reads = MemFiles;
 
     type Runs = MemRunning;
 }
@@ -189,7 +186,6 @@ fn outside(rt: &impl Abort, alloc: Global, command: &Command) -> MemOutside
         kits: kits(rt, alloc),
         doors: doors(rt, alloc, command.failing_accept),
         services: service_kit(rt, alloc, command.polls),
-        files: files(rt, alloc, command.file),
         end: None,
     }
 }
@@ -201,9 +197,19 @@ pub fn ended<R: Threads + Wait + Abort + Sync>(
     command: &Command,
 ) -> (bool, MemOutside) {
     let words = words_of(rt, alloc, command.words);
-    let mut outside = outside(rt, alloc, command);
-    let status = run(rt, alloc, words.as_slice(), &mut outside);
+    let mut files = files(rt, alloc, command.file);
+    let plan = read_plan(alloc, &mut files, words.as_slice());
+    drop(files);
     drop(words);
+    let mut outside = outside(rt, alloc, command);
+    let status = match plan {
+        Ok(plan) => {
+            let status = run(rt, alloc, &plan, &mut outside);
+            drop(plan);
+            status
+        }
+        Err(why) => why.status(),
+    };
     let so = (status == command.status) & (outside.output.as_slice() == command.output);
     (so, outside)
 }

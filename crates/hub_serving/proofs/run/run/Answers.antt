@@ -1,8 +1,17 @@
 use Rattle.std.proofs.Common.{◌∙◌, sym}
-use Rattle.hub_serving.proofs.Planned.{run_ends}
+use Rattle.hub_serving.proofs.Planned.{read_apart, read_fits, read_scopes, run_ends}
 use Rattle.hub_serving.proofs.run.run.Goals as goal
+
+pub run_planned-end-requires-clause-limits : goal.run_planned-end-requires-clause-limits
+run_planned-end-requires-clause-limits g c κs within = read_fits c.args.plan.now c.requires.read
+
+pub run_planned-end-requires-clause-scopes : goal.run_planned-end-requires-clause-scopes
+run_planned-end-requires-clause-scopes g c κs within = read_scopes c.args.plan.now c.requires.read
+
+pub run_planned-end-requires-clause-apart : goal.run_planned-end-requires-clause-apart
+run_planned-end-requires-clause-apart g c κs within = read_apart c.args.plan.now c.requires.read
 
 pub returns-clause-ends : goal.returns-clause-ends
 returns-clause-ends g c = λ k k' before after.
-    run_ends _ _ _ _ _ _ _ _ _ c.in-Some.store _ k k' _ c.status_of-status.result c.run_words-end.ensures.ends c.status_of-status.ensures
+    run_ends _ _ _ _ _ _ _ c.in-Some.store _ k k' _ c.status_of-status.result c.run_planned-end.ensures c.status_of-status.ensures
     (sym c.in-Some.is ∙ c.take.ensures.value ∙ before) after
