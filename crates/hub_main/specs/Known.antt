@@ -26,6 +26,7 @@ name_in kind row = if row.kind == kind then result_ok (name_read row.key) else N
 abbrev pub names_in : (kind : ℕ) → List Row → (configured : List (List ℕ)) → List (List ℕ)
 names_in kind kept configured = in_order name_cmp (filter_map (name_in kind) kept ++ configured)
 
+-- the names that are kept or configured, of the three kinds that lists name
 abbrev pub names_of : HubConfig → List Row → Names
 names_of config kept = record {
   users = names_in 1 kept (map (λ user. user.name) config.users);
@@ -35,16 +36,20 @@ names_of config kept = record {
 
 -- ---- the names in lists
 
+-- the members of a configured group
 abbrev pub in_group : Group → List AnyName
 in_group group = map User group.users
 
+-- those who have a configured role: users, groups and services, in this order
 abbrev pub in_role : Role → List AnyName
 in_role role = map User role.users ++ (map GroupOf role.groups ++ map Service role.services)
 
+-- the name of an owner, with its kind
 abbrev pub owner_name : Owner → AnyName
 owner_name (owner.User name) = User name
 owner_name (owner.Service name) = Service name
 
+-- whose a configured token is
 abbrev pub in_token : ConfigToken → List AnyName
 in_token token = owner_name token.owner ∷ []
 
@@ -54,11 +59,13 @@ listed config = flat_map in_group config.groups ++ (flat_map in_role config.role
 
 -- ---- whether they are known
 
+-- the name is among those of its kind
 abbrev pub is_known : Names → AnyName → Bool
 is_known known (User name) = is_among name_cmp name known.users
 is_known known (GroupOf name) = is_among name_cmp name known.groups
 is_known known (Service name) = is_among name_cmp name known.services
 
+-- the first of these names that isn't known
 abbrev pub first_unknown : (known : Names) → List AnyName → Option AnyName
 first_unknown known names = find (λ name. not (is_known known name)) names
 

@@ -66,6 +66,7 @@ module _ {K : Type 0} (Tells : K → Type 0) (rows : K → Rows) (faults : K →
   IsNotOpened config now k k' (opening.Full kind limit) = IsFull config now (Tells k') (rows k) kind limit × AreNames config (Tells k') (rows k)
   IsNotOpened config now k k' opening.Memory = ⊤
 
+  -- a name in the configuration's lists isn't known, or the book isn't opened, or memory is wanting
   abbrev pub IsUnopened : HubConfig → (now : ℕ) → K → K → Cause → Type 0
   IsUnopened config now k k' (UnknownName name) = IsUnknown config (Tells k') (rows k) name
   IsUnopened config now k k' (NotOpened e) = IsNotOpened config now k k' e

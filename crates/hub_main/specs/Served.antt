@@ -24,6 +24,7 @@ abbrev pub view_with : PassState Entry Start → (now : ℕ) → KitTold → Vie
 view_with pass now kit =
     record { pass = pass; clock = Some (λ k. now); draws = kit.draws; spawner = kit.spawner; routes = kit.routes; faults = kit.faults }
 
+-- what the devices tell in a view
 abbrev pub kit_in : View → KitTold
 kit_in y = record { draws = y.draws; spawner = y.spawner; routes = y.routes; faults = y.faults }
 
@@ -49,6 +50,7 @@ pub record IsUnserved (x y : View) (s s' : Sides) : Type 0 where
   pub seen : y.pass.seen ≡ x.pass.seen
   pub quiet : IsQuiet s s'
 
+-- how one pass ended: it served its connection, or memory was wanting before
 abbrev pub PassEnds : Start → View → View → Sides → Sides → End → Type 0
 PassEnds start x y s s' (Ok end) = IsServed start x y s s' end
 PassEnds start x y s s' (Err Memory) = IsUnserved x y s s'

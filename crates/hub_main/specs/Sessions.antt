@@ -46,6 +46,7 @@ module _ {K : Type 0} (Tells : K → Type 0) (rows : K → Rows) (faults : K →
       ⊎ ((chosen : K) × IsChosen Tells rows faults Chooses place k chosen × (faults chosen ≤ faults k')
       × EndsChosen Tells rows faults config now s s' chosen k' end)
 
+  -- the words are a session's: their file says no configuration, or the hub has what it says and the words on top
   abbrev pub SessionEnds : SessionWords → FilesTold → FilesTold → Sides → Sides → K → K → End → Type 0
   SessionEnds words files files' s s' k k' end =
       EndsUnconfigured Tells rows faults words files files' s s' k k' end

@@ -16,6 +16,7 @@ pub record FilesTold : Type 0 where
   pub files : Option (List (List ℕ × List ℕ))
   pub faults : ℕ
 
+-- what such files tell
 abbrev pub files_told : {F : Type 0} → (F → Option (List (List ℕ × List ℕ))) → (F → ℕ) → F → FilesTold
 files_told told faults files = record { files = told files; faults = faults files }
 
@@ -26,6 +27,7 @@ pub record KitTold : Type 0 where
   pub routes : Option (List (Routing × Told))
   pub faults : Faults
 
+-- what the devices of such a kit tell
 abbrev pub kit_told : {S P C R : Type 0} → (R → Option (List (List ℕ))) → (S → Option (List (Spawning × Told))) → (P → Option (List (Routing × Told)))
     → (R → ℕ) → (S → ℕ) → (P → ℕ) → HubKit S P C R → KitTold
 kit_told left spawned routed draw_faults spawn_faults route_faults kit = record {
@@ -41,6 +43,7 @@ pub record Sides : Type 0 where
   pub output : StreamTold
   pub kit : KitTold
 
+-- what such sides and a kit tell
 abbrev pub sides : {I O : Type 0} → (I → Option (List ℕ)) → (I → ℕ) → (O → Option (List ℕ)) → (O → ℕ) → I → O → KitTold → Sides
 sides left read_faults held write_faults input output kit = record {
   input = record { bytes = left input; faults = read_faults input };

@@ -23,6 +23,7 @@ errand_gain e = gain_of e.work e.chain
 abbrev pub asking_gain : Asking → Gain Entry
 asking_gain a = record { entries = []; failed = 0; spawner = []; routes = told_of a }
 
+-- a turn gains what its visit, its errand and its asking gain; one without a visit gains nothing
 abbrev pub turn_gain : Turn → Gain Entry
 turn_gain (visited text q v r) = visit_gain v
 turn_gain (worked text q v e r) = plus (visit_gain v) (errand_gain e)

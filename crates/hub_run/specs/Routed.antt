@@ -44,6 +44,7 @@ lets_by way r = if r.status == 200 then way else None
 abbrev pub lets : Call → Reply → Option Way
 lets call r = lets_by (way_of call) r
 
+-- what was asked is of this kind: a list, or bringing the routes into step
 abbrev pub IsAskingOf : Way → Asking → Type 0
 IsAskingOf Ways.List (listing came) = Unit {0}
 IsAskingOf Ways.Sync (syncing told end) = Unit {0}
@@ -51,14 +52,17 @@ IsAskingOf way asking = ⊥
 
 -- ---- what the link was asked and told
 
+-- what a list told: its routes, or why none came
 abbrev pub told_list : Result (List ListedRoute) LinkError → Told
 told_list (Ok routes) = Listed routes
 told_list (Err e) = told_error e
 
+-- all that the link was asked in an asking, each with what it told
 abbrev pub told_of : Asking → List (Routing × Told)
 told_of (listing came) = (Route.List, told_list came) ∷ []
 told_of (syncing told end) = told
 
+-- a call on the link failed
 abbrev pub has_failed : Asking → Bool
 has_failed (listing (Err Link.Failed)) = true
 has_failed (syncing told (Err Fault.Routes)) = true
@@ -71,6 +75,7 @@ IsPlanned start seen (syncing told end) = SyncTold (IsPlanFor start seen (λ (s 
 
 -- ---- the reply
 
+-- a route in the body of a listing
 abbrev pub route_body : ListedRoute → Json
 route_body r = pairs ((codes "serial", maybe whole r.serial) ∷ (codes "target", line r.target) ∷ [])
 
@@ -78,6 +83,7 @@ route_body r = pairs ((codes "serial", maybe whole r.serial) ∷ (codes "target"
 abbrev pub routes_body : List ListedRoute → Json
 routes_body routes = pairs (map (λ (r : ListedRoute). (r.path, route_body r)) routes)
 
+-- the body that says how many routes were added and deleted
 abbrev pub synced_body : Synced → Json
 synced_body s = pairs ((codes "added", whole s.added) ∷ (codes "deleted", whole s.deleted) ∷ [])
 
@@ -95,6 +101,7 @@ IsListReply r (Ok routes) q = (shown : List ListedRoute) × Lists routes shown �
 IsListReply r (Err Link.Failed) q = q ≡ proxy_fault r
 IsListReply r (Err Link.Memory) q = ⊥
 
+-- the numbers of what was done, or 503 `proxy`; want of memory has no such reply
 abbrev pub IsSyncReply : Reply → Result Synced SyncFault → Reply → Type 0
 IsSyncReply r (Ok s) q = q ≡ with_body r (synced_body s)
 IsSyncReply r (Err Fault.Routes) q = q ≡ proxy_fault r

@@ -76,10 +76,12 @@ pub data Turn : Type 0 where
 
 -- ---- what is written
 
+-- the bytes of a refusal of the wire; the end of the input has none
 abbrev pub refusal_text : Option Reply → Bool → List ℕ
 refusal_text None close = []
 refusal_text (Some r) close = reply_text r close
 
+-- the bytes of the one reply of a turn, with a `Connection: close` or without
 abbrev pub turn_text : Turn → Bool → List ℕ
 turn_text (visited text q v r) close = reply_text r close
 turn_text (worked text q v e r) close = reply_text r close
@@ -262,6 +264,7 @@ pub record Drives (x : View) (e : Errand) (y : View) : Type 0 where
   pub spawner : IsCounted Spawner e.tale x.faults.spawner y.faults.spawner
   pub routes : IsCounted Proxy e.tale x.faults.routes y.faults.routes
 
+-- a visit, and then what it gave to be done
 abbrev pub Works : View → Visit → Errand → View → Type 0
 Works x v e y = (z : View) × Visits x v z × Drives z e y
 
@@ -280,6 +283,7 @@ pub record AsksLink (x : View) (a : Asking) (y : View) : Type 0 where
   pub counted : x.faults.routes ≤ y.faults.routes
   pub cause : has_failed a ≡ true → Rises x.faults.routes y.faults.routes
 
+-- a visit, and then the route link was asked
 abbrev pub Routes : View → Visit → Asking → View → Type 0
 Routes x v a y = (z : View) × Visits x v z × AsksLink z a y
 
@@ -293,6 +297,7 @@ pub record IsUndrawn (x y : View) : Type 0 where
   pub failed : Rises x.faults.random y.faults.random
   pub others : (y.faults.spawner ≡ x.faults.spawner) × (y.faults.routes ≡ x.faults.routes)
 
+-- what a turn makes of the view: its visit, what it owed or asked, or nothing
 abbrev pub Moves : View → Turn → View → Type 0
 Moves x (visited text q v r) y = Visits x v y
 Moves x (worked text q v e r) y = Works x v e y

@@ -33,6 +33,7 @@ module _ {K : Type 0} (Tells : K → Type 0) (rows : K → Rows) (faults : K →
       (start : Start) × (counted : ℕ) × IsOpened plan.hub now (Tells k') (rows k) (faults k) start counted
       × EndsOver Tells rows faults start counted plan h h' k' end
 
+  -- what follows the choice of the store
   abbrev pub EndsChosen : Plan → (now : ℕ) → Hall → Hall → K → K → End → Type 0
   EndsChosen plan now h h' k k' end = EndsUnopened plan now h h' k k' end ⊎ EndsOpened plan now h h' k k' end
 
@@ -46,6 +47,7 @@ module _ {K : Type 0} (Tells : K → Type 0) (rows : K → Rows) (faults : K →
     pub moment : moments.Tells h.clock now later
     pub ends : EndsChosen Tells rows faults plan now (record h { clock = later }) h' chosen k' end
 
+  -- what follows the plan: the store takes its place, or it doesn't
   abbrev pub EndsPlanned : Plan → Hall → Hall → K → K → End → Type 0
   EndsPlanned plan h h' k k' end = EndsUnchosen Tells rows faults h h' k k' end ⊎ EndsAt plan h h' k k' end
 

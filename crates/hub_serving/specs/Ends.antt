@@ -10,14 +10,17 @@ use Rattle.hub_serving.specs.declared.end.Ended.{Ended}
 use Rattle.hub_serving.specs.declared.end.Line.{Line}
 use Rattle.hub_serving.specs.declared.end.Line.TheVariants.{Written, Failed, NoMemory}
 
+-- how the serving ended, or why nobody was served
 abbrev pub End : Type 0
 End = Result Ended NotServed
 
 -- ---- the line
 
+-- `served N`
 abbrev pub served_line : ℕ → List ℕ
 served_line n = codes "served " ++ decimal n ++ codes "\n"
 
+-- what such an output tells
 abbrev pub stream_told : {O : Type 0} → (O → Option (List ℕ)) → (O → ℕ) → O → StreamTold
 stream_told held faults output = record { bytes = held output; faults = faults output }
 
@@ -29,6 +32,7 @@ pub record HasFailed (line : List ℕ) (o o' : StreamTold) : Type 0 where
   pub wrote : Appends o.bytes part o'.bytes
   pub rises : Rises o.faults o'.faults
 
+-- what is on the output then: the whole line, a part of it, or nothing where memory was wanting
 abbrev pub IsWritten : List ℕ → StreamTold → StreamTold → Line → Type 0
 IsWritten line o o' Written = Appends o.bytes line o'.bytes
 IsWritten line o o' Failed = HasFailed line o o'
@@ -36,15 +40,18 @@ IsWritten line o o' NoMemory = o' ≡ o
 
 -- ---- the status
 
+-- 0 where the line was written
 abbrev pub line_status : Line → ℕ
 line_status Written = 0
 line_status Failed = 6
 line_status NoMemory = 7
 
+-- of a cause before the first connection; 3 without an address
 abbrev pub unserved_status : NotServed → ℕ
 unserved_status (Because cause) = cause_status cause
 unserved_status NoAddress = 3
 
+-- 8 where the listener failed, and else that of the line or of the cause
 abbrev pub status_of : End → ℕ
 status_of (Ok ended) = if ended.failed then 8 else line_status ended.line
 status_of (Err why) = unserved_status why

@@ -27,6 +27,7 @@ pub record Hall : Type 0 where
   pub kit : KitTold
   pub services : ServicesTold
 
+-- what such devices tell
 abbrev pub hall : {O D S P C R V : Type 0} → (O → Option (List ℕ)) → (O → ℕ) → (D → Option ℕ) → (D → ℕ) → (C → Option (ℕ → ℕ))
     → (R → Option (List (List ℕ))) → (S → Option (List (Spawning × Told))) → (P → Option (List (Routing × Told)))
     → (R → ℕ) → (S → ℕ) → (P → ℕ) → (V → Option (List RunCall)) → (V → ℕ) → O → D → HubKit S P C R → ServiceKit V P C → Hall

@@ -14,6 +14,7 @@ use Rattle.hub_core.specs.declared.start.Start.{Start}
 use Rattle.hub_sync.specs.declared.calls.RouteCall.{RouteCall}
 use Rattle.hub_sync.specs.declared.calls.RouteCall.TheVariants.{Add, Delete}
 
+-- a route with this path is in the list
 abbrev pub is_listed : List ListedRoute → List ℕ → Bool
 is_listed routes path = list_any (λ (r : ListedRoute). pointwise nat_eq r.path path) routes
 
@@ -32,6 +33,7 @@ addition_of routes s =
 
 -- ---- what is deleted
 
+-- the path is that of the server, if there is one
 abbrev is_of : List ℕ → Option ServerKey → Bool
 is_of path None = false
 is_of path (Some server) = pointwise nat_eq (route_path server) path
@@ -46,6 +48,7 @@ deletion_by lives path None = None
 deletion_by lives path (Some serial) =
     if (serial % 2 == 0) && not (is_live_at lives path (serial / 2)) then Some (Delete path (serial + 1)) else None
 
+-- the deletion that a listed route asks for, if it asks for one
 abbrev pub deletion_of : Lives → ListedRoute → Option RouteCall
 deletion_of lives r = deletion_by lives r.path r.serial
 

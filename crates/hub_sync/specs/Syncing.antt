@@ -12,25 +12,31 @@ use Rattle.hub_sync.specs.declared.calls.Synced.{Synced}
 use Rattle.hub_sync.specs.declared.calls.SyncFault.{SyncFault}
 use Rattle.hub_sync.specs.declared.calls.SyncFault.TheVariants as Fault
 
+-- the call as the link is asked it
 abbrev pub asked_of : RouteCall → Routing
 asked_of (Call.Add path target serial) = Route.Add path target serial
 asked_of (Call.Delete path serial) = Route.Delete path serial
 
+-- the call with what the link tells where it is done
 abbrev pub as_done : RouteCall → Routing × Told
 as_done c = (asked_of c, Done)
 
+-- one for an addition
 abbrev pub added_one : RouteCall → ℕ
 added_one (Call.Add path target serial) = 1
 added_one (Call.Delete path serial) = 0
 
+-- one for a deletion
 abbrev pub deleted_one : RouteCall → ℕ
 deleted_one (Call.Add path target serial) = 0
 deleted_one (Call.Delete path serial) = 1
 
+-- how many of these calls add a route
 abbrev pub additions : List RouteCall → ℕ
 additions [] = 0
 additions (c ∷ cs) = added_one c + additions cs
 
+-- how many delete one
 abbrev pub deletions : List RouteCall → ℕ
 deletions [] = 0
 deletions (c ∷ cs) = deleted_one c + deletions cs
