@@ -1,6 +1,6 @@
--- The length of entries that are told, or not.
-use Rattle.std.specs.Prelude.{◌≡◌, ℕ, List, length, Option, Some, None}
-use Rattle.std.proofs.Common.{ap}
+-- The length of entries that are told.
+use Rattle.std.specs.Prelude.{◌≡◌, ℕ, List, length, Some}
+use Rattle.std.proofs.Common.{ap, ◌∙◌}
 
 pub told_length : {E T : Type 0} (items : T → List E) (t : T) (entries : List E) → Some (items t) ≡ Some entries → length entries ≡ length (items t)
 told_length items t entries h = ap length (same entries (items t) h)
@@ -8,5 +8,8 @@ told_length items t entries h = ap length (same entries (items t) h)
     same : {E : Type 0} (a b : List E) → Some b ≡ Some a → a ≡ b
     same a b h = cc
 
-pub untold_length : {E T : Type 0} (long : T → ℕ) (t : T) (entries : List E) → (let none : Option (List E) = None in none ≡ Some entries) → length entries ≡ long t
-untold_length long t entries h = absurd cc
+pub counted_length :
+    {E T : Type 0} (items : T → List E) (count : T → ℕ) →
+    ((t : T) → length (items t) ≡ count t) →
+    (t : T) (entries : List E) → Some (items t) ≡ Some entries → length entries ≡ count t
+counted_length items count same t entries h = told_length items t entries h ∙ same t

@@ -7,5 +7,6 @@ pub mod cost;
 mod held_rows;
 pub mod keeper;
 pub mod mem_keeper;
+pub mod past;
 mod row_key;
 pub mod trail;

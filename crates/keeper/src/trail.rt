@@ -1,9 +1,10 @@
 //! What keeps the entries of the history.
-ghost use Rattle.std.specs.Prelude.{◌≡◌, ◌+◌, ◌<◌, ◌≤◌, ◌^◌, ◌++◌, ◌∷◌, [], ℕ, List, length, Option, Some, None, option_map, OnOk, OnErr, vec_len, vec_capacity, refl};
-ghost use Rattle.keeper.specs.Trails.{told_length, untold_length};
+ghost use Rattle.std.specs.Prelude.{◌≡◌, ◌+◌, ◌<◌, ◌≤◌, ◌^◌, ◌++◌, ◌∷◌, [], ℕ, List, length, Option, Some, option_map, OnOk, OnErr, vec_len, vec_capacity, refl};
+ghost use Rattle.keeper.specs.Pasts.{entries_of};
+ghost use Rattle.keeper.specs.Trails.{told_length, counted_length};
 
+use crate::past::Past;
 use std::alloc::{AllocError, Global};
-use std::marker::PhantomData;
 
 /// Keeps entries, one behind the other. All the memory is taken by `reserve`, and none by `note`.
 pub trait Trail: Drop {
@@ -39,12 +40,13 @@ pub trait Trail: Drop {
     ghost counted: { (t : Self) (entries : List Self.Entry) → told t ≡ Some entries → length entries ≡ long t };
 }
 
-/// Keeps the number of entries alone, and tells none of them.
+/// Keeps the number of entries alone. Clauses read which they were.
 pub struct CountTrail<E> {
     count: u64,
     reserved: u64,
-    of: PhantomData<E>,
+    past: Past<E>,
     ghost fits: { count + reserved < 2 ^ 64 },
+    ghost same: { length (entries_of past) ≡ count },
 }
 
 impl<E: Drop> Drop for CountTrail<E> {
@@ -52,20 +54,20 @@ impl<E: Drop> Drop for CountTrail<E> {
         let CountTrail {
             count: _,
             reserved: _,
-            of: _,
+            past: _,
         } = self;
     }
 }
 
 impl<E: Drop> CountTrail<E> {
     pub fn new() -> CountTrail<E>
-        ensures long { ⟦<CountTrail<E> as Trail>⟧.long result ≡ 0 }
+        ensures told { ⟦<CountTrail<E> as Trail>⟧.told result ≡ Some [] }
         ensures spare { ⟦<CountTrail<E> as Trail>⟧.spare result ≡ 0 }
     {
         CountTrail {
             count: 0,
             reserved: 0,
-            of: PhantomData,
+            past: Past::new(),
         }
     }
 }
@@ -73,13 +75,13 @@ impl<E: Drop> CountTrail<E> {
 impl<E: Drop> Trail for CountTrail<E> {
     type Entry = E;
 
-    ghost told = { λ t. None };
+    ghost told = { λ t. Some (entries_of t.past) };
 
     ghost long = { λ t. t.count };
 
     ghost spare = { λ t. t.reserved };
 
-    ghost counted = { untold_length (λ t. t.count) };
+    ghost counted = { counted_length (λ t. entries_of t.past) (λ t. t.count) (λ t. t.same) };
 
     fn length(&self) -> u64 {
         self.count
@@ -97,7 +99,7 @@ impl<E: Drop> Trail for CountTrail<E> {
     }
 
     fn note(&mut self, entry: E) {
-        let _ = entry;
+        self.past.add(entry);
         self.reserved -= 1;
         self.count += 1;
     }
