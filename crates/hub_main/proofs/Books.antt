@@ -1,5 +1,5 @@
 -- The book of a session, and what is known at its end.
-use Rattle.std.proofs.Common.{◌≡◌, ◌≤◌, ◌∙◌, inl, inr, ℕ, IsTrue, not, List, [], ◌∷◌, length, Option, Some, None, is_some, Result, Ok, Err, refl, sym, ap, subst, arith}
+use Rattle.std.proofs.Common.{◌≡◌, ◌≤◌, ◌∙◌, inl, inr, ℕ, IsTrue, true, List, [], ◌∷◌, length, Option, Some, None, is_some, Result, Ok, Err, refl, sym, ap, subst, arith}
 use Rattle.http_wire.specs.declared.error.SessionFault.{SessionFault}
 use Rattle.keeper.specs.Rows.{Rows}
 use Rattle.hub_machine.specs.declared.change.Change.{Change}
@@ -37,7 +37,7 @@ module _ {K : Type 0} (Tells : K → Type 0) (rows : K → Rows) (faults : K →
 
   -- the book as it is known at the end, where the store tells its rows
   pub opened_by_end : (config : HubConfig) (now : ℕ) (history : Option (List Change)) (k k' : K) (b : Standing)
-      → Opens config now history (rows k) (faults k) b → is_some history ≡ not config.no_trail → (Tells k' → IsTrue b.start.has_rows)
+      → Opens config now history (rows k) (faults k) b → is_some history ≡ true → (Tells k' → IsTrue b.start.has_rows)
       → IsOpened config now (Tells k') (rows k) (faults k) b.start b.faults
   opened_by_end config now history k k' b opened trail had = record {
     names = names_before (Tells k') (IsTrue b.start.has_rows) (rows k) (rows k) (λ told. (had told, λ kind key. refl)) config opened.names;
@@ -48,7 +48,7 @@ module _ {K : Type 0} (Tells : K → Type 0) (rows : K → Rows) (faults : K →
 
   -- what follows over the book
   pub ends_over : (config : HubConfig) (now : ℕ) (history : Option (List Change)) (s s' : Sides) (k k' : K) (b : Standing) (end : End)
-      → Opens config now history (rows k) (faults k) b → is_some history ≡ not config.no_trail → (Tells k' → IsTrue b.start.has_rows)
+      → Opens config now history (rows k) (faults k) b → is_some history ≡ true → (Tells k' → IsTrue b.start.has_rows)
       → EndsOver Tells rows faults b.start b.faults now s s' k' end → EndsChosen Tells rows faults config now s s' k k' end
   ends_over config now history s s' k k' b end opened trail had over =
       inr (b.start, b.faults, opened_by_end config now history k k' b opened trail had, over)

@@ -1,5 +1,5 @@
 -- The book of a session: over which store it is opened, with which names, and why it isn't.
-use Rattle.std.specs.Prelude.{◌≡◌, ◌⊎◌, ℕ, ◌≤◌, IsTrue, true, not, List, [], Option, Some, None, is_some, ⊤}
+use Rattle.std.specs.Prelude.{◌≡◌, ◌⊎◌, ℕ, ◌≤◌, IsTrue, true, List, [], Option, Some, None, is_some, ⊤}
 use Rattle.hub_devices.specs.Faults.{Rises}
 use Rattle.keeper.specs.Rows.{Rows, AreSame, Lists}
 use Rattle.keeper.specs.declared.keeper.Row.{Row}
@@ -79,11 +79,11 @@ module _ {K : Type 0} (Tells : K → Type 0) (rows : K → Rows) (faults : K →
 -- ---- the book
 
 -- The book began, with no fewer faults than the store had, with the state that the configuration makes of these rows, if they are told; and its
--- history is told unless the configuration has no trail
+-- history is told from there on, entry by entry, also where the configuration has no trail
 pub record IsOpened (config : HubConfig) (now : ℕ) (Tells : Type 0) (has : Rows) (faults : ℕ) (start : Start) (counted : ℕ) : Type 0 where
   pub names : AreNames config Tells has
   pub set_up : IsSetUp config now Tells has start.machine
-  pub tells : start.tells ≡ not config.no_trail
+  pub tells : start.tells ≡ true
   pub counts : faults ≤ counted
 
 -- what is known of the book that is opened over a store with these rows and faults

@@ -1,5 +1,5 @@
 //! The hub's commands, over the outside that the program makes.
-ghost use Rattle.std.specs.Prelude.{◌≡◌, ◌≤◌, ◌^◌, not, Some, IsSome, is_some};
+ghost use Rattle.std.specs.Prelude.{◌≡◌, ◌≤◌, ◌^◌, [], Some, IsSome};
 ghost use Rattle.hub_main.specs.Sessions as spec;
 ghost use Rattle.hub_main.specs.Told.{sides, kit_told, files_told};
 ghost use Rattle.hub_opening.specs.Kept.{MakeTable};
@@ -31,8 +31,7 @@ fn run_over<W: World, T: Trail<Entry = Change>, R: Wait>(
     store: W::Store,
     outside: &mut Outside<W>,
 ) -> (End, W::Store)
-    requires empty { T.long trail ≡ 0 }
-    requires told { is_some (T.told trail) ≡ not config.now.no_trail }
+    requires empty { T.told trail ≡ Some [] }
     requires limits { config.now.limits.trail_bytes ≤ 2 ^ 62 }
     requires scopes { MakeTable config.now.custom_scopes }
     ensures ends { spec.EndsChosen W.Store.Tells W.Store.rows W.Store.faults config.now now
