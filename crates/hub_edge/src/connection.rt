@@ -3,7 +3,7 @@ ghost use Rattle.std.specs.Prelude.{◌≡◌, ◌≤◌, ℕ, length, None, fal
 
 use crate::limits::{HEAD_SECONDS, READ_OR_WRITE_SECONDS, REQUEST_SECONDS};
 use crate::line::Line;
-use crate::listener::Door;
+use crate::listener::{Door, set_writing};
 use crate::waiting::{comes_within, time_left};
 use hub_devices::sink::Sink;
 use hub_devices::source::{Failed, Source};
@@ -15,6 +15,9 @@ use std::time::{Duration, Instant};
 
 /// How often a read or a write is tried that a signal interrupts.
 const TRIES: u32 = 1000;
+
+/// How many bytes a new connection takes at once, whatever memory the system has for its writes.
+const FIRST_BYTES: usize = 4096;
 
 /// Where the head of a request ends, by its lines.
 #[derive(Clone, Copy)]
@@ -34,6 +37,11 @@ impl HeadEnd {
     /// Takes the next bytes: an empty line ends the head.
     fn note(&mut self, bytes: &[u8]) {
         if self.is_past {
+            return;
+        }
+        // most heads come whole, and nothing behind them
+        if let [.., b'\n', b'\r', b'\n'] = bytes {
+            self.is_past = true;
             return;
         }
         for b in bytes {
@@ -119,11 +127,22 @@ impl SocketSource {
             return Ok(0);
         }
         let count = read_some(self.line.stream(), into)?;
+        // only a caller's requests have a limit of their own
+        if self.line.door().is_some() {
+            self.note_request(&into[..count])?;
+        }
+        Ok(count)
+    }
+
+    /// Notes when a request began, and where its head ends.
+    fn note_request(&mut self, bytes: &[u8]) -> io::Result<()>
+        ensures { self.new.faults ≡ self.old.faults }
+    {
         if self.begun.is_none() {
             self.begun = Some(Instant::now(&self.rt)?);
         }
-        self.head.note(&into[..count]);
-        Ok(count)
+        self.head.note(bytes);
+        Ok(())
     }
 }
 
@@ -160,12 +179,21 @@ impl Source for SocketSource {
 /// The side of a connection that takes bytes.
 pub struct SocketSink {
     line: Arc<Line, Global>,
+    /// Whether nothing was written yet.
+    is_fresh: bool,
+    /// Whether it is set how long a write may wait.
+    is_set: bool,
     faults: u64,
 }
 
 impl Drop for SocketSink {
     fn drop(self) {
-        let SocketSink { line: _, faults: _ } = self;
+        let SocketSink {
+            line: _,
+            is_fresh: _,
+            is_set: _,
+            faults: _,
+        } = self;
     }
 }
 
@@ -178,6 +206,21 @@ impl SocketSink {
     /// Tells the peer that no more bytes come.
     pub fn shut(&mut self) {
         self.line.shut();
+    }
+
+    /// Writes some of these bytes, of which there are some. A small first write to a target neither waits nor is held back, so what the
+    /// writes need is set before another one.
+    fn write_next(&mut self, from: &[u8]) -> io::Result<usize>
+        ensures wrote { IfOk result (λ n. (n ≤ length from.now) × (1 ≤ n)) }
+        ensures same { self.new.faults ≡ self.old.faults }
+    {
+        let is_first = self.is_fresh && from.len() <= FIRST_BYTES;
+        self.is_fresh = false;
+        if !is_first && !self.is_set {
+            set_writing(self.line.stream())?;
+            self.is_set = true;
+        }
+        write_some(self.line.stream(), from)
     }
 }
 
@@ -208,7 +251,7 @@ impl Sink for SocketSink {
             return Ok(0);
         }
         self.line.note_reply(from);
-        match write_some(self.line.stream(), from) {
+        match self.write_next(from) {
             Ok(count) => Ok(count),
             Err(_) => {
                 self.faults = self.faults.saturating_add(1);
@@ -224,6 +267,8 @@ pub(crate) fn sides(
     stream: TcpStream,
     door: Option<Arc<Door, Global>>,
 ) -> Result<(SocketSource, SocketSink), AllocError> {
+    // what a listener accepts has its options
+    let is_set = door.is_some();
     let line = Arc::new(rt.alloc(), Line::new(rt, stream, door))?;
     let other = Arc::try_clone(&line)?;
     let source = SocketSource {
@@ -235,6 +280,8 @@ pub(crate) fn sides(
     };
     let sink = SocketSink {
         line: other,
+        is_fresh: true,
+        is_set,
         faults: 0,
     };
     Ok((source, sink))

@@ -306,16 +306,16 @@ fn first_answered(asked: &[pollfd], count: usize) -> Option<usize> {
 /// Sets the options of the connections that come, and how many may wait.
 fn set_up(listener: &TcpListener) -> io::Result<()> {
     let sockets = TcpStream::from(OwnedFd::from(listener.try_clone()?));
-    set_options(&sockets, READ_OR_WRITE_SECONDS)?;
+    sockets.set_read_timeout(Some(Duration::from_secs(READ_OR_WRITE_SECONDS)))?;
+    set_writing(&sockets)?;
     if listen(listener.as_raw_fd(), WAITING_CALLERS) != 0 {
         return Err(io::Error::from(ErrorKind::Other));
     }
     Ok(())
 }
 
-/// Sets how long a read and a write may wait, and that small writes are sent at once.
-pub(crate) fn set_options(stream: &TcpStream, read_seconds: u64) -> io::Result<()> {
-    stream.set_read_timeout(Some(Duration::from_secs(read_seconds)))?;
+/// Sets how long a write may wait, and that small ones are sent at once.
+pub(crate) fn set_writing(stream: &TcpStream) -> io::Result<()> {
     stream.set_write_timeout(Some(Duration::from_secs(READ_OR_WRITE_SECONDS)))?;
     stream.set_nodelay(true)
 }

@@ -1,7 +1,6 @@
 //! Connections to targets.
 use crate::connection::{SocketSink, SocketSource, sides};
 use crate::limits::{CONNECT_SECONDS, LET_GO_SECONDS, LOOK_AGAIN_MILLIS, TARGET_READ_SECONDS};
-use crate::listener::set_options;
 use crate::waiting::is_over;
 use hub_kit::target::Target;
 use std::io::{self, ErrorKind};
@@ -18,10 +17,19 @@ pub(crate) fn address_of(target: &Target) -> &str {
     }
 }
 
-/// A stream to the first address of the target that answers, or the last error.
+/// A stream to the target. Most have their address as a number, and none is looked up.
 fn stream_to(rt: &HostRuntime, target: &Target) -> io::Result<TcpStream> {
+    let text = address_of(target);
+    match text.parse::<SocketAddr>() {
+        Ok(address) => stream_at(rt, address),
+        Err(_) => stream_to_named(rt, text),
+    }
+}
+
+/// A stream to the first address of a name that answers, or the last error.
+fn stream_to_named(rt: &HostRuntime, text: &str) -> io::Result<TcpStream> {
     let mut last = io::Error::from(ErrorKind::InvalidInput);
-    for address in address_of(target).to_socket_addrs(rt)? {
+    for address in text.to_socket_addrs(rt)? {
         match stream_at(rt, address) {
             Ok(stream) => return Ok(stream),
             Err(error) => last = error,
@@ -62,9 +70,9 @@ pub(crate) fn is_held(rt: &HostRuntime, target: &Target) -> io::Result<bool> {
     Ok(true)
 }
 
-/// A connection to a target.
+/// A connection to a target. What its writes need is set where one may wait.
 pub fn connect(rt: HostRuntime, target: &Target) -> io::Result<(SocketSource, SocketSink)> {
     let stream = stream_to(&rt, target)?;
-    set_options(&stream, TARGET_READ_SECONDS)?;
+    stream.set_read_timeout(Some(Duration::from_secs(TARGET_READ_SECONDS)))?;
     Ok(sides(rt, stream, None)?)
 }
