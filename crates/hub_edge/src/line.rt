@@ -4,8 +4,7 @@ use crate::limits::{
     TUNNEL_LOOK_SECONDS, TUNNEL_SILENT_SECONDS,
 };
 use crate::listener::Door;
-use crate::waiting::{awaited, comes_within, is_there, millis_of, time_left};
-use libc::net::poll;
+use crate::waiting::{comes_first, comes_within, is_there, time_left};
 use std::alloc::Global;
 use std::io::{self, ErrorKind, Read};
 use std::net::{Shutdown, TcpStream};
@@ -100,7 +99,8 @@ impl Line {
                 break;
             };
             // no socket here tells that a silent caller speaks, so that is asked again and again
-            let speaks = !door.has_silent_callers() && self.speaks_first(door, left);
+            let speaks = !door.has_silent_callers()
+                && comes_first(&self.stream, door.listener(), left);
             if speaks || comes_within(&self.stream, crowded) {
                 return Ok(true);
             }
@@ -128,13 +128,6 @@ impl Line {
             }
         }
         Err(io::Error::from(ErrorKind::TimedOut))
-    }
-
-    /// Whether the peer sends something, or leaves, within this time and before a caller comes.
-    fn speaks_first(&self, door: &Door, limit: Duration) -> bool {
-        let mut asked = [awaited(&self.stream), awaited(door.listener())];
-        poll(&mut asked, millis_of(limit));
-        asked[0].revents != 0
     }
 
     /// Tells the peer that no more bytes come.

@@ -6,7 +6,7 @@ use crate::limits::{
     ACCEPT_AGAIN_MILLIS, ACCEPT_TRIES, READ_OR_WRITE_SECONDS, SILENT_CALLERS, SILENT_SECONDS,
     WAITING_CALLERS,
 };
-use crate::waiting::{awaited, is_over, is_there, millis_of};
+use crate::waiting::{awaited, comes_first, is_over, is_there, millis_of};
 use hub_devices::listener::Listener;
 use hub_devices::source::Failed;
 use libc::net::{SHUT_RDWR, listen, poll, shutdown};
@@ -19,6 +19,9 @@ use std::sync::Arc;
 use std::sync::atomic::{AtomicBool, AtomicU64, Ordering};
 use std::thread;
 use std::time::{Duration, Instant};
+
+/// How many seconds one wait for silent callers takes at most, so that those are let go in time that have been silent for too long.
+const LOOK_SECONDS: u64 = 1;
 
 /// A listening socket, which its connections share: they see who waits there.
 pub(crate) struct Door {
@@ -206,7 +209,7 @@ impl SocketListener {
         }
     }
 
-    /// Waits for a caller. One that has sent nothing yet is kept.
+    /// Waits for a caller. One that sends nothing is kept.
     fn next_caller(&mut self) -> io::Result<Option<TcpStream>>
         ensures { self.new.faults ≡ self.old.faults }
     {
@@ -217,13 +220,22 @@ impl SocketListener {
         }
     }
 
+    /// Gives a caller that sends something before the next one comes, and keeps another. Where silent ones are there already, nobody is
+    /// waited for here.
     fn take(&mut self, stream: TcpStream) -> io::Result<Option<TcpStream>>
         ensures { self.new.faults ≡ self.old.faults }
     {
-        if is_there(&stream) {
+        let since = Instant::now(&self.rt)?;
+        let speaks = if self.silent.is_empty() {
+            let limit = Duration::from_secs(LOOK_SECONDS);
+            comes_first(&stream, &self.door.listener, limit)
+        } else {
+            is_there(&stream)
+        };
+        if speaks {
             return Ok(Some(stream));
         }
-        self.keep_silent(stream)?;
+        self.keep_silent(Silent { stream, since })?;
         Ok(None)
     }
 
@@ -234,19 +246,21 @@ impl SocketListener {
             asked.push(awaited(&each.stream))?;
         }
         asked.push(awaited(&self.door.listener))?;
-        poll(asked.as_mut_slice(), millis_of(Duration::from_secs(1)));
+        poll(
+            asked.as_mut_slice(),
+            millis_of(Duration::from_secs(LOOK_SECONDS)),
+        );
         Ok(first_answered(asked.as_slice(), self.silent.len()))
     }
 
     /// Keeps a caller that has sent nothing yet, and lets the longest silent one go where there are too many.
-    fn keep_silent(&mut self, stream: TcpStream) -> io::Result<()>
+    fn keep_silent(&mut self, caller: Silent) -> io::Result<()>
         ensures { self.new.faults ≡ self.old.faults }
     {
-        let since = Instant::now(&self.rt)?;
         if self.silent.len() >= SILENT_CALLERS {
             self.let_go_first();
         }
-        self.silent.push(Silent { stream, since })?;
+        self.silent.push(caller)?;
         Ok(())
     }
 

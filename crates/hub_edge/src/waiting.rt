@@ -51,3 +51,10 @@ pub(crate) fn comes_within(fd: &impl AsRawFd, limit: Duration) -> bool {
 pub(crate) fn is_there(fd: &impl AsRawFd) -> bool {
     poll(&mut [awaited(fd)], 0) > 0
 }
+
+/// Whether something comes within this time for the first of the two, and before something comes for the other.
+pub(crate) fn comes_first(fd: &impl AsRawFd, other: &impl AsRawFd, limit: Duration) -> bool {
+    let mut asked = [awaited(fd), awaited(other)];
+    poll(&mut asked, millis_of(limit));
+    asked[0].revents != 0
+}
