@@ -14,7 +14,7 @@ use std::io::{self, ErrorKind};
 use std::time::{Duration, Instant};
 
 /// How many bytes are read at once.
-const PIECE: usize = 16384;
+const PIECE: usize = 4096;
 
 /// Asks the hub at a target, by a connection for each request. A reply ends where the hub ends the connection, so each request
 /// has to wish that.
