@@ -11,6 +11,7 @@ use hub_devices::calls::Routing;
 use hub_kit::moment::Moment;
 use hub_kit::target::Target;
 use hub_kit::text::Text;
+use route_table::extra::Extra;
 use route_table::route::{RouteEntry, RouteRefusal};
 use route_table::routes::Routes;
 use std::alloc::{AllocError, Global};
@@ -24,7 +25,7 @@ fn entry(alloc: Global, target: &Target, serial: Option<u64>) -> Result<RouteEnt
     Ok(RouteEntry {
         target: target.copy(alloc)?,
         serial,
-        extra: Text::new(alloc),
+        extra: Extra::of(alloc, &Text::new(alloc))?,
     })
 }
 

@@ -10,6 +10,7 @@ use hub_kit::target::Target;
 use hub_kit::targets::{TargetError, read_target};
 use hub_kit::text::Text;
 use request_parts::body::body_object;
+use route_table::extra::Extra;
 use route_table::route::RouteEntry;
 use serde_json::{Map, Value};
 use std::alloc::{AllocError, Global};
@@ -40,7 +41,7 @@ fn others(members: &Map<String, Value>) -> Result<Map<String, Value>, AllocError
 }
 
 /// The text of an object's other members, unless a number in them is read as a float.
-fn extra_text(alloc: Global, members: &Map<String, Value>) -> Result<Option<Text>, AllocError>
+fn extra_text(alloc: Global, members: &Map<String, Value>) -> Result<Option<Extra>, AllocError>
     ensures { IfOk result (λ text. text ≡ spec.extra_text (members_view members.now.entries)) }
 {
     let others = others(members)?;
@@ -53,11 +54,11 @@ fn extra_text(alloc: Global, members: &Map<String, Value>) -> Result<Option<Text
     drop(value);
     // what is kept of many routes takes no more room than it needs, where a text that was written has room to grow
     let written = Text::from_string(text?);
-    Ok(Some(written.copy(alloc)?))
+    Ok(Some(Extra::of(alloc, &written)?))
 }
 
 /// The text of an object's other members, unless a number in them is read as a float, or the value is no object.
-fn extra_at(alloc: Global, body: &Value) -> Result<Option<Text>, AllocError>
+fn extra_at(alloc: Global, body: &Value) -> Result<Option<Extra>, AllocError>
     ensures { IfOk result (λ text. text ≡ spec.extra_at (view body.now)) }
 {
     match body.as_object() {
@@ -93,7 +94,7 @@ fn entry_to(
     alloc: Global,
     target: &str,
     serial: Option<u64>,
-    extra: Text,
+    extra: Extra,
 ) -> Result<RouteEntry, ApiRefusal>
     ensures ok { IfOk result (λ entry. spec.entry_to target.now serial extra ≡ Ok entry) }
     ensures err { IfErr result (λ e. e ≢ ApiRefusal.Memory → spec.entry_to target.now serial extra ≡ Err e) }
@@ -110,7 +111,7 @@ fn entry_kept(
     alloc: Global,
     target: &Target,
     serial: Option<u64>,
-    extra: Text,
+    extra: Extra,
 ) -> Result<RouteEntry, ApiRefusal>
     ensures ok { IfOk result (λ entry. entry ≡ record { target = target.now; serial = serial; extra = extra }) }
     ensures err { IfErr result (λ e. e ≡ ApiRefusal.Memory) }

@@ -6,6 +6,7 @@ ghost use Rattle.proxy_api.specs.Listings as spec;
 use hub_kit::moments::moment_text;
 use hub_kit::text::Text;
 use request_parts::body::body_object;
+use route_table::extra::Extra;
 use route_table::route::Route;
 use serde_json::{Map, Value, put};
 use std::alloc::{AllocError, Global};
@@ -30,7 +31,7 @@ fn members_in(alloc: Global, value: Option<Value>) -> Map<String, Value>
 }
 
 /// The members that were kept of an addition.
-fn extra_members(alloc: Global, extra: &Text) -> Result<Map<String, Value>, AllocError>
+fn extra_members(alloc: Global, extra: &Extra) -> Result<Map<String, Value>, AllocError>
     ensures { IfOk result (λ members. members_view members.entries ≡ spec.extra_members extra.now) }
 {
     Ok(members_in(alloc, body_object(alloc, extra.as_bytes())?))

@@ -19,6 +19,7 @@ use Rattle.hub_kit.specs.contracts.bytes.Bytes as Bytes
 use Rattle.hub_kit.specs.contracts.moment.Moment as Moment
 use Rattle.hub_kit.specs.contracts.target.Target as Target
 use Rattle.hub_kit.specs.contracts.text.Text as Text
+use Rattle.route_table.specs.contracts.extra.Extra as Extra
 use Rattle.route_table.specs.contracts.route.RouteEntry as RouteEntry
 use Rattle.route_table.specs.contracts.route.Route as Route
 use Rattle.route_table.specs.contracts.row.Row as Row
@@ -55,8 +56,11 @@ bytes_send = search (sendable, crosses) depth 12
 moment_send : IsSend Moment.the_row
 moment_send = search sendable depth 10
 
+extra_send : IsSend Extra.the_row
+extra_send = search (sendable, text_send) depth 12
+
 entry_send : IsSend (RouteEntry.the_field).row
-entry_send = search (sendable, text_send, target_send) depth 14
+entry_send = search (sendable, target_send, extra_send) depth 14
 
 route_send : IsSend (Route.the_field).row
 route_send = search (sendable, text_send, moment_send, entry_send) depth 12

@@ -5,6 +5,7 @@ use hub_kit::target::Target;
 use hub_kit::targets::read_target;
 use hub_kit::text::Text;
 use hub_link::mem_link::MemHubLink;
+use route_table::extra::Extra;
 use route_table::route::RouteEntry;
 use route_table::routes::Routes;
 use std::alloc::Global;
@@ -33,7 +34,7 @@ pub fn table(rt: &impl Abort, alloc: Global) -> Routes {
     let entry = RouteEntry {
         target: target(rt, alloc, b"http://127.0.0.1:9001"),
         serial: None,
-        extra: text(rt, alloc, "{}"),
+        extra: Extra::new(),
     };
     let added = routes.add(b"/user/ann", entry, Moment::zero());
     added.expect(rt, "there is memory");

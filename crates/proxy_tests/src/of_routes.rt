@@ -3,6 +3,7 @@ use crate::check::{check, target};
 use hub_kit::moment::Moment;
 use hub_kit::target::Target;
 use hub_kit::text::Text;
+use route_table::extra::Extra;
 use route_table::route::RouteEntry;
 use route_table::routes::Routes;
 use std::alloc::Global;
@@ -37,7 +38,7 @@ fn add(rt: &impl Abort, alloc: Global, routes: &mut Routes, number: u32, target:
     let entry = RouteEntry {
         target: target.copy(alloc).expect(rt, "there is memory"),
         serial: None,
-        extra: Text::new(alloc),
+        extra: Extra::new(),
     };
     let added = routes.add(path.as_bytes(), entry, Moment::zero());
     added.expect(rt, "there is room and memory");

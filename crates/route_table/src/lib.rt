@@ -5,6 +5,7 @@
 //! path, the serials and the limit; `Lookup` is what a proxy asks. The proxy's API and its forwarding stand on these.
 #![tactic(auto)]
 
+pub mod extra;
 pub mod laws;
 mod lists;
 pub mod lookup;

@@ -2,6 +2,7 @@
 ghost use Rattle.std.specs.Prelude.{◌≡◌, IfOk};
 ghost use Rattle.route_table.specs.Table.{is_idle_since};
 
+use crate::extra::Extra;
 use hub_kit::moment::Moment;
 use hub_kit::target::Target;
 use hub_kit::text::Text;
@@ -11,7 +12,7 @@ use std::alloc::{AllocError, Global};
 pub struct RouteEntry {
     pub target: Target,
     pub serial: Option<u64>,
-    pub extra: Text,
+    pub extra: Extra,
 }
 
 impl Drop for RouteEntry {
