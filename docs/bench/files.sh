@@ -1,7 +1,8 @@
 #!/bin/sh
 # What `session .. --db FILE` does with a file, which no clause can say: that each acknowledged change is there after the program was
 # killed, that a second hub is refused, how long an opening over many users takes, and how many changes a second it acknowledges beside the
-# stock sqlite3.
+# stock sqlite3. One by one, each is asked for once the one before is acknowledged, by a hub and a sqlite3 that are open. All at once, each
+# program finds all its work on its input: sqlite3 acknowledges nothing then, and the start and the end of both are counted.
 # usage: docs/bench/files.sh [PROGRAM [FOLDER]]
 # PROGRAM is the program `hub` as `rt run` leaves it (crates/hub/out/hub if none is named: run `./run` first). The files are made in a
 # folder of FOLDER, which decides what a sync costs (/tmp if none is named), and removed at the end. It needs the stock sqlite3, takes some
@@ -14,7 +15,7 @@ folder=$(mktemp -d "${2:-/tmp}/hub-files.XXXXXX")
 trap 'rm -rf "$folder"' EXIT
 cd "$folder"
 python3 - "$program" <<'PYTHON'
-import hashlib, json, os, random, signal, sqlite3, subprocess, sys, time
+import hashlib, json, os, random, re, signal, sqlite3, subprocess, sys, time
 
 program = sys.argv[1]
 WORDS = [program, "session", "1700000000", "ann", "secret-token-ann", "--admin"]
@@ -204,8 +205,70 @@ def open_many():
 # ---- changes a second
 
 
+def answered(pipe, is_whole):
+    """What a program writes, read until it is a whole answer."""
+    text = b""
+    while not is_whole(text):
+        part = os.read(pipe, 65536)
+        if not part:
+            fail(f"the output ends after {text!r}")
+        text += part
+    return text
+
+
+def is_reply(text):
+    head, found, body = text.partition(b"\r\n\r\n")
+    length = re.search(rb"(?i)\r\ncontent-length: *(\d+)", head)
+    return bool(found) and len(body) >= int(length[1] if length else 0)
+
+
 def changes(count, file):
-    """Changes a second that a hub acknowledges, the requests standing on its input."""
+    """Changes a second that an open hub acknowledges, each asked for once the one before is acknowledged."""
+    hub = session(file, "--no-trail")
+    if ask(hub, request(b"GET", b"/hub/api/user")) != 200:
+        fail(f"{file} isn't opened")
+    texts = [new_user(f"c{n:06d}") for n in range(count)]
+    output = hub.stdout.fileno()
+    before = time.monotonic()
+    for text in texts:
+        hub.stdin.write(text)
+        if not answered(output, is_reply).startswith(b"HTTP/1.1 201"):
+            fail("a change isn't made")
+    took = time.monotonic() - before
+    end(hub)
+    return count / took
+
+
+def stock_lines(count):
+    """What makes the stock sqlite3 keep the same rows in the same form with the same journal and syncs, and then one commit a line."""
+    first = "PRAGMA journal_mode = wal; PRAGMA synchronous = full;"
+    first += " CREATE TABLE row (kind INTEGER, key TEXT, text TEXT, PRIMARY KEY (kind, key)) STRICT; SELECT 'open';"
+    put = "ON CONFLICT (kind, key) DO UPDATE SET text = excluded.text"
+    rows = [f"(1, 'c{n:06d}', '{USER}')" for n in range(count)]
+    return first, [f"BEGIN; INSERT INTO row (kind, key, text) VALUES {row} {put}; COMMIT;" for row in rows]
+
+
+def stock_changes(count, file):
+    """Commits a second of the stock sqlite3, each asked for once it has said that the one before is done."""
+    first, lines = stock_lines(count)
+    kept = subprocess.Popen(["sqlite3", "-batch", file], stdin=subprocess.PIPE, stdout=subprocess.PIPE, bufsize=0)
+    output = kept.stdout.fileno()
+    kept.stdin.write(first.encode() + b"\n")
+    answered(output, lambda text: text.endswith(b"open\n"))
+    lines = [line.encode() + b" SELECT 1;\n" for line in lines]
+    before = time.monotonic()
+    for line in lines:
+        kept.stdin.write(line)
+        answered(output, lambda text: text == b"1\n")
+    took = time.monotonic() - before
+    kept.stdin.close()
+    if kept.wait():
+        fail("sqlite3 doesn't end well")
+    return count / took
+
+
+def all_changes(count, file):
+    """Changes a second of a hub that finds all requests on its input, its start and end among the time."""
     text = b"".join(new_user(f"c{n:06d}") for n in range(count))
     before = time.monotonic()
     ran = subprocess.run([*WORDS, "--db", file, "--no-trail"], input=text, stdout=subprocess.PIPE, stderr=subprocess.PIPE)
@@ -215,25 +278,32 @@ def changes(count, file):
     return count / took
 
 
-def stock_changes(count, file):
-    """Commits a second of the stock sqlite3, with the same journal and syncs."""
-    lines = ["PRAGMA journal_mode = wal; PRAGMA synchronous = full;"]
-    lines.append("CREATE TABLE row (kind INTEGER, key TEXT, text TEXT, PRIMARY KEY (kind, key)) STRICT;")
-    put = "ON CONFLICT (kind, key) DO UPDATE SET text = excluded.text"
-    for n in range(count):
-        lines.append(f"BEGIN; INSERT INTO row (kind, key, text) VALUES (1, 'c{n:06d}', '{USER}') {put}; COMMIT;")
+def all_stock_changes(count, file):
+    """Commits a second of the stock sqlite3 that finds all statements on its input and answers none, its start and end among the time."""
+    first, lines = stock_lines(count)
     before = time.monotonic()
-    subprocess.run(["sqlite3", file], input="\n".join(lines), stdout=subprocess.DEVNULL, text=True, check=True)
+    subprocess.run(["sqlite3", file], input="\n".join([first, *lines]), stdout=subprocess.DEVNULL, text=True, check=True)
     return count / (time.monotonic() - before)
 
 
+def median(figures):
+    return sorted(figures)[len(figures) // 2]
+
+
 def race():
-    ours, theirs = [], []
-    for turn in range(5):
-        # a connection has at most 1,000 replies
-        ours.append(changes(1000, f"ours{turn}.db"))
-        theirs.append(stock_changes(1000, f"theirs{turn}.db"))
-    print(f"changes a second: {max(ours):.0f}, sqlite3 {max(theirs):.0f}: {max(ours) / max(theirs):.2f} of it, goal 0.9", flush=True)
+    # a connection has at most 1,000 replies
+    rounds = {"one by one": (999, changes, stock_changes), "all at once, with start and end": (1000, all_changes, all_stock_changes)}
+    for name, (count, ours_do, theirs_do) in rounds.items():
+        word = name.split()[0].strip(",")
+        ours, theirs = [], []
+        for turn in range(7):
+            ours.append(ours_do(count, f"ours-{word}{turn}.db"))
+            theirs.append(theirs_do(count, f"theirs-{word}{turn}.db"))
+        print(
+            f"changes a second, {name}: the best {max(ours):.0f}, sqlite3 {max(theirs):.0f}, {max(ours) / max(theirs):.2f} of it;"
+            f" the median {median(ours):.0f}, sqlite3 {median(theirs):.0f}, {median(ours) / median(theirs):.2f} of it; goal 0.9",
+            flush=True,
+        )
 
 
 kill_many()
