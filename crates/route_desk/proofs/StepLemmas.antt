@@ -7,7 +7,7 @@ use Rattle.desk.specs.Passes.{PassState}
 use Rattle.desk.specs.Visits.{Visited}
 use Rattle.desk.specs.OwnEntries.{added, placed}
 use Rattle.route_desk.specs.declared.step.Step.{Step}
-use Rattle.route_desk.specs.History.{Makes, Leads, Standing, IsFull, Steps, Stepped}
+use Rattle.route_desk.specs.History.{Makes, Leads, Standing, IsFull, IsUnmade, Steps, Stepped}
 
 -- one step more
 pub leads_on : (first : Table) (past : List Step) (table : Table) (step : Step) (after : Table) → Leads first past table → Makes table step after
@@ -23,7 +23,11 @@ added_none past = ap (λ (xs : List Step). placed (length past) xs) (drop-length
 
 pub appends : (b b' : Standing) (step : Step) → Steps b step b' → IsPrefix b.past b'.past
 appends b b' step (inl noted) = (step ∷ [], sym noted.past)
-appends b b' step (inr (full, same)) = ([], append-nil b.past ∙ sym (ap (λ (s : Standing). s.past) same))
+appends b b' step (inr unmade) = ([], append-nil b.past ∙ sym (ap (λ (s : Standing). s.past) unmade.same))
+
+-- a step that can't be noted isn't made
+pub not_made : (b : Standing) (step : Step) → IsFull b.past → Leads b.first b.past b.table → IsUnmade b.table step → Steps b step b
+not_made b step full leads says = inr (record { full = full; leads = leads; says = says; same = refl })
 
 -- what a visit with a step tells
 pub stepped : (p q : PassState Step Table) (b b' : Standing) (step : Step) → Steps b step b'
@@ -42,11 +46,17 @@ stepped p q b b' step (inl noted) visited = inl (record {
   mine = visited.mine ∙ (ap (λ (xs : List Step). p.mine ++ added b.past xs) noted.past ∙ ap (λ xs. p.mine ++ xs) (added_one b.past step));
   same = visited.same;
 })
-stepped p q b b' step (inr (full, same)) visited =
-    let seen : q.seen ≡ b.past = visited.seen ∙ ap (λ (s : Standing). s.past) same in inr (record {
-      full = subst (λ (xs : List Step). IsFull xs) (sym seen) full;
+stepped p q b b' step (inr unmade) visited =
+    let seen : q.seen ≡ b.past = visited.seen ∙ ap (λ (s : Standing). s.past) unmade.same in inr (record {
+      first = b.first;
+      table = b.table;
+      base = visited.found_base;
       begins = subst (λ (xs : List Step). IsPrefix p.seen xs) (sym seen) visited.begins;
+      whole = λ alone. seen ∙ visited.whole alone;
+      full = subst (λ (xs : List Step). IsFull xs) (sym seen) unmade.full;
+      leads = subst (λ (xs : List Step). Leads b.first xs b.table) (sym seen) unmade.leads;
+      says = unmade.says;
       mine = visited.mine
-          ∙ (ap (λ (s : Standing). p.mine ++ added b.past s.past) same ∙ (ap (λ xs. p.mine ++ xs) (added_none b.past) ∙ append-nil p.mine));
+          ∙ (ap (λ (s : Standing). p.mine ++ added b.past s.past) unmade.same ∙ (ap (λ xs. p.mine ++ xs) (added_none b.past) ∙ append-nil p.mine));
       same = visited.same;
     })

@@ -1,7 +1,7 @@
 //! The table of routes with the steps that led to it.
 ghost use Rattle.std.specs.Prelude.{◌≡◌, ◌≤◌, ◌^◌, ℕ, [], length, Some, Err, IfOk, IfErr, is_err};
 ghost use Rattle.route_desk.specs.declared.step.Step.TheVariants.{Looked, Asked};
-ghost use Rattle.route_desk.specs.History.{Steps, first_book, IsLookAnswer};
+ghost use Rattle.route_desk.specs.History.{Steps, first_book, IsLookAnswer, IsUnmade};
 
 use crate::past::Past;
 use crate::step::Step;
@@ -76,6 +76,17 @@ impl RouteBook {
         })
     }
 
+    /// What a look-up that can't be noted is answered: the target that is found isn't told.
+    fn look_untold(&self, path: &[u8]) -> Result<Target, RouteRefusal>
+        ensures unmade { (now : ℕ) → IsUnmade self.now.table (Looked path.now now result) }
+        ensures answer { IsLookAnswer path.now result }
+    {
+        match self.routes.find(path) {
+            Ok(_) => Err(RouteRefusal::Memory),
+            Err(refusal) => Err(refusal),
+        }
+    }
+
     /// One look-up.
     pub(crate) fn look(
         &mut self,
@@ -87,10 +98,7 @@ impl RouteBook {
         ensures answer { IsLookAnswer path.now result }
     {
         if self.count >= MOST {
-            return match self.routes.find(path) {
-                Ok(_) => Err(RouteRefusal::Memory),
-                Err(refusal) => Err(refusal),
-            };
+            return self.look_untold(path);
         }
         let answer = self.routes.look(alloc, path, now);
         self.past.note_look(path, now, &answer);
