@@ -8,13 +8,15 @@ use Rattle.hub_config.specs.declared.config.ConfigManaged.{ConfigManaged}
 use Rattle.hub_opening.specs.Kept.{MakeTable}
 use Rattle.hub_opening.specs.declared.config.HubConfig.{HubConfig}
 use Rattle.hub_words.specs.declared.serve.ServeWords.{ServeWords}
+use Rattle.hub_devices.specs.NamedFiles.{Reads}
 use Rattle.hub_main.specs.Told.{FilesTold}
+use Rattle.hub_main.specs.Configured.{most}
 use Rattle.hub_main.specs.Opened.{Opens}
 use Rattle.hub_main.specs.declared.cause.Cause.TheVariants.{Memory}
 use Rattle.hub_main.proofs.Books.{opened_by_end}
 use Rattle.hub_main.proofs.Configurations.{file_fits, file_scopes}
 use Rattle.hub_serving.specs.Hall.{Hall}
-use Rattle.hub_serving.specs.Plans.{HasNoPlan, IsPlanOf, IsRead}
+use Rattle.hub_serving.specs.Plans.{HasNoPlan, IsPlanOf}
 use Rattle.hub_serving.specs.Ends.{End, status_of}
 use Rattle.hub_serving.specs.Served.{EndsOver}
 use Rattle.hub_serving.specs.Commands.{EndsChosen, EndsPlanned, RunEnds}
@@ -25,12 +27,12 @@ both_true : (a b : Bool) → (a && b) ≡ true → a ≡ true
 both_true true b h = refl
 both_true false b h = cc
 
-plan_fits : (found : Option ServeWords) (files : FilesTold) (plan : Plan) → IsPlanOf found files plan → plan.hub.limits.trail_bytes ≤ 2 ^ 62
+pub plan_fits : (found : Option ServeWords) (files : FilesTold) (plan : Plan) → IsPlanOf found files plan → plan.hub.limits.trail_bytes ≤ 2 ^ 62
 plan_fits None files plan is = absurd is
 plan_fits (Some words) files plan is =
     subst (λ (c : HubConfig). c.limits.trail_bytes ≤ 2 ^ 62) (sym is.says.hub) (file_fits files words.config is.file is.found)
 
-plan_scopes : (found : Option ServeWords) (files : FilesTold) (plan : Plan) → IsPlanOf found files plan → MakeTable plan.hub.custom_scopes
+pub plan_scopes : (found : Option ServeWords) (files : FilesTold) (plan : Plan) → IsPlanOf found files plan → MakeTable plan.hub.custom_scopes
 plan_scopes None files plan is = absurd is
 plan_scopes (Some words) files plan is =
     subst (λ (c : HubConfig). MakeTable c.custom_scopes) (sym is.says.hub) (file_scopes files words.config is.file is.found)
@@ -40,14 +42,19 @@ plan_apart None files plan is = absurd is
 plan_apart (Some words) files plan is =
     subst (λ (ms : List ConfigManaged). are_distinct ms ≡ true) (sym is.says.managed) (both_true _ _ is.found.said.sound.apart)
 
-pub read_fits : (plan : Plan) → IsRead plan → plan.hub.limits.trail_bytes ≤ 2 ^ 62
-read_fits plan (found, files, is) = plan_fits found files plan is
-
-pub read_scopes : (plan : Plan) → IsRead plan → MakeTable plan.hub.custom_scopes
-read_scopes plan (found, files, is) = plan_scopes found files plan is
-
-pub read_apart : (plan : Plan) → IsRead plan → are_distinct plan.managed ≡ true
-read_apart plan (found, files, is) = plan_apart found files plan is
+-- a plan is that of the files, however often they failed since
+pub still_plan : (found : Option ServeWords) (files files' : FilesTold) (plan : Plan) → files'.files ≡ files.files
+    → IsPlanOf found files plan → IsPlanOf found files' plan
+still_plan None files files' plan same is = is
+still_plan (Some words) files files' plan same is = record {
+  file = is.file;
+  found = record {
+    bytes = is.found.bytes;
+    reads = subst (λ told. Reads told words.config most is.found.bytes) (sym same) is.found.reads;
+    said = is.found.said;
+  };
+  says = is.says;
+}
 
 -- memory was wanting to read the words
 pub wanting_plan : (found : Option ServeWords) (files : FilesTold) → HasNoPlan found files files (Because Memory)

@@ -20,6 +20,7 @@ pub record IsOf (file : FileConfig) (words : ServeWords) (plan : Plan) : Type 0 
   pub workers : plan.workers ≡ words.workers
   pub connections : plan.connections ≡ words.connections
 
+-- the file of the words is a configuration, and the plan is theirs
 pub record IsPlan (files : FilesTold) (words : ServeWords) (plan : Plan) : Type 0 where
   pub file : FileConfig
   pub found : IsFile files words.config file
@@ -32,13 +33,10 @@ IsUnplanned files files' name NoAddress = (file : FileConfig) × IsFile files na
 
 -- ---- the words
 
+-- the words are those of `serve`, and the plan is theirs and their file's
 abbrev pub IsPlanOf : Option ServeWords → FilesTold → Plan → Type 0
 IsPlanOf None files plan = ⊥
 IsPlanOf (Some words) files plan = IsPlan files words plan
-
--- some words and the file that they name say so
-abbrev pub IsRead : Plan → Type 0
-IsRead plan = (found : Option ServeWords) × (files : FilesTold) × IsPlanOf found files plan
 
 -- the words are refused, or memory was wanting to read them; or they are those of `serve`
 abbrev pub HasNoPlan : Option ServeWords → (files files' : FilesTold) → NotServed → Type 0

@@ -3,15 +3,19 @@ ghost use Rattle.std.specs.Prelude.{◌≡◌, ◌≤◌, ◌<◌, ◌^◌, not,
 ghost use Rattle.hub_config.specs.Managed.{are_distinct};
 ghost use Rattle.hub_opening.specs.Kept.{MakeTable};
 ghost use Rattle.hub_serving.specs.Commands as spec;
+ghost use Rattle.hub_main.specs.Told.{files_told};
 ghost use Rattle.hub_serving.specs.Hall.{hall};
-ghost use Rattle.hub_serving.specs.Plans.{IsRead};
+ghost use Rattle.hub_serving.specs.Plans.{IsPlanOf};
+ghost use Rattle.hub_words.specs.Serve.{serve_read};
 
 use crate::end::{End, NotServed, status_of};
 use crate::plan::Plan;
 use crate::serving::serve_book;
 use crate::world::{ServeOutside, ServeWorld};
 use hub_devices::clock::Clock;
+use hub_devices::files::Files;
 use hub_kit::moment::Moment;
+use hub_kit::text::Text;
 use hub_machine::change::Change;
 use hub_main::opening::{choose, open_book};
 use keeper::trail::{CountTrail, ListTrail, Trail};
@@ -93,8 +97,8 @@ fn run_planned<W: ServeWorld, R: Threads + Wait + Sync>(
     run_at(rt, alloc, plan, now, store, outside)
 }
 
-/// Runs the command `serve` by its plan, over the store that the outside has, which is put back at the end, whatever the status. The plan is
-/// what `read_plan` read: nothing is read of its file again.
+/// Runs the command `serve` by the plan that `read_plan` read of these words and their file, over the store that the outside has, which is
+/// put back at the end, whatever the status. Words and file stand here so that the plan has to be theirs: nothing is read of either again.
 ///
 /// The status is 3 where a name in a list is neither kept nor configured, where a running server has a target that the pool hasn't, or a
 /// table would pass its limit; 4 where the store doesn't take its place, fails at opening, or has a row that doesn't read; 7 where memory is
@@ -102,13 +106,15 @@ fn run_planned<W: ServeWorld, R: Threads + Wait + Sync>(
 /// brought into step unless their link failed, the services were tended and stopped, the line `served N` is written, and the rows are those
 /// of the last state of the history. The status is then 0 where as many connections were served as the words ask for, 8 where the listener
 /// failed before that, 6 where the output failed, and 7 where memory was wanting for the line.
-pub fn run<W: ServeWorld, R: Threads + Wait + Sync>(
+pub fn run<F: Files, W: ServeWorld, R: Threads + Wait + Sync>(
     rt: &R,
     alloc: Global,
+    words: &[Text],
+    files: &F,
     plan: &Plan,
     outside: &mut ServeOutside<W>,
 ) -> u8
-    requires read { IsRead plan.now }
+    requires read { IsPlanOf (serve_read words.now) (files_told F.files F.faults files.now) plan.now }
     requires store { IsSome outside.old.store }
     requires kits { 0 < length outside.old.kits.items }
     ensures store { IsSome outside.new.store }
@@ -116,6 +122,9 @@ pub fn run<W: ServeWorld, R: Threads + Wait + Sync>(
         (hall W.Out.held W.Out.faults W.Doors.given W.Doors.faults W.Time.to_come W.Draws.left W.Starts.calls W.Paths.calls W.Draws.faults W.Starts.faults W.Paths.faults W.Runs.calls W.Runs.faults outside.old.output outside.old.doors outside.old.kit outside.old.services)
         (hall W.Out.held W.Out.faults W.Doors.given W.Doors.faults W.Time.to_come W.Draws.left W.Starts.calls W.Paths.calls W.Draws.faults W.Starts.faults W.Paths.faults W.Runs.calls W.Runs.faults outside.new.output outside.new.doors outside.new.kit outside.new.services) k k' outside.new.end result }
 {
+    // what they say is the plan
+    let _ = words;
+    let _ = files;
     let Some(store) = outside.store.take() else {
         unreachable!()
     };

@@ -1,12 +1,15 @@
 //! The command `serve`: a hub on a socket, which starts programs.
-ghost use Rattle.std.specs.Prelude.{◌≡◌, ◌<◌, Bool, length, IfOk, IfSome};
-ghost use Rattle.hub_serving.specs.Ends.{forgiven_status};
-ghost use Rattle.hub_serving.specs.Plans.{IsRead};
+ghost use Rattle.std.specs.Prelude.{◌≡◌, ◌<◌, length, IfOk, IsSome, IfSome};
+ghost use Rattle.hub_main.specs.Told.{files_told};
+ghost use Rattle.hub_serving.specs.Ends.{forgiven_status, status_of};
+ghost use Rattle.hub_serving.specs.Plans.{IsPlanOf};
+ghost use Rattle.hub_words.specs.Serve.{serve_read};
 
 use crate::paths::HubRoutes;
 use crate::services::service_kit;
 use crate::system::ServeSystem;
 use crate::telling::{announce, tell_refused, tell_served};
+use hub_devices::files::Files;
 use hub_edge::clock::SystemClock;
 use hub_edge::ending::close_at_end_of_input;
 use hub_edge::files::SystemFiles;
@@ -131,11 +134,11 @@ fn outside<K: ProgramStore + Send, H: Threads + Wait + Copy + Send + Sync>(
 }
 
 /// The status. A listener that was closed since standard input ended hasn't failed.
-fn status_at_end(status: u8, end: &Option<End>, closer: &Closer) -> u8
-    ensures { IfSome end.now (λ e. (closed : Bool) × (result ≡ forgiven_status closed e)) }
+fn status_at_end(status: u8, end: &Option<End>, closed: bool) -> u8
+    ensures { IfSome end.now (λ e. result ≡ forgiven_status closed e) }
 {
     match end {
-        Some(end) => forgiven_status(end, closer.is_closed()),
+        Some(end) => forgiven_status(end, closed),
         None => status,
     }
 }
@@ -144,18 +147,18 @@ fn status_at_end(status: u8, end: &Option<End>, closer: &Closer) -> u8
 fn run_over<K: ProgramStore + Send, H: Threads + Wait + Copy + Send + Sync>(
     rt: &HostRuntime,
     handle: &H,
+    words: &[Text],
+    files: &SystemFiles,
     plan: &Plan,
     outside: &mut ServeOutside<ServeSystem<K, H>>,
-    store: K,
     closer: &Closer,
 ) -> u8
-    requires read { IsRead plan.now }
+    requires read { IsPlanOf (serve_read words.now) (files_told ⟦<SystemFiles as Files>⟧.files ⟦<SystemFiles as Files>⟧.faults files.now) plan.now }
+    requires store { IsSome outside.old.store }
     requires kits { 0 < length outside.old.kits.items }
-    ensures { IfSome outside.new.end (λ e. (closed : Bool) × (result ≡ forgiven_status closed e)) }
 {
-    outside.store = Some(store);
-    let status = run(handle, rt.alloc(), plan, outside);
-    let status = status_at_end(status, &outside.end, closer);
+    let status = run(handle, rt.alloc(), words, files, plan, outside);
+    let status = status_at_end(status, &outside.end, closer.is_closed());
     if status != 0 {
         tell_served(rt, outside);
     }
@@ -166,10 +169,12 @@ fn run_over<K: ProgramStore + Send, H: Threads + Wait + Copy + Send + Sync>(
 fn serve_plan<K: ProgramStore + Send, H: Threads + Wait + Copy + Send + Sync>(
     rt: HostRuntime,
     handle: H,
+    words: &[Text],
+    files: &SystemFiles,
     plan: &Plan,
     store: K,
 ) -> ExitCode
-    requires { IsRead plan.now }
+    requires read { IsPlanOf (serve_read words.now) (files_told ⟦<SystemFiles as Files>⟧.files ⟦<SystemFiles as Files>⟧.faults files.now) plan.now }
 {
     let Ok((listener, closer)) = open_listener(rt, &handle, &plan.listen) else {
         drop(store);
@@ -184,7 +189,8 @@ fn serve_plan<K: ProgramStore + Send, H: Threads + Wait + Copy + Send + Sync>(
         drop(store);
         return say(&rt, 7, "there is no memory");
     };
-    let status = run_over(&rt, &handle, plan, &mut outside, store, &closer);
+    outside.store = Some(store);
+    let status = run_over(&rt, &handle, words, files, plan, &mut outside, &closer);
     if let Some(store) = outside.store.take() {
         store.close();
     }
@@ -196,13 +202,15 @@ fn serve_plan<K: ProgramStore + Send, H: Threads + Wait + Copy + Send + Sync>(
 fn serve_in_memory<H: Threads + Wait + Copy + Send + Sync>(
     rt: HostRuntime,
     handle: H,
+    words: &[Text],
+    files: &SystemFiles,
     plan: &Plan,
 ) -> ExitCode
-    requires { IsRead plan.now }
+    requires read { IsPlanOf (serve_read words.now) (files_told ⟦<SystemFiles as Files>⟧.files ⟦<SystemFiles as Files>⟧.faults files.now) plan.now }
 {
     let alloc = rt.alloc();
     match MemKeeper::new(alloc, Vec::new(alloc), Vec::new(alloc)) {
-        Ok(store) => serve_plan(rt, handle, plan, store),
+        Ok(store) => serve_plan(rt, handle, words, files, plan, store),
         Err(_) => say(&rt, 7, "there is no memory"),
     }
 }
@@ -218,10 +226,12 @@ fn keep<S: Start, H: Wait + Copy>(rt: HostRuntime, start: S, thread: StoreThread
 fn serve_in_file<S: Start + Send + 'static, H: Threads + Wait + Copy + Send + Sync + 'static>(
     rt: HostRuntime,
     handle: H,
+    words: &[Text],
+    files: &SystemFiles,
     plan: &Plan,
     start: S,
 ) -> ExitCode
-    requires { IsRead plan.now }
+    requires read { IsPlanOf (serve_read words.now) (files_told ⟦<SystemFiles as Files>⟧.files ⟦<SystemFiles as Files>⟧.faults files.now) plan.now }
 {
     let Ok((store, thread)) = far_store(rt.alloc(), handle) else {
         drop(start);
@@ -231,7 +241,7 @@ fn serve_in_file<S: Start + Send + 'static, H: Threads + Wait + Copy + Send + Sy
         drop(store);
         return say(&rt, 7, "there is no memory for a thread");
     };
-    let code = serve_plan(rt, handle, plan, store);
+    let code = serve_plan(rt, handle, words, files, plan, store);
     // the file is closed by then
     keeping.join(&handle);
     code
@@ -239,7 +249,7 @@ fn serve_in_file<S: Start + Send + 'static, H: Threads + Wait + Copy + Send + Sy
 
 /// The plan of these words and their file, which is read here and nowhere else.
 fn planned(alloc: Global, files: &mut SystemFiles, words: &[Text]) -> Result<Plan, NotServed>
-    ensures { IfOk result (λ plan. IsRead plan) }
+    ensures { IfOk result (IsPlanOf (serve_read words.now) (files_told ⟦<SystemFiles as Files>⟧.files ⟦<SystemFiles as Files>⟧.faults files.new)) }
 {
     read_plan(alloc, files, words)
 }
@@ -257,10 +267,10 @@ pub fn serve<S: Start + Send + 'static, H: Threads + Wait + Copy + Send + Sync +
     match planned(rt.alloc(), &mut files, words) {
         Ok(plan) => {
             let code = if plan.db.is_some() {
-                serve_in_file(rt, handle, &plan, start)
+                serve_in_file(rt, handle, words, &files, &plan, start)
             } else {
                 drop(start);
-                serve_in_memory(rt, handle, &plan)
+                serve_in_memory(rt, handle, words, &files, &plan)
             };
             drop(plan);
             code

@@ -198,18 +198,17 @@ pub fn ended<R: Threads + Wait + Abort + Sync>(
 ) -> (bool, MemOutside) {
     let words = words_of(rt, alloc, command.words);
     let mut files = files(rt, alloc, command.file);
-    let plan = read_plan(alloc, &mut files, words.as_slice());
-    drop(files);
-    drop(words);
     let mut outside = outside(rt, alloc, command);
-    let status = match plan {
+    let status = match read_plan(alloc, &mut files, words.as_slice()) {
         Ok(plan) => {
-            let status = run(rt, alloc, &plan, &mut outside);
+            let status = run(rt, alloc, words.as_slice(), &files, &plan, &mut outside);
             drop(plan);
             status
         }
         Err(why) => why.status(),
     };
+    drop(files);
+    drop(words);
     let so = (status == command.status) & (outside.output.as_slice() == command.output);
     (so, outside)
 }
