@@ -1,5 +1,5 @@
 -- What is true of each plan, and what follows the words.
-use Rattle.std.proofs.Common.{◌≡◌, ◌≤◌, ◌^◌, inl, inr, ℕ, Bool, true, false, ◌&&◌, IsTrue, not, List, Option, Some, None, is_some, Result, Ok, Err, refl, sym, ap, subst}
+use Rattle.std.proofs.Common.{◌≡◌, ◌≤◌, ◌^◌, inl, inr, ℕ, Bool, true, false, ◌&&◌, IsTrue, List, Option, Some, None, is_some, Result, Ok, Err, refl, sym, ap, subst}
 use Rattle.keeper.specs.Rows.{Rows}
 use Rattle.hub_core.specs.Visits.{Standing}
 use Rattle.hub_machine.specs.declared.change.Change.{Change}
@@ -67,7 +67,7 @@ same a b is = cc
 module _ {K : Type 0} (Tells : K → Type 0) (rows : K → Rows) (faults : K → ℕ) where
   -- what follows over the book
   pub ends_over : (plan : Plan) (now : ℕ) (history : Option (List Change)) (h h' : Hall) (k k' : K) (b : Standing) (end : End)
-      → Opens plan.hub now history (rows k) (faults k) b → is_some history ≡ not plan.hub.no_trail → (Tells k' → IsTrue b.start.has_rows)
+      → Opens plan.hub now history (rows k) (faults k) b → is_some history ≡ true → (Tells k' → IsTrue b.start.has_rows)
       → EndsOver Tells rows faults b.start b.faults plan h h' k' end → EndsChosen Tells rows faults plan now h h' k k' end
   ends_over plan now history h h' k k' b end opened trail had over =
       inr (b.start, b.faults, opened_by_end Tells rows faults plan.hub now history k k' b opened trail had, over)

@@ -1,5 +1,5 @@
 //! The command `serve` by its plan, over the outside that the program makes.
-ghost use Rattle.std.specs.Prelude.{◌≡◌, ◌≤◌, ◌<◌, ◌^◌, not, Some, IsSome, is_some, length, true};
+ghost use Rattle.std.specs.Prelude.{◌≡◌, ◌≤◌, ◌<◌, ◌^◌, [], Some, IsSome, length, true};
 ghost use Rattle.hub_config.specs.Managed.{are_distinct};
 ghost use Rattle.hub_opening.specs.Kept.{MakeTable};
 ghost use Rattle.hub_serving.specs.Commands as spec;
@@ -33,8 +33,7 @@ fn run_over<W: ServeWorld, T: Trail<Entry = Change> + Send, R: Threads + Wait + 
     store: W::Store,
     outside: &mut ServeOutside<W>,
 ) -> (End, W::Store)
-    requires empty { T.long trail ≡ 0 }
-    requires told { is_some (T.told trail) ≡ not plan.now.hub.no_trail }
+    requires empty { T.told trail ≡ Some [] }
     requires limits { plan.now.hub.limits.trail_bytes ≤ 2 ^ 62 }
     requires scopes { MakeTable plan.now.hub.custom_scopes }
     requires apart { are_distinct plan.now.managed ≡ true }
@@ -49,7 +48,7 @@ fn run_over<W: ServeWorld, T: Trail<Entry = Change> + Send, R: Threads + Wait + 
     }
 }
 
-/// What follows over a chosen store, with a trail or none.
+/// What follows over a chosen store, with a trail or its length alone.
 fn run_at<W: ServeWorld, R: Threads + Wait + Sync>(
     rt: &R,
     alloc: Global,
