@@ -14,12 +14,17 @@ use keeper_sqlite::sqlite_keeper::SqliteKeeper;
 use sqlite::{Alter, Connection, Error, ErrorCode, FileFrom, FileStore, Files, Options, Start};
 use sqlite_std_file::OpenError;
 use std::alloc::Global;
-use std::fmt;
 use std::hash::{BuildHasher, RandomState};
 use std::io::ErrorKind;
+use std::{fmt, fs};
 
-/// How many pages of 4,096 bytes that were read are kept in memory: four megabytes, in which a file of 10,000 users stands.
-const CACHE_PAGES: usize = 1_000;
+/// How many pages that were read are kept in memory at least: four megabytes, in which a file of 10,000 users stands.
+const LEAST_CACHE_PAGES: usize = 1_000;
+
+/// And at most: 64 megabytes, in which a file of 190,000 users stands.
+const MOST_CACHE_PAGES: usize = 16_000;
+
+const PAGE_BYTES: u64 = 4_096;
 
 /// Why a file isn't taken as a store. All but want of memory are faults.
 #[derive(Clone, Copy, Debug, PartialEq, Eq)]
@@ -152,7 +157,7 @@ fn open_database<S: Start>(
     ensures opened { IfOk result (λ c. HasCleanDisk (file_state c) → IsOpened c) }
     ensures found { IfOk result (λ c. HasCleanDisk (file_state c) → FindsIn (image_at S.Start) (file_state c)) }
 {
-    let options = options(rt)?;
+    let options = options(rt, path)?;
     let files = open_pair(rt, path, start)?;
     match Connection::open_files(rt.alloc(), files, options) {
         Ok(connection) => Ok(connection),
@@ -160,13 +165,22 @@ fn open_database<S: Start>(
     }
 }
 
-/// What a connection keeps in memory. Its log begins at random.
-fn options(rt: &HostRuntime) -> Result<Options, FileError> {
+/// How many pages of the file at a path are kept in memory: all that it has now, within limits, since an opening reads each several times.
+fn cache_pages(rt: &HostRuntime, path: &str) -> usize {
+    let Ok(found) = fs::metadata(rt, path) else {
+        return LEAST_CACHE_PAGES;
+    };
+    let pages = (found.len() / PAGE_BYTES) as usize;
+    pages.clamp(LEAST_CACHE_PAGES, MOST_CACHE_PAGES)
+}
+
+/// What a connection to the file at a path keeps in memory. Its log begins at random.
+fn options(rt: &HostRuntime, path: &str) -> Result<Options, FileError> {
     let Ok(state) = RandomState::new(rt) else {
         return Err(FileError::CannotOpen);
     };
     Ok(Options {
-        cache_pages: CACHE_PAGES,
+        cache_pages: cache_pages(rt, path),
         ..Options::new(state.hash_one(&0u8))
     })
 }
