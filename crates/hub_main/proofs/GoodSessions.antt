@@ -27,7 +27,7 @@ use Rattle.hub_main.specs.declared.known_names.AnyName.{AnyName}
 use Rattle.hub_main.proofs.Unknown.{unknown_where}
 use Rattle.hub_main.proofs.Moved.{bad_before, full_before, lost_before}
 
-never : (before after : ℕ) → Stands before after → Rises before after → ⊥
+pub never : (before after : ℕ) → Stands before after → Rises before after → ⊥
 never before after stands rises = let risen = rises stands.0 in let low = stands.1 in omega (arith, risen, low)
 
 seven : IsGoodStatus 7
@@ -66,9 +66,9 @@ found_good files files' words (UnknownName name) stands reads unfound = absurd u
 found_good files files' words NoStore stands reads unfound = absurd unfound
 found_good files files' words (NotOpened e) stands reads unfound = absurd unfound
 
-chosen_good : (before after : ℕ) (cause : Cause) → Stands before after → IsUnchosen before after cause → IsGoodStatus (cause_status cause)
+pub chosen_good : (before after : ℕ) (cause : Cause) → Stands before after → IsUnchosen before after cause → cause_status cause ≡ 7
 chosen_good before after NoStore stands unchosen = absurd (never before after stands unchosen)
-chosen_good before after Memory stands unchosen = seven
+chosen_good before after Memory stands unchosen = refl
 chosen_good before after Words stands unchosen = absurd unchosen
 chosen_good before after NoFile stands unchosen = absurd unchosen
 chosen_good before after (NoConfig bytes) stands unchosen = absurd unchosen
@@ -86,7 +86,7 @@ names_good config now has Tells name told fits (kept, lists, is) =
 
 module _ {K : Type 0} (Tells : K → Type 0) (rows : K → Rows) (faults : K → ℕ) where
   not_opened_good : (config : HubConfig) (now : ℕ) (k k' : K) (e : OpenError) → Tells k' → Stands (faults k) (faults k') → Fits config now (rows k)
-      → IsNotOpened Tells rows faults config now k k' e → IsGoodStatus (open_status e)
+      → IsNotOpened Tells rows faults config now k k' e → open_status e ≡ 7
   not_opened_good config now k k' opening.KeeperFault told stands fits why = absurd (never (faults k) (faults k') stands why)
   not_opened_good config now k k' (opening.BadRow kind key) told stands fits why =
       absurd (fits.sound kind key (bad_before ⊤ (Tells k') (rows k) (rows k) (λ t. (told, λ kind key. refl)) config.limits config.custom_scopes kind key why.0))
@@ -94,13 +94,13 @@ module _ {K : Type 0} (Tells : K → Type 0) (rows : K → Rows) (faults : K →
       absurd (fits.pooled target (lost_before ⊤ (Tells k') (rows k) (rows k) (λ t. (told, λ kind key. refl)) config target why.0))
   not_opened_good config now k k' (opening.Full kind limit) told stands fits why =
       absurd (fits.few kind limit (full_before ⊤ (Tells k') (rows k) (rows k) (λ t. (told, λ kind key. refl)) config now kind limit why.0))
-  not_opened_good config now k k' opening.Memory told stands fits why = seven
+  not_opened_good config now k k' opening.Memory told stands fits why = refl
 
-  unopened_good : (config : HubConfig) (now : ℕ) (k k' : K) (cause : Cause) → Tells k' → Stands (faults k) (faults k') → Fits config now (rows k)
-      → IsUnopened Tells rows faults config now k k' cause → IsGoodStatus (cause_status cause)
+  pub unopened_good : (config : HubConfig) (now : ℕ) (k k' : K) (cause : Cause) → Tells k' → Stands (faults k) (faults k') → Fits config now (rows k)
+      → IsUnopened Tells rows faults config now k k' cause → cause_status cause ≡ 7
   unopened_good config now k k' (UnknownName name) told stands fits why = absurd (names_good config now (rows k) (Tells k') name told fits why)
   unopened_good config now k k' (NotOpened e) told stands fits why = not_opened_good config now k k' e told stands fits why
-  unopened_good config now k k' Memory told stands fits why = seven
+  unopened_good config now k k' Memory told stands fits why = refl
   unopened_good config now k k' Words told stands fits why = absurd why
   unopened_good config now k k' NoFile told stands fits why = absurd why
   unopened_good config now k k' (NoConfig bytes) told stands fits why = absurd why
@@ -115,7 +115,8 @@ module _ {K : Type 0} (Tells : K → Type 0) (rows : K → Rows) (faults : K →
       → Stands s.input.faults s'.input.faults → Stands s.output.faults s'.output.faults
       → EndsChosen Tells rows faults config now s s' k k' end → IsGoodStatus (status_of end)
   opened_good config now s s' k k' (Ok end) told stands fits input output (inl ends) = absurd ends
-  opened_good config now s s' k k' (Err cause) told stands fits input output (inl ends) = unopened_good config now k k' cause told stands fits ends.0
+  opened_good config now s s' k k' (Err cause) told stands fits input output (inl ends) =
+      inr (inr (unopened_good config now k k' cause told stands fits ends.0))
   opened_good config now s s' k k' end told stands fits input output (inr ends) = over_good ends.0 ends.1 now s s' k' end input output ends.3
 
 -- ---- the whole
@@ -127,7 +128,7 @@ module _ {K : Type 0} (Tells : K → Type 0) (rows : K → Rows) (faults : K →
       → EndsConfigured Tells rows faults Chooses words.db config words.now s s' k k' end → IsGoodStatus (status_of end)
   configured_good words files config s s' k k' (Ok end) good told is stands input output (inl ends) = absurd ends
   configured_good words files config s s' k k' (Err cause) good told is stands input output (inl ends) =
-      chosen_good (faults k) (faults k') cause stands ends.0
+      inr (inr (chosen_good (faults k) (faults k') cause stands ends.0))
   configured_good words files config s s' k k' end good told is stands input output (inr ends) =
       let less = ends.1.counted in let more = ends.2 in let below = stands.0 in let low = stands.1 in
       opened_good Tells rows faults config words.now s s' ends.0 k' end told (omega (arith, less, more, below, low), omega (arith, less, more, below, low))
