@@ -1,5 +1,5 @@
 -- What the command `serve` does, and with which status it ends.
-use Rattle.std.specs.Prelude.{◌≡◌, ◌⊎◌, ℕ, List, Option, Some, Err}
+use Rattle.std.specs.Prelude.{◌≡◌, ◌⊎◌, ℕ, ◌≤◌, List, Option, Some, Err}
 use Rattle.keeper.specs.Rows.{Rows}
 use Rattle.hub_devices.specs.ToCome as moments
 use Rattle.hub_core.specs.declared.start.Start.{Start}
@@ -42,6 +42,7 @@ module _ {K : Type 0} (Tells : K → Type 0) (rows : K → Rows) (faults : K →
   pub record EndsAt (plan : Plan) (h h' : Hall) (k k' : K) (end : End) : Type 0 where
     pub chosen : K
     pub chooses : IsChosen Tells rows faults Chooses plan.db k chosen
+    pub counted : faults chosen ≤ faults k'
     pub now : ℕ
     pub later : Option (ℕ → ℕ)
     pub moment : moments.Tells h.clock now later

@@ -38,9 +38,11 @@ fn run_over<W: ServeWorld, T: Trail<Entry = Change> + Send, R: Threads + Wait + 
     requires scopes { MakeTable plan.now.hub.custom_scopes }
     requires apart { are_distinct plan.now.managed ≡ true }
     requires kits { 0 < length outside.old.kits.items }
-    ensures { spec.EndsChosen W.Store.Tells W.Store.rows W.Store.faults plan.now now
+    ensures ends { spec.EndsChosen W.Store.Tells W.Store.rows W.Store.faults plan.now now
         (hall W.Out.held W.Out.faults W.Doors.given W.Doors.faults W.Time.to_come W.Draws.left W.Starts.calls W.Paths.calls W.Draws.faults W.Starts.faults W.Paths.faults W.Runs.calls W.Runs.faults outside.old.output outside.old.doors outside.old.kit outside.old.services)
         (hall W.Out.held W.Out.faults W.Doors.given W.Doors.faults W.Time.to_come W.Draws.left W.Starts.calls W.Paths.calls W.Draws.faults W.Starts.faults W.Paths.faults W.Runs.calls W.Runs.faults outside.new.output outside.new.doors outside.new.kit outside.new.services) store result.1 result.0 }
+    ensures counted { W.Store.faults store ≤ W.Store.faults result.1 }
+    ensures writes { W.Out.faults outside.old.output ≤ W.Out.faults outside.new.output }
 {
     match open_book(alloc, store, trail, &plan.hub, now) {
         Ok(book) => serve_book(rt, alloc, book, plan, outside),
@@ -61,9 +63,11 @@ fn run_at<W: ServeWorld, R: Threads + Wait + Sync>(
     requires scopes { MakeTable plan.now.hub.custom_scopes }
     requires apart { are_distinct plan.now.managed ≡ true }
     requires kits { 0 < length outside.old.kits.items }
-    ensures { spec.EndsChosen W.Store.Tells W.Store.rows W.Store.faults plan.now now
+    ensures ends { spec.EndsChosen W.Store.Tells W.Store.rows W.Store.faults plan.now now
         (hall W.Out.held W.Out.faults W.Doors.given W.Doors.faults W.Time.to_come W.Draws.left W.Starts.calls W.Paths.calls W.Draws.faults W.Starts.faults W.Paths.faults W.Runs.calls W.Runs.faults outside.old.output outside.old.doors outside.old.kit outside.old.services)
         (hall W.Out.held W.Out.faults W.Doors.given W.Doors.faults W.Time.to_come W.Draws.left W.Starts.calls W.Paths.calls W.Draws.faults W.Starts.faults W.Paths.faults W.Runs.calls W.Runs.faults outside.new.output outside.new.doors outside.new.kit outside.new.services) store result.1 result.0 }
+    ensures counted { W.Store.faults store ≤ W.Store.faults result.1 }
+    ensures writes { W.Out.faults outside.old.output ≤ W.Out.faults outside.new.output }
 {
     if plan.hub.no_trail {
         run_over(rt, alloc, plan, now, CountTrail::new(), store, outside)
@@ -84,9 +88,11 @@ fn run_planned<W: ServeWorld, R: Threads + Wait + Sync>(
     requires scopes { MakeTable plan.now.hub.custom_scopes }
     requires apart { are_distinct plan.now.managed ≡ true }
     requires kits { 0 < length outside.old.kits.items }
-    ensures { spec.EndsPlanned W.Store.Tells W.Store.rows W.Store.faults W.Store.Chooses plan.now
+    ensures ends { spec.EndsPlanned W.Store.Tells W.Store.rows W.Store.faults W.Store.Chooses plan.now
         (hall W.Out.held W.Out.faults W.Doors.given W.Doors.faults W.Time.to_come W.Draws.left W.Starts.calls W.Paths.calls W.Draws.faults W.Starts.faults W.Paths.faults W.Runs.calls W.Runs.faults outside.old.output outside.old.doors outside.old.kit outside.old.services)
         (hall W.Out.held W.Out.faults W.Doors.given W.Doors.faults W.Time.to_come W.Draws.left W.Starts.calls W.Paths.calls W.Draws.faults W.Starts.faults W.Paths.faults W.Runs.calls W.Runs.faults outside.new.output outside.new.doors outside.new.kit outside.new.services) store result.1 result.0 }
+    ensures counted { W.Store.faults store ≤ W.Store.faults result.1 }
+    ensures writes { W.Out.faults outside.old.output ≤ W.Out.faults outside.new.output }
 {
     let mut store = store;
     if let Err(cause) = choose(&mut store, &plan.db) {
@@ -120,6 +126,8 @@ pub fn run<F: Files, W: ServeWorld, R: Threads + Wait + Sync>(
     ensures ends { (k k' : W.Store) → outside.old.store ≡ Some k → outside.new.store ≡ Some k' → spec.RunEnds W.Store.Tells W.Store.rows W.Store.faults W.Store.Chooses plan.now
         (hall W.Out.held W.Out.faults W.Doors.given W.Doors.faults W.Time.to_come W.Draws.left W.Starts.calls W.Paths.calls W.Draws.faults W.Starts.faults W.Paths.faults W.Runs.calls W.Runs.faults outside.old.output outside.old.doors outside.old.kit outside.old.services)
         (hall W.Out.held W.Out.faults W.Doors.given W.Doors.faults W.Time.to_come W.Draws.left W.Starts.calls W.Paths.calls W.Draws.faults W.Starts.faults W.Paths.faults W.Runs.calls W.Runs.faults outside.new.output outside.new.doors outside.new.kit outside.new.services) k k' outside.new.end result }
+    ensures counted { (k k' : W.Store) → outside.old.store ≡ Some k → outside.new.store ≡ Some k' → W.Store.faults k ≤ W.Store.faults k' }
+    ensures writes { W.Out.faults outside.old.output ≤ W.Out.faults outside.new.output }
 {
     // what they say is the plan
     let _ = words;

@@ -49,6 +49,8 @@ pub(crate) fn serve_book<W: ServeWorld, T: Trail<Entry = Change> + Send, R: Thre
     ensures ends { spec.EndsOver W.Store.Tells W.Store.rows W.Store.faults book.start book.faults plan.now
         (hall W.Out.held W.Out.faults W.Doors.given W.Doors.faults W.Time.to_come W.Draws.left W.Starts.calls W.Paths.calls W.Draws.faults W.Starts.faults W.Paths.faults W.Runs.calls W.Runs.faults outside.old.output outside.old.doors outside.old.kit outside.old.services)
         (hall W.Out.held W.Out.faults W.Doors.given W.Doors.faults W.Time.to_come W.Draws.left W.Starts.calls W.Paths.calls W.Draws.faults W.Starts.faults W.Paths.faults W.Runs.calls W.Runs.faults outside.new.output outside.new.doors outside.new.kit outside.new.services) result.1 result.0 }
+    ensures counted { book.faults ≤ W.Store.faults result.1 }
+    ensures writes { W.Out.faults outside.old.output ≤ W.Out.faults outside.new.output }
     ensures had { W.Store.Tells result.1 → IsTrue book.start.has_rows }
 {
     match Desk::open(alloc, book) {
@@ -78,6 +80,8 @@ fn serve_desk<W: ServeWorld, T: Trail<Entry = Change> + Send, R: Threads + Wait 
     ensures ends { (start : Start) → pass.base ≡ Some start → spec.EndsDesk W.Store.Tells W.Store.rows W.Store.faults start pass plan.now
         (hall W.Out.held W.Out.faults W.Doors.given W.Doors.faults W.Time.to_come W.Draws.left W.Starts.calls W.Paths.calls W.Draws.faults W.Starts.faults W.Paths.faults W.Runs.calls W.Runs.faults outside.old.output outside.old.doors outside.old.kit outside.old.services)
         (hall W.Out.held W.Out.faults W.Doors.given W.Doors.faults W.Time.to_come W.Draws.left W.Starts.calls W.Paths.calls W.Draws.faults W.Starts.faults W.Paths.faults W.Runs.calls W.Runs.faults outside.new.output outside.new.doors outside.new.kit outside.new.services) result.1 result.0 }
+    ensures counted { pass.faults ≤ W.Store.faults result.1 }
+    ensures writes { W.Out.faults outside.old.output ≤ W.Out.faults outside.new.output }
     ensures had { (start : Start) → pass.base ≡ Some start → W.Store.Tells result.1 → IsTrue start.has_rows }
 {
     match adopt(rt, alloc, &desk, &mut pass, &mut outside.kit) {
@@ -117,6 +121,8 @@ fn serve_synced<W: ServeWorld, T: Trail<Entry = Change> + Send, R: Threads + Wai
     ensures ends { (start : Start) → pass.base ≡ Some start → spec.EndsSynced W.Store.Tells W.Store.rows W.Store.faults start pass plan.now
         (hall W.Out.held W.Out.faults W.Doors.given W.Doors.faults W.Time.to_come W.Draws.left W.Starts.calls W.Paths.calls W.Draws.faults W.Starts.faults W.Paths.faults W.Runs.calls W.Runs.faults outside.old.output outside.old.doors outside.old.kit outside.old.services)
         (hall W.Out.held W.Out.faults W.Doors.given W.Doors.faults W.Time.to_come W.Draws.left W.Starts.calls W.Paths.calls W.Draws.faults W.Starts.faults W.Paths.faults W.Runs.calls W.Runs.faults outside.new.output outside.new.doors outside.new.kit outside.new.services) result.1 result.0 }
+    ensures counted { pass.faults ≤ W.Store.faults result.1 }
+    ensures writes { W.Out.faults outside.old.output ≤ W.Out.faults outside.new.output }
     ensures had { (start : Start) → pass.base ≡ Some start → W.Store.Tells result.1 → IsTrue start.has_rows }
 {
     let hub = plan.hub.hub_url.as_ref();
@@ -144,6 +150,8 @@ fn serve_ready<W: ServeWorld, T: Trail<Entry = Change> + Send, R: Threads + Wait
     ensures ends { (start : Start) → pass.base ≡ Some start → spec.EndsReady W.Store.Tells W.Store.rows W.Store.faults start pass.seen plan.now
         (hall W.Out.held W.Out.faults W.Doors.given W.Doors.faults W.Time.to_come W.Draws.left W.Starts.calls W.Paths.calls W.Draws.faults W.Starts.faults W.Paths.faults W.Runs.calls W.Runs.faults outside.old.output outside.old.doors outside.old.kit outside.old.services)
         (hall W.Out.held W.Out.faults W.Doors.given W.Doors.faults W.Time.to_come W.Draws.left W.Starts.calls W.Paths.calls W.Draws.faults W.Starts.faults W.Paths.faults W.Runs.calls W.Runs.faults outside.new.output outside.new.doors outside.new.kit outside.new.services) result.1 result.0 }
+    ensures counted { pass.faults ≤ W.Store.faults result.1 }
+    ensures writes { W.Out.faults outside.old.output ≤ W.Out.faults outside.new.output }
     ensures had { (start : Start) → pass.base ≡ Some start → W.Store.Tells result.1 → IsTrue start.has_rows }
 {
     match services_of(alloc, plan.managed.as_slice()) {
@@ -173,6 +181,8 @@ fn serve_attended<W: ServeWorld, T: Trail<Entry = Change> + Send, R: Threads + W
     ensures ends { (start : Start) → pass.base ≡ Some start → spec.EndsReady W.Store.Tells W.Store.rows W.Store.faults start pass.seen plan.now
         (hall W.Out.held W.Out.faults W.Doors.given W.Doors.faults W.Time.to_come W.Draws.left W.Starts.calls W.Paths.calls W.Draws.faults W.Starts.faults W.Paths.faults W.Runs.calls W.Runs.faults outside.old.output outside.old.doors outside.old.kit outside.old.services)
         (hall W.Out.held W.Out.faults W.Doors.given W.Doors.faults W.Time.to_come W.Draws.left W.Starts.calls W.Paths.calls W.Draws.faults W.Starts.faults W.Paths.faults W.Runs.calls W.Runs.faults outside.new.output outside.new.doors outside.new.kit outside.new.services) result.1 result.0 }
+    ensures counted { pass.faults ≤ W.Store.faults result.1 }
+    ensures writes { W.Out.faults outside.old.output ≤ W.Out.faults outside.new.output }
     ensures had { (start : Start) → pass.base ≡ Some start → W.Store.Tells result.1 → IsTrue start.has_rows }
 {
     let (book, count, served, services) = serve_services::<W, T, R>(
@@ -209,6 +219,7 @@ fn serve_services<W: ServeWorld, T: Trail<Entry = Change> + Send, R: Threads + W
     requires kits { 0 < length kits.old }
     ensures begins { IsPrefix pass.seen (entries_of result.0) }
     ensures base { pass.base ≡ Some result.0.start }
+    ensures counted { pass.faults ≤ result.0.faults }
     ensures given { Gave (W.Doors.given doors.old) result.1 (W.Doors.given doors.new) }
     ensures most { result.1 ≤ connections }
     ensures all { is_ok result.2 ≡ (result.1 == connections) }
@@ -271,6 +282,7 @@ fn serve_tended<
     ensures left { IsSome left.new }
     ensures begins { IfSome left.new (λ l. IsPrefix pass.seen (entries_of l.0)) }
     ensures base { IfSome left.new (λ l. pass.base ≡ Some l.0.start) }
+    ensures counted { IfSome left.new (λ l. pass.faults ≤ l.0.faults) }
     ensures given { Gave N.given result.0 (W.Doors.given result.2.doors.now) }
     ensures most { result.0 ≤ connections }
     ensures all { is_ok result.1 ≡ (result.0 == connections) }

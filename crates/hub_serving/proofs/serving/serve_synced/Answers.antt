@@ -1,4 +1,4 @@
-use Rattle.std.proofs.Common.{rules, ◌≡◌, ◌∙◌, option_copied, refl}
+use Rattle.std.proofs.Common.{arith, rules, ◌≡◌, ◌∙◌, option_copied, refl}
 use Rattle.hub_run.specs.Turns.{View}
 use Rattle.hub_serving.specs.Hall.{Hall, hall, view_in}
 use Rattle.hub_serving.proofs.Ready.{by_synced, in_step, unsynced}
@@ -59,3 +59,12 @@ returns-clause-ends g c = λ start base.
     s.same s.comes s.mine s.failed (s.told start base) s.counted s.cause refl refl refl refl refl in
     by_synced _ _ _ start c.args.pass synced c.sync_routes-answer.result c.is_wanting.result c.args.plan.now before _ _ _ syncs c.is_wanting.ensures
     c.if-is_wanting.false (c.serve_ready.ensures.ends start (s.same.1 ∙ base))
+
+pub returns-then-is_wanting-clause-counted : goal.returns-then-is_wanting-clause-counted
+returns-then-is_wanting-clause-counted g c =
+    let seen = c.sync_routes-answer.ensures.comes.1 in let closed = c.close.ensures.counted in let same = c.into_parts-store.ensures.faults in
+    omega (arith, seen, closed, same)
+
+pub returns-clause-counted : goal.returns-clause-counted
+returns-clause-counted g c =
+    let seen = c.sync_routes-answer.ensures.comes.1 in let served = c.serve_ready.ensures.counted in omega (arith, seen, served)
