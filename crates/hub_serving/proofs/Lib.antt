@@ -3,3 +3,4 @@ pub mod Attended
 pub mod Ready
 pub mod Planned
 pub mod Lawful
+pub mod GoodHubs

@@ -5,3 +5,4 @@ pub mod Ends
 pub mod Served
 pub mod Commands
 pub mod Law
+pub mod Good
