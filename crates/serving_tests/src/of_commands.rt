@@ -199,9 +199,10 @@ pub fn ended<R: Threads + Wait + Abort + Sync>(
     let words = words_of(rt, alloc, command.words);
     let mut files = files(rt, alloc, command.file);
     let mut outside = outside(rt, alloc, command);
-    let status = match read_plan(alloc, &mut files, words.as_slice()) {
+    let said = words.as_slice();
+    let status = match read_plan(alloc, &mut files, said) {
         Ok(plan) => {
-            let status = run(rt, alloc, words.as_slice(), &files, &plan, &mut outside);
+            let status = run(rt, alloc, said, &files, &plan, &mut outside);
             drop(plan);
             status
         }
