@@ -1,3 +1,4 @@
 pub mod Prefixes
 pub mod OwnEntries
+mod There
 mod Turning

@@ -1,5 +1,5 @@
 -- The rule of the turn: what holds of the table between any two steps.
-use Rattle.std.specs.Prelude.{◌≡◌, ◌≢◌, ◌⊎◌, ℕ, ◌+◌, ◌*◌, ◌≤◌, Bool, true, false, List, length, slice_index, if◌then◌else◌, Option, Some}
+use Rattle.std.specs.Prelude.{◌≡◌, ◌≢◌, ◌⊎◌, ℕ, ◌+◌, ◌*◌, ◌<◌, ◌≤◌, Bool, true, false, List, [], ◌∷◌, length, slice_index, if◌then◌else◌, Option, Some}
 use mathlib.Core.Option.{some}
 use mathlib.Core.List.{IsPrefix}
 use lib.ListN.{get_elem?}
@@ -7,8 +7,7 @@ use Rattle.atomic_table.specs.Table.{State}
 use Rattle.desk.specs.declared.turn.SeatView.{SeatView}
 use Rattle.desk.specs.declared.turn.Stage.{Stage}
 use Rattle.desk.specs.declared.turn.Stage.TheVariants.{Idle, Held, Met, Spent}
-use Rattle.desk.specs.OwnEntries.{StandIn, Owns, RisesFrom, Apart}
-use Rattle.desk.specs.Seats.{newcomer}
+use Rattle.desk.specs.OwnEntries.{placed, StandIn, Owns, RisesFrom, Apart}
 
 -- the word of a history
 abbrev pub word_of : {E : Type 0} → Bool → List E → ℕ
@@ -19,14 +18,33 @@ abbrev pub MetOwns : {B E : Type 0} → ℕ → Stage B E → Type 0
 MetOwns n (Met ys qs) = Owns n qs
 MetOwns n _ = ⊥
 
+-- the pass that the seat has met had seen this
+abbrev pub MetSaw : {B E : Type 0} → List E → Stage B E → Type 0
+MetSaw xs (Met ys qs) = ys ≡ xs
+MetSaw xs _ = ⊥
+
+-- 0 of a seat that was joined away
+abbrev pub seat_there : {B E : Type 0} → Stage B E → ℕ
+seat_there Spent = 0
+seat_there _ = 1
+
 module _ {B E A : Type 0} where
+  -- how many of the seats weren't joined away
+  abbrev pub there : List (SeatView B E A) → ℕ
+  there [] = 0
+  there (d ∷ ds) = seat_there d.stage + there ds
+
+  -- one of those is such
+  abbrev pub OneIs : List (SeatView B E A) → (SeatView B E A → Type 0) → Type 0
+  OneIs views Such = (j : ℕ) × (d : SeatView B E A) × (get_elem? views j ≡ some d) × (d.stage ≢ Spent) × Such d
+
+  -- the seat has seen this, or the pass that it has met had
+  abbrev pub Saw : List E → SeatView B E A → Type 0
+  Saw xs d = (d.seen ≡ xs) ⊎ MetSaw xs d.stage
+
   -- the place n is of an own entry of the seat, or of the pass that it has met
   abbrev pub Keeps : ℕ → SeatView B E A → Type 0
   Keeps n d = Owns n d.mine ⊎ MetOwns n d.stage
-
-  -- the seat j has seen the whole history and the very count of faults, and each other one is spent
-  abbrev pub IsLone : List E → ℕ → List (SeatView B E A) → ℕ → SeatView B E A → Type 0
-  IsLone history count views j d = (d.seen ≡ history) × (d.faults ≡ count) × ((i : ℕ) (e : SeatView B E A) → get_elem? views i ≡ some e → i ≢ j → e.stage ≡ Spent)
 
   -- no place is kept by two seats
   abbrev pub AreApart : List (SeatView B E A) → Type 0
@@ -35,7 +53,7 @@ module _ {B E A : Type 0} where
 module _ {B E A : Type 0} (entries : B → List E) (base : B → A) (faults : B → ℕ) where
   -- the first seat of a table with this book
   abbrev pub first : B → SeatView B E A
-  first b = newcomer (Some (base b)) (entries b) (faults b) true
+  first b = record { stage = Idle; base = Some (base b); seen = entries b; mine = placed 0 (entries b); failed = 0; faults = faults b; others = Some 0 }
 
   -- the book b has this base, this history and this count of faults
   abbrev pub Stands : A → List E → ℕ → B → Type 0
@@ -56,7 +74,9 @@ module _ {B E A : Type 0} (entries : B → List E) (base : B → A) (faults : B 
     pub counted : d.faults ≤ count
     pub at : IsAt fixed history count held holder seat d.base d.mine d.stage
 
-  -- there is one base, one history, one count of faults, and maybe one seat that holds the turn; while nobody holds it the book is at home
+  -- there is one base, one history, one count of faults, and maybe one seat that holds the turn; while nobody holds it the book is at home.
+  -- The seat that counts others is the first, and no more of them are there than it counts. Of the seats that are there one knows the whole history,
+  -- one the very count of faults, and each place is kept by one
   pub record Turned (s : State (Option B) (SeatView B E A)) : Type 0 where
     pub base_is : A
     pub history : List E
@@ -68,5 +88,8 @@ module _ {B E A : Type 0} (entries : B → List E) (base : B → A) (faults : B 
     pub word : slice_index s.words 0 ≡ word_of held history
     pub home : held ≡ false → (b : B) × (get_elem? s.homes 0 ≡ some (some (Some b))) × Stands base_is history count b
     pub each : (j : ℕ) (d : SeatView B E A) → get_elem? s.views j ≡ some d → Knows base_is history count held holder j d
-    pub lone : (j : ℕ) (d : SeatView B E A) → get_elem? s.views j ≡ some d → d.alone ≡ true → IsLone history count s.views j d
     pub apart : AreApart s.views
+    pub counts : (j : ℕ) (d : SeatView B E A) (n : ℕ) → get_elem? s.views j ≡ some d → d.others ≡ Some n → (j ≡ 0) × (there s.views ≤ n + 1)
+    pub known : OneIs s.views (Saw history)
+    pub told : OneIs s.views (λ d. d.faults ≡ count)
+    pub kept : (n : ℕ) → n < length history → OneIs s.views (Keeps n)

@@ -12,6 +12,7 @@ pub record Visited {B E A : Type 0} (entries : B → List E) (base : B → A) (f
   pub appends : IsPrefix (entries b) (entries b')
   pub left_base : base b' ≡ base b
   pub same : IsSamePass p q
+  pub others : q.others ≡ p.others
   pub seen : q.seen ≡ entries b'
   pub mine : q.mine ≡ p.mine ++ added (entries b) (entries b')
   pub failed : q.failed ≡ p.failed + (if ltb (faults b) (faults b') then 1 else 0)

@@ -1,9 +1,10 @@
 //! The desk and its passes.
-ghost use Rattle.std.specs.Prelude.{◌≡◌, Some, IfOk, IfErr, IsOkAnd};
+ghost use Rattle.std.specs.Prelude.{◌≡◌, Some, IfOk, IfErr, IsOkAnd, IsSome};
 ghost use Rattle.std.specs.Prelude.{◌+◌, ◌≤◌, max, true, false};
 ghost use mathlib.Core.List.{IsPrefix};
 ghost use Rattle.desk.specs.Passes.{opening, fresh};
-ghost use Rattle.desk.specs.OwnEntries.{longer, merged, Agree, Apart, StandIn, RisesFrom};
+ghost use Rattle.desk.specs.Seats.{one_more, one_less, only};
+ghost use Rattle.desk.specs.OwnEntries.{placed, longer, merged, Agree, Apart, StandIn, RisesFrom};
 ghost use Rattle.desk.specs.Visits.{Visited};
 
 use crate::booked::{Booked, Job};
@@ -62,6 +63,7 @@ impl<B: Booked> Pass<B> {
     pub fn stands(&self)
         ensures stand { StandIn self.now.seen self.now.mine }
         ensures rises { RisesFrom 0 self.now.mine }
+        ensures alone { self.now.alone ≡ only self.now.others }
     {
         let _ = &self.seat;
     }
@@ -109,21 +111,23 @@ impl<B: Booked> Desk<B> {
         answer
     }
 
-    /// A new pass that has seen as much, and has made nothing. Neither is alone afterwards. It waits for nobody, and always
-    /// finds memory, since a pass takes none.
+    /// A new pass that has seen as much, and has made nothing. The first pass alone may split one off, and counts it. It waits for
+    /// nobody, and always finds memory, since a pass takes none.
     pub fn split(&self, pass: &mut Pass<B>) -> Result<Pass<B>, AllocError>
-        requires { pass.old.of ≡ self.now }
-        ensures kept { pass.new ≡ record pass.old { alone = false } }
-        ensures new { IsOkAnd result (λ r. r ≡ fresh pass.old.of pass.old.base pass.old.seen pass.old.faults false) }
+        requires of { pass.old.of ≡ self.now }
+        requires first { IsSome pass.old.others }
+        ensures kept { pass.new ≡ record pass.old { others = one_more pass.old.others; alone = false } }
+        ensures new { IsOkAnd result (λ r. r ≡ fresh pass.old.of pass.old.base pass.old.seen pass.old.faults) }
     {
         let seat = steps::split(&self.table.shared, &mut pass.seat);
         Ok(Pass { seat })
     }
 
-    /// Takes in what another pass has seen and made. It waits for nobody.
+    /// Takes in what another pass has seen and made. The first pass is alone again once it has taken in all that it split off.
+    /// It waits for nobody.
     pub fn join(&self, pass: &mut Pass<B>, other: Pass<B>)
         requires { (pass.old.of ≡ self.now) × (other.of ≡ self.now) }
-        ensures both { pass.new ≡ record pass.old { seen = longer pass.old.seen other.seen; mine = merged pass.old.mine other.mine; failed = pass.old.failed + other.failed; faults = max pass.old.faults other.faults } }
+        ensures both { pass.new ≡ record pass.old { seen = longer pass.old.seen other.seen; mine = merged pass.old.mine other.mine; failed = pass.old.failed + other.failed; faults = max pass.old.faults other.faults; others = one_less pass.old.others; alone = only (one_less pass.old.others) } }
         ensures agree { Agree pass.old.seen other.seen }
         ensures apart { Apart pass.old.mine other.mine }
         ensures begins { IsPrefix pass.old.seen pass.new.seen }
@@ -133,11 +137,12 @@ impl<B: Booked> Desk<B> {
         steps::join(&self.table.shared, &mut pass.seat, seat);
     }
 
-    /// Waits for the turn, and takes the book out.
+    /// Waits for the turn, and takes the book out. To a pass that is alone all entries of the book are its own.
     pub fn close<R: Wait>(self, rt: &R, pass: Pass<B>) -> B
         requires { pass.of ≡ self }
         ensures begins { IsPrefix pass.seen (B.entries result) }
         ensures whole { pass.alone ≡ true → B.entries result ≡ pass.seen }
+        ensures own { pass.alone ≡ true → pass.mine ≡ placed 0 pass.seen }
         ensures base { pass.base ≡ Some (B.base result) }
         ensures counted { pass.faults ≤ B.faults result }
         ensures exact { pass.alone ≡ true → B.faults result ≡ pass.faults }

@@ -21,15 +21,6 @@ impl<B: Booked> Play<Option<B>, SeatView<B, B::Entry, B::Base>> for Give {
     ghost then = { given B.entries B.faults };
 }
 
-/// A load at which a seat stops being alone.
-pub struct Leave;
-
-impl<B: Booked> Play<Option<B>, SeatView<B, B::Entry, B::Base>> for Leave {
-    ghost use Rattle.desk.specs.Plays.{left};
-
-    ghost then = { left };
-}
-
 /// A load at which a seat that has met another takes in what that one had seen and made.
 pub struct Settle;
 
@@ -39,13 +30,13 @@ impl<B: Booked> Play<Option<B>, SeatView<B, B::Entry, B::Base>> for Settle {
     ghost then = { settled };
 }
 
-/// A new seat has seen as much, and has made nothing.
+/// A new seat has seen as much, and has made nothing. The first one counts it.
 pub struct SplitOff;
 
 impl<B: Booked> Split<SeatView<B, B::Entry, B::Base>> for SplitOff {
-    ghost use Rattle.desk.specs.Seats.{split_off};
+    ghost use Rattle.desk.specs.Seats.{shared, split_off};
 
-    ghost left = { λ d. d };
+    ghost left = { shared };
 
     ghost right = { split_off };
 }

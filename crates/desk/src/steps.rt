@@ -1,5 +1,5 @@
 // The steps of a pass on the table.
-ghost use Rattle.std.specs.Prelude.{◌≡◌, ◌+◌, ◌*◌, ◌≤◌, [], ◌∷◌, Some, None, true, false, length};
+ghost use Rattle.std.specs.Prelude.{◌≡◌, ◌+◌, ◌*◌, ◌≤◌, [], ◌∷◌, Some, None, true, false, length, IsSome};
 ghost use mathlib.Core.List.{IsPrefix};
 ghost use Rattle.atomic_table.specs.Seated.{TableId};
 ghost use Rattle.desk.specs.declared.turn.Stage.TheVariants.{Idle, Held, Met};
@@ -9,7 +9,7 @@ ghost use Rattle.desk.specs.OwnEntries.{Agree, Apart};
 ghost use Rattle.desk.specs.Steps.{IsSized, IsSame, IsIdle};
 
 use crate::booked::Booked;
-use crate::plays::{Give, Leave, Meet, Settle, SplitOff, Take};
+use crate::plays::{Give, Meet, Settle, SplitOff, Take};
 use crate::sleepers::Sleepers;
 use crate::turn::{DeskSeat, DeskTable};
 use std::sync::Wait;
@@ -57,18 +57,18 @@ pub(crate) fn give<B: Booked>(
     sleepers.wake(table);
 }
 
-// Leaves being alone, and makes a new seat.
+// Makes a new seat, which the first one counts.
 pub(crate) fn split<B: Booked>(
     table: &DeskTable<B, B::Entry, B::Base>,
     seat: &mut DeskSeat<B, B::Entry, B::Base>,
 ) -> DeskSeat<B, B::Entry, B::Base>
     requires sized { (seat.old.table_id ≡ table.now.table_id) × IsSized table.now.table_id }
     requires idle { IsIdle seat.old }
+    requires first { IsSome seat.old.me.0.others }
     ensures same { IsSame seat.old seat.new × (result.table_id ≡ seat.old.table_id) }
     ensures kept { seat.new.me ≡ (shared seat.old.me.0, []) }
     ensures new { result.me ≡ (split_off seat.old.me.0, []) }
 {
-    table.load::<Leave>(seat, 0);
     table.split_seat::<SplitOff>(seat)
 }
 

@@ -24,7 +24,8 @@ pub struct SeatView<B, E, A> {
     pub mine: LinkedList<(u64, E)>,
     pub failed: u64,
     pub faults: u64,
-    pub alone: bool,
+    /// Of the first seat: how many it split off that it hasn't taken in again.
+    pub others: Option<u64>,
 }
 
 /// What holds between any two steps.
