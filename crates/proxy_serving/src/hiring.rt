@@ -1,5 +1,5 @@
 //! The workers' servers, each with a pass of its own.
-ghost use Rattle.std.specs.Prelude.{◌≡◌, ◌<◌, length, All, IfOk};
+ghost use Rattle.std.specs.Prelude.{◌≡◌, length, IfOk, IsSome};
 
 use crate::forwarder::{Forwarder, ProxyKit};
 use desk::{Desk, Pass};
@@ -19,6 +19,7 @@ pub(crate) fn hire<'a, U: Upstream + Drop, C: Clock + Drop, W: Wait>(
     mut kits: Vec<ProxyKit<U, C>>,
 ) -> Result<Vec<Forwarder<Router<'a, W>, U, C>>, AllocError>
     requires of { pass.old.of ≡ desk.now }
+    requires first { IsSome pass.old.others }
     ensures of { pass.new.of ≡ pass.old.of }
     ensures one_each { IfOk result (λ v. length v.items ≡ length kits.items) }
 {

@@ -1,5 +1,5 @@
 //! A proxy over its two listeners.
-ghost use Rattle.std.specs.Prelude.{◌≡◌, ◌≤◌, ◌<◌, length};
+ghost use Rattle.std.specs.Prelude.{◌≡◌, ◌≤◌, ◌<◌, length, IsSome};
 ghost use Rattle.worker_hall.specs.Given.{Gave};
 ghost use Rattle.proxy_serving.specs.Ends.{IsFault, IsOver, IsSaid};
 ghost use Rattle.proxy_serving.specs.Ends as spec;
@@ -97,6 +97,7 @@ fn serve_over<
     time: C,
 ) -> ProxyEnd
     requires of { pass.of ≡ desk.now }
+    requires first { IsSome pass.others }
     requires kits { 0 < length kits.items }
     ensures forwarded { Gave (L.given browsers.old) result.forwarded (L.given browsers.new) }
     ensures answered { Gave (L.given api.old) result.answered (L.given api.new) }
