@@ -1,5 +1,5 @@
 //! The hubs of the tests: a book that is opened over a file of configuration and a keeper in memory, its devices, and one connection.
-ghost use Rattle.std.specs.Prelude.{◌≡◌};
+ghost use Rattle.std.specs.Prelude.{◌≡◌, IsSome};
 ghost use Rattle.hub_opening.specs.Kept.{MakeTable};
 
 use crate::check::{bytes, failing};
@@ -100,7 +100,8 @@ pub fn book(
 
 /// A desk over the book, and its first pass.
 pub fn open_desk<B: Booked>(rt: &impl Abort, alloc: Global, book: B) -> (Desk<B>, Pass<B>)
-    ensures { result.1.of ≡ result.0 }
+    ensures of { result.1.of ≡ result.0 }
+    ensures first { IsSome result.1.others }
 {
     match Desk::open(alloc, book) {
         Ok(opened) => opened,
@@ -116,7 +117,8 @@ pub fn open_hub(
     failing_commit: u64,
     trail_bytes: u32,
 ) -> (Desk<MemBook>, Pass<MemBook>)
-    ensures { result.1.of ≡ result.0 }
+    ensures of { result.1.of ≡ result.0 }
+    ensures first { IsSome result.1.others }
 {
     open_desk(
         rt,

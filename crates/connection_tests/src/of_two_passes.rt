@@ -1,6 +1,6 @@
 //! Two connections at one server, in an order that is made by hand: ann's start is asked for and isn't begun yet when the other connection
 //! is served; then what that start owes is done; then the other connection is served again.
-ghost use Rattle.std.specs.Prelude.{◌≡◌};
+ghost use Rattle.std.specs.Prelude.{◌≡◌, IsSome};
 ghost use Rattle.hub_core.specs.Works.{IsSound};
 
 use crate::check::{check, failing, text};
@@ -219,7 +219,8 @@ fn kit_of(rt: &impl Abort, alloc: Global, meeting: &Meeting) -> MemKit {
 
 /// A further pass of the desk.
 fn further(rt: &impl Abort, desk: &Desk<MemBook>, pass: &mut Pass<MemBook>) -> Pass<MemBook>
-    requires { pass.old.of ≡ desk.now }
+    requires of { pass.old.of ≡ desk.now }
+    requires first { IsSome pass.old.others }
     ensures kept { pass.new.of ≡ pass.old.of }
     ensures of { result.of ≡ desk.now }
 {

@@ -1,5 +1,5 @@
 //! The hub of the tests, and what its workers have.
-ghost use Rattle.std.specs.Prelude.{◌≡◌};
+ghost use Rattle.std.specs.Prelude.{◌≡◌, true};
 ghost use Rattle.hub_opening.specs.Kept.{MakeTable};
 
 use crate::in_memory::store;
@@ -57,7 +57,8 @@ fn book(rt: &impl Abort, alloc: Global) -> MemBook {
 
 /// A desk over a hub of ann alone, and its first pass.
 pub fn open(rt: &impl Abort, alloc: Global) -> (Desk<MemBook>, Pass<MemBook>)
-    ensures { result.1.of ≡ result.0 }
+    ensures of { result.1.of ≡ result.0 }
+    ensures alone { result.1.alone ≡ true }
 {
     match Desk::open(alloc, book(rt, alloc)) {
         Ok(opened) => opened,
