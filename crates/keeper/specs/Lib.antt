@@ -1,6 +1,5 @@
 pub mod Rows
 pub mod RowOrder
 pub mod Held
-pub mod Trails
 pub mod Pasts
 pub mod Costs

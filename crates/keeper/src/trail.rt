@@ -1,7 +1,6 @@
 //! What keeps the entries of the history.
-ghost use Rattle.std.specs.Prelude.{◌≡◌, ◌+◌, ◌<◌, ◌≤◌, ◌^◌, ◌++◌, ◌∷◌, [], ℕ, List, length, Option, Some, option_map, OnOk, OnErr, vec_len, vec_capacity, refl};
+ghost use Rattle.std.specs.Prelude.{◌≡◌, ◌+◌, ◌<◌, ◌≤◌, ◌^◌, ◌++◌, ◌∷◌, [], ℕ, List, length, OnOk, vec_len, vec_capacity};
 ghost use Rattle.keeper.specs.Pasts.{entries_of};
-ghost use Rattle.keeper.specs.Trails.{told_length, counted_length};
 
 use crate::past::Past;
 use std::alloc::{AllocError, Global};
@@ -10,34 +9,27 @@ use std::alloc::{AllocError, Global};
 pub trait Trail: Drop {
     type Entry;
 
-    /// The entries, where they are told.
-    ghost told: { Self → Option (List Self.Entry) };
-
-    /// How many there are.
-    ghost long: { Self → ℕ };
+    /// The entries.
+    ghost told: { Self → List Self.Entry };
 
     /// How many more may be noted.
     ghost spare: { Self → ℕ };
 
     /// How many entries there are.
     fn length(&self) -> u64
-        ensures { result ≡ long self.now };
+        ensures { result ≡ length (told self.now) };
 
     /// Makes room for at least `n` entries more.
     fn reserve(&mut self, n: u64) -> Result<(), AllocError>
         ensures room { OnOk result (n ≤ spare self.new) }
         ensures kept { spare self.old ≤ spare self.new }
-        ensures same { (told self.new ≡ told self.old) × (long self.new ≡ long self.old) };
+        ensures same { told self.new ≡ told self.old };
 
     /// Adds an entry behind all others.
     fn note(&mut self, entry: Self::Entry)
         requires { 0 < spare self.old }
-        ensures told { told self.new ≡ option_map (λ es. es ++ entry ∷ []) (told self.old) }
-        ensures long { long self.new ≡ long self.old + 1 }
+        ensures told { told self.new ≡ told self.old ++ entry ∷ [] }
         ensures spare { spare self.new + 1 ≡ spare self.old };
-
-    /// The entries that are told are as many as there are.
-    ghost counted: { (t : Self) (entries : List Self.Entry) → told t ≡ Some entries → length entries ≡ long t };
 }
 
 /// Keeps the number of entries alone. Clauses read which they were.
@@ -61,7 +53,7 @@ impl<E: Drop> Drop for CountTrail<E> {
 
 impl<E: Drop> CountTrail<E> {
     pub fn new() -> CountTrail<E>
-        ensures told { ⟦<CountTrail<E> as Trail>⟧.told result ≡ Some [] }
+        ensures told { ⟦<CountTrail<E> as Trail>⟧.told result ≡ [] }
         ensures spare { ⟦<CountTrail<E> as Trail>⟧.spare result ≡ 0 }
     {
         CountTrail {
@@ -75,13 +67,9 @@ impl<E: Drop> CountTrail<E> {
 impl<E: Drop> Trail for CountTrail<E> {
     type Entry = E;
 
-    ghost told = { λ t. Some (entries_of t.past) };
-
-    ghost long = { λ t. t.count };
+    ghost told = { λ t. entries_of t.past };
 
     ghost spare = { λ t. t.reserved };
-
-    ghost counted = { counted_length (λ t. entries_of t.past) (λ t. t.count) (λ t. t.same) };
 
     fn length(&self) -> u64 {
         self.count
@@ -105,7 +93,7 @@ impl<E: Drop> Trail for CountTrail<E> {
     }
 }
 
-/// Keeps the entries, and tells them.
+/// Keeps the entries themselves.
 pub struct ListTrail<E> {
     items: Vec<E>,
     reserved: usize,
@@ -124,7 +112,7 @@ impl<E: Drop> Drop for ListTrail<E> {
 impl<E: Drop> ListTrail<E> {
     /// No entries, which take no memory.
     pub fn new(alloc: Global) -> ListTrail<E>
-        ensures told { ⟦<ListTrail<E> as Trail>⟧.told result ≡ Some [] }
+        ensures told { ⟦<ListTrail<E> as Trail>⟧.told result ≡ [] }
         ensures spare { ⟦<ListTrail<E> as Trail>⟧.spare result ≡ 0 }
     {
         ListTrail {
@@ -135,7 +123,7 @@ impl<E: Drop> ListTrail<E> {
 
     /// The entries, the first of them first.
     pub fn entries(&self) -> &[E]
-        ensures { ⟦<ListTrail<E> as Trail>⟧.told self.now ≡ Some result.now }
+        ensures { ⟦<ListTrail<E> as Trail>⟧.told self.now ≡ result.now }
     {
         self.items.as_slice()
     }
@@ -144,13 +132,9 @@ impl<E: Drop> ListTrail<E> {
 impl<E: Drop> Trail for ListTrail<E> {
     type Entry = E;
 
-    ghost told = { λ t. Some t.items.items };
-
-    ghost long = { λ t. length t.items.items };
+    ghost told = { λ t. t.items.items };
 
     ghost spare = { λ t. t.reserved };
-
-    ghost counted = { told_length (λ t. t.items.items) };
 
     fn length(&self) -> u64 {
         self.items.len() as u64
