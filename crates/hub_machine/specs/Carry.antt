@@ -1,5 +1,5 @@
 -- How a change is carried out: its puts before the commit, and its removals after it.
-use Rattle.std.specs.Prelude.{◌≡◌, ℕ, Bool, true, false, List, [], ◌∷◌, ◌++◌, ◌+◌, codes, Option, Some, None, option_map, Result, Ok, Err, IsOk}
+use Rattle.std.specs.Prelude.{◌≡◌, ℕ, Bool, true, false, List, [], ◌∷◌, ◌++◌, ◌+◌, codes, Option, Some, None, Result, Ok, Err, IsOk}
 use Rattle.std.specs.List.{list_any}
 use Rattle.std.specs.FinMap.{insert}
 use Rattle.hub_kit.specs.declared.names.ServerKey.{ServerKey}
@@ -93,7 +93,7 @@ abbrev pub Kept : {E : Type 0} → Change → Result Bool E → (rows rows' : Ke
 Kept c done rows rows' = RowsKept (batch_of (rows_of c)) done rows rows'
 
 -- kept (`Ok true`), or as before
-abbrev pub Entered : {E : Type 0} → Change → Result Bool E → (s s' : Hub) (told told' : Option (List Change)) (long long' : ℕ) → Type 0
-Entered c (Ok true) s s' told told' long long' = (s' ≡ apply c s) × (told' ≡ option_map (λ h. h ++ c ∷ []) told) × (long' ≡ long + 1)
-Entered c (Ok false) s s' told told' long long' = (s' ≡ s) × (told' ≡ told) × (long' ≡ long)
-Entered c (Err e) s s' told told' long long' = (s' ≡ s) × (told' ≡ told) × (long' ≡ long)
+abbrev pub Entered : {E : Type 0} → Change → Result Bool E → (s s' : Hub) (told told' : List Change) → Type 0
+Entered c (Ok true) s s' told told' = (s' ≡ apply c s) × (told' ≡ told ++ c ∷ [])
+Entered c (Ok false) s s' told told' = (s' ≡ s) × (told' ≡ told)
+Entered c (Err e) s s' told told' = (s' ≡ s) × (told' ≡ told)

@@ -1,5 +1,5 @@
 -- What an outcome of a live generation makes of the hub, and which entry is noted.
-use Rattle.std.specs.Prelude.{◌≡◌, ℕ, ◌+◌, Bool, true, false, List, [], ◌∷◌, ◌++◌, Option, option_map, Result, Ok, Err}
+use Rattle.std.specs.Prelude.{◌≡◌, ℕ, Bool, true, false, List, [], ◌∷◌, ◌++◌, Result, Ok, Err}
 use Rattle.hub_devices.specs.Faults.{Rises}
 use Rattle.server_life.specs.declared.life.LifeEvent.{LifeEvent}
 use Rattle.server_life.specs.declared.life.LifeEvent.TheVariants.{Ended, SpawnFailed, EndUnkept}
@@ -43,21 +43,19 @@ Owes (Ok next) todo = next.1 ≡ todo
 Owes (Err e) todo = ⊥
 
 -- the step is taken, and its entry noted
-pub record Stepped (g : ℕ) (event : LifeEvent) (made : Step) (s s' : Hub) (told told' : Option (List Change)) (long long' : ℕ) (faults faults' : ℕ) : Type 0 where
+pub record Stepped (g : ℕ) (event : LifeEvent) (made : Step) (s s' : Hub) (told told' : List Change) (faults faults' : ℕ) : Type 0 where
   pub kept : KeptAs (is_end event) faults faults' made.kept
   pub owes : Owes (step_at s.lives g event) made.todo
   pub hub : s' ≡ apply (entry_of g event made.kept) s
-  pub noted : told' ≡ option_map (λ h. h ++ entry_of g event made.kept ∷ []) told
-  pub longer : long' ≡ long + 1
+  pub noted : told' ≡ told ++ entry_of g event made.kept ∷ []
   pub length : made.length ≡ s'.length
 
 -- a step that isn't taken leaves all as before
-pub record IsRefused (g : ℕ) (event : LifeEvent) (e : LifeRefusal) (s s' : Hub) (told told' : Option (List Change)) (long long' : ℕ) : Type 0 where
+pub record IsRefused (g : ℕ) (event : LifeEvent) (e : LifeRefusal) (s s' : Hub) (told told' : List Change) : Type 0 where
   pub refused : step_at s.lives g event ≡ Err e
   pub hub : s' ≡ s
   pub noted : told' ≡ told
-  pub longer : long' ≡ long
 
-abbrev pub Steps : ℕ → LifeEvent → Result Step LifeRefusal → (s s' : Hub) (told told' : Option (List Change)) (long long' : ℕ) (faults faults' : ℕ) → Type 0
-Steps g event (Ok made) s s' told told' long long' faults faults' = Stepped g event made s s' told told' long long' faults faults'
-Steps g event (Err e) s s' told told' long long' faults faults' = IsRefused g event e s s' told told' long long'
+abbrev pub Steps : ℕ → LifeEvent → Result Step LifeRefusal → (s s' : Hub) (told told' : List Change) (faults faults' : ℕ) → Type 0
+Steps g event (Ok made) s s' told told' faults faults' = Stepped g event made s s' told told' faults faults'
+Steps g event (Err e) s s' told told' faults faults' = IsRefused g event e s s' told told'

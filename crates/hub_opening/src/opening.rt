@@ -256,7 +256,7 @@ fn commit<K: Keeper>(keeper: &mut K, batch: &Batch) -> Result<(), OpenError>
 fn reserve<T: Trail>(trail: &mut T, machine: &Machine) -> Result<(), OpenError>
     ensures room { OnOk result (owed machine.now.lives ≤ T.spare trail.new) }
     ensures err { IfErr result (λ e. e ≡ OpenError.Memory) }
-    ensures same { (T.told trail.new ≡ T.told trail.old) × (T.long trail.new ≡ T.long trail.old) }
+    ensures same { T.told trail.new ≡ T.told trail.old }
 {
     match trail.reserve(machine.lives().owed()) {
         Ok(()) => Ok(()),
@@ -272,7 +272,7 @@ fn keep<K: Keeper, T: Trail>(keeper: &mut K, trail: &mut T, made: &Opened) -> Re
     ensures stays { OnErr result (K.Tells keeper.new → AreSame (K.rows keeper.new) (K.rows keeper.old)) }
     ensures told { K.Tells keeper.new → K.Tells keeper.old }
     ensures counted { K.faults keeper.old ≤ K.faults keeper.new }
-    ensures trail { (T.told trail.new ≡ T.told trail.old) × (T.long trail.new ≡ T.long trail.old) }
+    ensures trail { T.told trail.new ≡ T.told trail.old }
 {
     reserve(trail, &made.machine)?;
     commit(keeper, &made.batch)
@@ -298,7 +298,7 @@ pub fn open_machine<K: Keeper, T: Trail>(
     ensures told { K.Tells keeper.new → K.Tells keeper.old }
     ensures room { IfOk result (λ hub. owed hub.lives ≤ T.spare trail.new) }
     ensures counted { K.faults keeper.old ≤ K.faults keeper.new }
-    ensures trail { (T.told trail.new ≡ T.told trail.old) × (T.long trail.new ≡ T.long trail.old) }
+    ensures trail { T.told trail.new ≡ T.told trail.old }
 {
     let tables = load_tables(alloc, keeper, config)?;
     let made = match make(alloc, tables, config, now) {

@@ -142,7 +142,7 @@ impl Machine {
     ) -> Result<bool, AllocError>
         requires room { is_past_trail self.old change ≡ false }
         requires fits { FitsIn self.old change }
-        ensures entered { Entered change result self.old self.new (T.told trail.old) (T.told trail.new) (T.long trail.old) (T.long trail.new) }
+        ensures entered { Entered change result self.old self.new (T.told trail.old) (T.told trail.new) }
         ensures told { K.Tells keeper.new → K.Tells keeper.old }
         ensures kept { K.Tells keeper.new → Kept change result (K.rows keeper.old) (K.rows keeper.new) }
         ensures keeps { K.Tells keeper.new → Keeps (K.rows keeper.old) self.old.tables → Keeps (K.rows keeper.new) self.new.tables }

@@ -133,7 +133,7 @@ impl Machine {
     ) -> Result<Step, LifeRefusal>
         requires outcome { is_outcome event ≡ true }
         requires room { owed self.old.lives ≤ T.spare trail.old }
-        ensures steps { spec.Steps generation event result self.old self.new (T.told trail.old) (T.told trail.new) (T.long trail.old) (T.long trail.new) (K.faults keeper.old) (K.faults keeper.new) }
+        ensures steps { spec.Steps generation event result self.old self.new (T.told trail.old) (T.told trail.new) (K.faults keeper.old) (K.faults keeper.new) }
         ensures room { owed self.new.lives ≤ T.spare trail.new }
         ensures told { K.Tells keeper.new → K.Tells keeper.old }
         ensures keeps { K.Tells keeper.new → Keeps (K.rows keeper.old) self.old.tables → Keeps (K.rows keeper.new) self.new.tables }
