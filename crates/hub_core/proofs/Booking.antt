@@ -29,7 +29,7 @@ use Rattle.hub_machine.specs.declared.step.Kept.TheVariants as K
 use Rattle.hub_machine.specs.declared.step.Step.{Step}
 use Rattle.hub_core.specs.LifeBook.{LeadsToLives, Notes, kept_of, lived_of, lives_of}
 use Rattle.hub_core.specs.Lived.{LivesOn, LivedAt}
-use Rattle.hub_core.specs.Visits.{Standing, Entry, Reached, entries_of, noted_as}
+use Rattle.hub_core.specs.Visits.{Standing, Entry, Reached, entries_of}
 use Rattle.hub_core.specs.declared.start.Start.{Start}
 use Rattle.hub_core.proofs.Living.{noted_owes, owed_step}
 
@@ -91,10 +91,6 @@ step_alone lives g event = alone (get lives g) g event
 pub leads_to : (start : Start) (entries : List Entry) (s : Hub) → Reached start entries s → LeadsToLives (Some start) entries (lives_of s.lives)
 leads_to start entries s h = (s, h, refl)
 
-notes_it : (tells : Bool) (g : ℕ) (event : LifeEvent) → Notes (noted_as tells (Lived g event)) g event
-notes_it true g event = refl
-notes_it false g event = tt
-
 same_noted : (event : LifeEvent) (kept : EndKept) → noted_event event kept ≡ outcomes.noted event (kept_of kept)
 same_noted event K.NotAsked = refl
 same_noted event K.Kept = refl
@@ -131,11 +127,11 @@ visited b b' g event (Ok made) on at =
     let first = owed_step (step_at lives g event) made.todo on.steps.owes in
     let next = owed_step (step_at lives g noted) made.todo (noted_owes (get lives g) g event made.kept made.todo b.faults b'.faults on.steps.kept on.steps.owes) in
     record {
-      entry = noted_as b.start.tells (Lived g noted);
+      entry = Lived g noted;
       taken = first.0;
       made = next.0;
       appends = at.noted;
-      notes_it = subst (λ (e : LifeEvent). Notes (noted_as b.start.tells (Lived g noted)) g e) same (notes_it b.start.tells g noted);
+      notes_it = ap (Lived g) same;
       takes = step_alone lives g event ∙ first.1;
       row = subst (λ (e : LifeEvent). work.step_at (lives_of lives) g e ≡ Ok (next.0, made.todo)) same (step_alone lives g noted ∙ next.1);
       left = subst (λ (x : Hub). work.IsSet g (work.left_of next.0) (lives_of lives) (lives_of x.lives)) (sym on.steps.hub) (lives_after b.hub g noted (next.0, made.todo) next.1);
@@ -147,5 +143,5 @@ visited b b' g event (Err e) on at = (at.noted, at.unasked, step_alone b.hub.liv
 
 pub lived_appends : (start : Start) (before after : List Entry) (faults faults' : ℕ) (g : ℕ) (event : LifeEvent) (came : Result Step LifeRefusal)
     → LivedAt start before after faults faults' g event came → IsPrefix before after
-lived_appends start before after faults faults' g event (Ok made) at = (noted_as start.tells (entry_of g event made.kept) ∷ [], sym at.noted)
+lived_appends start before after faults faults' g event (Ok made) at = (entry_of g event made.kept ∷ [], sym at.noted)
 lived_appends start before after faults faults' g event (Err e) at = ([], append-nil before ∙ sym at.noted)

@@ -1,5 +1,5 @@
 -- A step of a life keeps a book's history and its state together, and stands at a place of the history.
-use Rattle.std.proofs.Common.{◌≡◌, ℕ, ◌+◌, Bool, true, false, cond, is_some, List, Option, refl, sym, ◌∙◌, ap, inr}
+use Rattle.std.proofs.Common.{◌≡◌, ℕ, Bool, true, false, cond, List, Option, refl, sym, ◌∙◌, ap, inr}
 use Rattle.std.specs.Prelude.{Some, None, Result, Ok, Err, IsOk, OnErr}
 use Rattle.std.specs.FinMap.{get}
 use Rattle.server_life.specs.LifeTable.{row, or_refused, is_generation, generation_of, life_after}
@@ -27,10 +27,9 @@ use Rattle.hub_core.specs.Lived.{LivedAt}
 use Rattle.hub_core.specs.Current.{IsStamped}
 use Rattle.roles.specs.Looks.{Cache}
 use Rattle.hub_core.proofs.Stamped.{stamped_stepped, stamped_same}
-use Rattle.hub_core.specs.Tied.{IsTied}
-use Rattle.hub_core.specs.Visits.{listed, told_after}
-use Rattle.hub_core.proofs.Places.{listed_length, reached, start_of, noted_after, same_entries, tells_after}
-use Rattle.hub_core.proofs.Tied.{moved, tied_more}
+use Rattle.hub_core.specs.Visits.{Entry, Reached, with_entry}
+use Rattle.hub_core.specs.declared.start.Start.{Start}
+use Rattle.hub_core.proofs.Tied.{moved, reached_more}
 
 -- ---- an end that a life takes is one that it takes unkept too, and neither owes a call
 
@@ -125,52 +124,34 @@ is_entry s g event kept todo faults faults' outcome k o =
 
 -- ---- the book after it
 
-pub tied_stepped : (start s s' : Hub) (told told' : Option (List Change)) (long long' : ℕ) (g : ℕ) (event : LifeEvent) (came : Result Step LifeRefusal) (faults faults' : ℕ)
-    → is_outcome event ≡ true → IsTied start s told long → Steps g event came s s' told told' long long' faults faults' → IsTied start s' told' long'
-tied_stepped start s s' told told' long long' g event (Ok made) faults faults' outcome t h =
-    moved start (apply (entry_of g event made.kept) s) s' (told_after (Some (entry_of g event made.kept)) told) told' (long + 1) long' h.hub h.noted h.longer
-    (tied_more start s told long (entry_of g event made.kept) (inr (is_entry s g event made.kept made.todo faults faults' outcome h.kept h.owes)) t)
-tied_stepped start s s' told told' long long' g event (Err e) faults faults' outcome t h = moved start s s' told told' long long' h.hub h.noted h.longer t
-
-pub told_stepped : (s s' : Hub) (told told' : Option (List Change)) (long long' : ℕ) (g : ℕ) (event : LifeEvent) (came : Result Step LifeRefusal) (faults faults' : ℕ)
-    → Steps g event came s s' told told' long long' faults faults' → is_some told' ≡ is_some told
-told_stepped s s' told told' long long' g event (Ok made) faults faults' h = ap is_some h.noted ∙ tells_after (Some (entry_of g event made.kept)) told
-told_stepped s s' told told' long long' g event (Err e) faults faults' h = ap is_some h.noted
+pub reached_stepped : (start : Start) (s s' : Hub) (told told' : List Entry) (g : ℕ) (event : LifeEvent) (came : Result Step LifeRefusal) (faults faults' : ℕ)
+    → is_outcome event ≡ true → Reached start told s → Steps g event came s s' told told' faults faults' → Reached start told' s'
+reached_stepped start s s' told told' g event (Ok made) faults faults' outcome r h =
+    moved start (with_entry (Some (entry_of g event made.kept)) told) told' (apply (entry_of g event made.kept) s) s' h.hub h.noted
+    (reached_more start told s (entry_of g event made.kept) r (inr (is_entry s g event made.kept made.todo faults faults' outcome h.kept h.owes)))
+reached_stepped start s s' told told' g event (Err e) faults faults' outcome r h = moved start told told' s s' h.hub h.noted r
 
 -- the keeper's count stays where the keeper does
 pub same_count : {K : Type 0} {A B : Type 0} {k k' : K} (came : Result A B) {n n' : ℕ} → (k' ≡ k → n' ≡ n) → OnErr came (k' ≡ k) → OnErr came (n' ≡ n)
 same_count (Ok made) f h = tt
 same_count (Err e) f h = f h
 
-pub stamped_lives : (c : Cache) (s s' : Hub) (stamp : ℕ) (told told' : Option (List Change)) (long long' : ℕ) (g : ℕ) (event : LifeEvent) (came : Result Step LifeRefusal) (faults faults' : ℕ)
-    → Steps g event came s s' told told' long long' faults faults' → IsStamped c s.tables stamp s.length → IsStamped c s'.tables stamp s'.length
-stamped_lives c s s' stamp told told' long long' g event (Ok made) faults faults' h t = stamped_stepped c s s' stamp g (noted_event event made.kept) h.hub t
-stamped_lives c s s' stamp told told' long long' g event (Err e) faults faults' h t = stamped_same c s s' stamp h.hub t
-
--- by the length of the state, which is that of the history
-pub steps_long : (s s' : Hub) (told told' : Option (List Change)) (long long' : ℕ) (g : ℕ) (event : LifeEvent) (came : Result Step LifeRefusal) (faults faults' : ℕ)
-    → Steps g event came s s' told told' long long' faults faults' → Steps g event came s s' told told' s.length s'.length faults faults'
-steps_long s s' told told' long long' g event (Ok made) faults faults' h =
-    record { kept = h.kept; owes = h.owes; hub = h.hub; noted = h.noted; longer = ap (λ (x : Hub). x.length) h.hub; length = h.length }
-steps_long s s' told told' long long' g event (Err e) faults faults' h = record { refused = h.refused; hub = h.hub; noted = h.noted; longer = ap (λ (x : Hub). x.length) h.hub }
+pub stamped_lives : (c : Cache) (s s' : Hub) (stamp : ℕ) (told told' : List Entry) (g : ℕ) (event : LifeEvent) (came : Result Step LifeRefusal) (faults faults' : ℕ)
+    → Steps g event came s s' told told' faults faults' → IsStamped c s.tables stamp s.length → IsStamped c s'.tables stamp s'.length
+stamped_lives c s s' stamp told told' g event (Ok made) faults faults' h t = stamped_stepped c s s' stamp g (noted_event event made.kept) h.hub t
+stamped_lives c s s' stamp told told' g event (Err e) faults faults' h t = stamped_same c s s' stamp h.hub t
 
 -- ---- at a place
 
-pub lived_at : (start : Hub) (has : Bool) (s s' : Hub) (told told' : Option (List Change)) (long long' : ℕ) (g : ℕ) (event : LifeEvent) (came : Result Step LifeRefusal) (faults faults' : ℕ)
-    → IsTied start s told long → IsTied start s' told' long' → Steps g event came s s' told told' long long' faults faults' → OnErr came (faults' ≡ faults)
-    → LivedAt (start_of start has told) (listed told s.length) (listed told' s'.length) faults faults' g event came
-lived_at start has s s' told told' long long' g event (Ok made) faults faults' t t' h same = record {
+pub lived_at : (start : Start) (s s' : Hub) (told told' : List Entry) (g : ℕ) (event : LifeEvent) (came : Result Step LifeRefusal) (faults faults' : ℕ)
+    → Reached start told s → Reached start told' s' → Steps g event came s s' told told' faults faults' → OnErr came (faults' ≡ faults)
+    → LivedAt start told told' faults faults' g event came
+lived_at start s s' told told' g event (Ok made) faults faults' r r' h same = record {
   state = s;
-  reached = reached start has s told long t;
+  reached = r;
   owes = h.owes;
   kept = h.kept;
-  noted = noted_after (Some (entry_of g event made.kept)) told told' s s' h.hub h.noted;
-  length = h.length ∙ listed_length start s' told' long' t';
+  noted = h.noted;
+  length = h.length ∙ r'.length;
 }
-lived_at start has s s' told told' long long' g event (Err e) faults faults' t t' h same = record {
-  state = s;
-  reached = reached start has s told long t;
-  refused = h.refused;
-  noted = same_entries told told' s s' h.hub h.noted;
-  unasked = same;
-}
+lived_at start s s' told told' g event (Err e) faults faults' r r' h same = record { state = s; reached = r; refused = h.refused; noted = h.noted; unasked = same }

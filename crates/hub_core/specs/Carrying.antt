@@ -8,7 +8,7 @@ use Rattle.hub_machine.specs.Replies as spec
 use Rattle.hub_machine.specs.Replies.{answered, refusal_reply}
 use Rattle.hub_machine.specs.Answers.{outcome_view}
 use Rattle.hub_core.specs.Stamps.{stamp_after}
-use Rattle.hub_core.specs.Visits.{asks_keeper, noted, told_after}
+use Rattle.hub_core.specs.Visits.{Entry, asks_keeper, noted, with_entry}
 use Rattle.hub_machine.specs.declared.change.Change.{Change}
 use Rattle.hub_machine.specs.declared.refusal.Refusal.TheVariants.{KeeperFault}
 use Rattle.hub_machine.specs.declared.reply.Outcome.{Outcome}
@@ -21,8 +21,7 @@ MayBeDone s (Some c) = (is_past_trail s c ≡ false) × FitsIn s c
 -- what a carried answer may change of a book: its state, its trail, its stamp and its keeper's count
 pub record Carrier : Type 0 where
   pub hub : Hub
-  pub told : Option (List Change)
-  pub long : ℕ
+  pub told : List Entry
   pub stamp : ℕ
   pub faults : ℕ
 
@@ -33,8 +32,7 @@ long_after (Some c) long = long + 1
 -- the change, if there is one, is done and noted, and then this is said
 pub record Did (ch : Option Change) (says : spec.Outcome) (o : Outcome) (b b' : Carrier) : Type 0 where
   pub hub : b'.hub ≡ noted ch b.hub
-  pub telling : b'.told ≡ told_after ch b.told
-  pub longer : b'.long ≡ long_after ch b.long
+  pub telling : b'.told ≡ with_entry ch b.told
   pub stamped : b'.stamp ≡ stamp_after b.hub.tables ch b.stamp
   pub unasked : asks_keeper ch ≡ false → b'.faults ≡ b.faults
   pub said : outcome_view o ≡ says
@@ -42,7 +40,6 @@ pub record Did (ch : Option Change) (says : spec.Outcome) (o : Outcome) (b b' : 
 pub record IsSame (b b' : Carrier) : Type 0 where
   pub hub : b'.hub ≡ b.hub
   pub telling : b'.told ≡ b.told
-  pub longer : b'.long ≡ b.long
   pub stamped : b'.stamp ≡ b.stamp
 
 -- the keeper refused its rows, and all is as before

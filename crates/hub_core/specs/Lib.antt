@@ -10,7 +10,6 @@ pub mod Works
 pub mod LifeBook
 pub mod Live
 pub mod Carrying
-pub mod Tied
 pub mod Opened
 pub mod Removed
 pub mod Views

@@ -25,10 +25,9 @@ abbrev pub LeadsToLives : Option Start → List Entry → work.Lives → Type 0
 LeadsToLives None entries lives = ⊥
 LeadsToLives (Some start) entries lives = (state : Hub) × Reached start entries state × (lives ≡ lives_of state.lives)
 
--- the entry is this event in the life of this generation, or blank
+-- the entry is this event in the life of this generation
 abbrev pub Notes : Entry → ℕ → LifeEvent → Type 0
-Notes None g event = Unit {0}
-Notes (Some c) g event = c ≡ Lived g event
+Notes c g event = c ≡ Lived g event
 
 -- whether an end was kept, in the words of a chain
 abbrev pub kept_of : EndKept → chain.Kept

@@ -6,12 +6,12 @@ use Rattle.hub_machine.specs.State.{Hub}
 use Rattle.hub_machine.specs.Apply.{step_at}
 use Rattle.hub_machine.specs.Steps.{Steps, KeptAs, Owes, entry_of, is_end}
 use Rattle.hub_machine.specs.declared.step.Step.{Step}
-use Rattle.hub_core.specs.Visits.{Standing, Entry, Reached, noted_as}
+use Rattle.hub_core.specs.Visits.{Standing, Entry, Reached}
 use Rattle.hub_core.specs.declared.start.Start.{Start}
 
 -- the outcome is taken and noted, or refused, as the life table says of the book's state; the kept rights stay as they are
 pub record LivesOn (b b' : Standing) (g : ℕ) (event : LifeEvent) (came : Result Step LifeRefusal) : Type 0 where
-  pub steps : Steps g event came b.hub b'.hub b.told b'.told b.hub.length b'.hub.length b.faults b'.faults
+  pub steps : Steps g event came b.hub b'.hub b.told b'.told b.faults b'.faults
   pub stamped : b'.stamp ≡ b.stamp
   pub rights : b'.rights ≡ b.rights
   -- the keeper is asked to keep an end alone
@@ -26,7 +26,7 @@ pub record TakenAt (start : Start) (before after : List Entry) (faults faults' :
   pub reached : Reached start before state
   pub owes : Owes (step_at state.lives g event) made.todo
   pub kept : KeptAs (is_end event) faults faults' made.kept
-  pub noted : after ≡ before ++ noted_as start.tells (entry_of g event made.kept) ∷ []
+  pub noted : after ≡ before ++ entry_of g event made.kept ∷ []
   pub length : made.length ≡ length after
 
 -- the outcome is refused in that state, and all is as before

@@ -1,5 +1,5 @@
 -- What a visit gives and leaves.
-use Rattle.std.specs.Prelude.{◌≡◌, ℕ, ◌+◌, Bool, true, false, ◌⊎◌, List, [], ◌∷◌, ◌++◌, map, length, replicate, Option, Some, None, option_map, Result, Ok, Err}
+use Rattle.std.specs.Prelude.{◌≡◌, ℕ, Bool, true, false, ◌⊎◌, List, [], ◌∷◌, ◌++◌, length, Option, Some, None, Result, Ok, Err}
 use Rattle.hub_devices.specs.Faults.{Rises}
 use Rattle.roles.specs.Looks.{Cache}
 use Rattle.hub_machine.specs.State.{Hub}
@@ -15,14 +15,18 @@ use Rattle.hub_machine.specs.declared.change.Change.{Change}
 use Rattle.hub_machine.specs.declared.refusal.Refusal.TheVariants.{KeeperFault}
 use Rattle.hub_machine.specs.declared.reply.Outcome.{Outcome}
 
+-- an entry of the history is a change
+abbrev pub Entry : Type 0
+Entry = Change
+
 -- what contracts see of a book
 pub record Standing : Type 0 where
-  -- the state at opening, and whether the history is told
+  -- the state at opening
   pub start : Start
   -- the state now
   pub hub : Hub
-  -- the history, where it is told
-  pub told : Option (List Change)
+  -- the history
+  pub told : List Entry
   -- of the keeper
   pub faults : ℕ
   -- the grants of tokens that were looked for last, which no answer depends on
@@ -30,13 +34,18 @@ pub record Standing : Type 0 where
   -- how often rights have changed, which is the stamp of the grants of now
   pub stamp : ℕ
 
--- the history is legal, and the state is what it leaves
-pub record Follows (start hub : Hub) (h : List Change) : Type 0 where
-  pub legal : IsLegal start h
-  pub state : hub ≡ state_after start h
+abbrev pub entries_of : Standing → List Entry
+entries_of b = b.told
 
-abbrev pub IsFollowed : Standing → Type 0
-IsFollowed b = (h : List Change) → b.told ≡ Some h → Follows b.start.machine b.hub h
+-- the entries are legal and lead from the start to this state, whose length is theirs
+pub record Reached (start : Start) (before : List Entry) (hub : Hub) : Type 0 where
+  pub legal : IsLegal start.machine before
+  pub state : hub ≡ state_after start.machine before
+  pub length : hub.length ≡ length before
+
+-- the state of a book is the one that its history leaves
+abbrev pub IsReached : Standing → Type 0
+IsReached b = Reached b.start (entries_of b) b.hub
 
 -- ---- a visit
 
@@ -44,9 +53,10 @@ abbrev pub noted : Option Change → Hub → Hub
 noted None s = s
 noted (Some c) s = apply c s
 
-abbrev pub told_after : Option Change → Option (List Change) → Option (List Change)
-told_after None told = told
-told_after (Some c) told = option_map (λ h. h ++ c ∷ []) told
+-- one entry more where there is a change
+abbrev pub with_entry : Option Change → List Entry → List Entry
+with_entry None before = before
+with_entry (Some c) before = before ++ c ∷ []
 
 -- the keeper is asked only where a commit goes with the change
 abbrev pub asks_keeper : Option Change → Bool
@@ -58,7 +68,7 @@ pub record Gave (b b' : Standing) (now : ℕ) (draw : Option (List ℕ)) (asked 
   pub answer : Answer
   pub answers : Answers b.hub now draw asked answer
   pub hub : b'.hub ≡ noted (change_of answer) b.hub
-  pub told : b'.told ≡ told_after (change_of answer) b.told
+  pub told : b'.told ≡ with_entry (change_of answer) b.told
   pub stamped : b'.stamp ≡ stamp_after b.hub.tables (change_of answer) b.stamp
   pub unasked : asks_keeper (change_of answer) ≡ false → b'.faults ≡ b.faults
   pub outcome : outcome_view o ≡ outcome_of b'.hub.length answer
@@ -87,40 +97,13 @@ Visited b now draw asked (Err e) b' = IsAsBefore b b'
 
 -- ---- the same at a place of the history
 
--- an entry as the history has it: blank exactly where the history isn't told
-abbrev pub Entry : Type 0
-Entry = Option Change
-
--- the history where it is told, else as many blank entries
-abbrev pub listed : Option (List Change) → ℕ → List Entry
-listed (Some h) n = map Some h
-listed None n = replicate n None
-
-abbrev pub entries_of : Standing → List Entry
-entries_of b = listed b.told b.hub.length
-
-abbrev pub noted_as : (tells : Bool) → Change → Entry
-noted_as true c = Some c
-noted_as false c = None
-
--- one entry more where there is a change
-abbrev pub with_entry : (tells : Bool) → Option Change → List Entry → List Entry
-with_entry tells None before = before
-with_entry tells (Some c) before = before ++ noted_as tells c ∷ []
-
--- legal changes led from the start to this state, and these are their entries: the changes themselves where they are told, else blank ones
-pub record Reached (start : Start) (before : List Entry) (state : Hub) : Type 0 where
-  pub told : start.tells ≡ true → (h : List Change) × (before ≡ map Some h) × Follows start.machine state h
-  pub blank : start.tells ≡ false → (h : List Change) × (before ≡ replicate (length h) None) × Follows start.machine state h
-  pub length : state.length ≡ length before
-
 -- the outcome is that of the answer in the state that the entries before it left
 pub record AnsweredAt (start : Start) (before after : List Entry) (now : ℕ) (draw : Option (List ℕ)) (asked : Asked) (o : Outcome) : Type 0 where
   pub state : Hub
   pub reached : Reached start before state
   pub answer : Answer
   pub answers : Answers state now draw asked answer
-  pub noted : after ≡ with_entry start.tells (change_of answer) before
+  pub noted : after ≡ with_entry (change_of answer) before
   pub outcome : outcome_view o ≡ outcome_of (length after) answer
 
 -- the keeper refused the rows of the answer in that state: there is no entry, and its count of faults rose

@@ -15,8 +15,7 @@ use keeper::trail::Trail;
 use std::alloc::{AllocError, Global};
 
 impl<K: Keeper, T: Trail<Entry = Change>> Booked for Book<K, T> {
-    /// A change, or nothing where the history isn't told.
-    type Entry = Option<Change>;
+    type Entry = Change;
 
     type Base = Start;
 

@@ -1,7 +1,7 @@
 //! The book: the machine with its keeper and its history.
 //! Whenever nobody acts on it, its state is what its history leaves, and its keeper, where it tells its rows, has exactly those of that
 //! state: so the rows kept are those of the history.
-ghost use Rattle.std.specs.Prelude.{◌≡◌, ◌≤◌, ◌^◌, ◌↔◌, IsTrue, Some, IfOk, IfErr, length};
+ghost use Rattle.std.specs.Prelude.{◌≡◌, ◌≤◌, ◌^◌, ◌↔◌, IsTrue, Some, [], IfOk, IfErr, length};
 ghost use Rattle.hub_machine.specs.Answers.{answer_view, outcome_view};
 ghost use Rattle.hub_machine.specs.Replies.{outcome_of};
 ghost use Rattle.hub_machine.specs.KeptRows.{Keeps};
@@ -12,7 +12,7 @@ ghost use Rattle.hub_core.specs.Works.{IsSoundOutcome};
 ghost use Rattle.hub_core.specs.Opened.{HasOpened};
 ghost use Rattle.hub_opening.specs.Kept.{MakeTable};
 ghost use Rattle.hub_opening.specs.Opening.{IsRefused};
-ghost use Rattle.hub_core.specs.Visits.{Visited, VisitedAt, IsFollowed, Reached, entries_of};
+ghost use Rattle.hub_core.specs.Visits.{Visited, VisitedAt, IsReached, entries_of};
 ghost use Rattle.hub_core.specs.Carrying.{Carried, MayBeDone, long_after};
 ghost use Rattle.hub_core.specs.History.{change_of};
 ghost use Rattle.keeper.specs.Rows.{AreSame};
@@ -76,12 +76,11 @@ impl<K: Keeper + Drop, T: Trail<Entry = Change> + Drop> Drop for Book<K, T> {
 const CAPACITY: u32 = 1024;
 
 impl<K: Keeper, T: Trail<Entry = Change>> Model for Book<K, T> {
-    ghost use Rattle.std.specs.Prelude.{◌≤◌, IsTrue, is_some};
+    ghost use Rattle.std.specs.Prelude.{◌≤◌, IsTrue};
     ghost use Rattle.hub_core.specs.Current.{IsStamped};
     ghost use Rattle.hub_machine.specs.KeptRows.{Keeps};
     ghost use Rattle.hub_machine.specs.State.{owed};
-    ghost use Rattle.hub_core.specs.Visits.{Standing};
-    ghost use Rattle.hub_core.specs.Tied.{IsTied};
+    ghost use Rattle.hub_core.specs.Visits.{Standing, Reached};
     ghost use Rattle.std.specs.Coded.{codes};
     ghost use Rattle.std.specs.FinMap.{code};
 
@@ -89,9 +88,9 @@ impl<K: Keeper, T: Trail<Entry = Change>> Model for Book<K, T> {
 
     ghost coded = { Prim.hlevel (codes, code) };
 
-    ghost view = { λ b. record { start = record { machine = b.start.value; tells = is_some (T.told b.trail); has_rows = K.is_told b.found.value }; hub = b.machine; told = T.told b.trail; faults = K.faults b.keeper; rights = b.rights; stamp = b.stamp } };
+    ghost view = { λ b. record { start = record { machine = b.start.value; has_rows = K.is_told b.found.value }; hub = b.machine; told = T.told b.trail; faults = K.faults b.keeper; rights = b.rights; stamp = b.stamp } };
 
-    ghost invariant = { λ b. IsTied b.start.value b.machine (T.told b.trail) (T.long b.trail) × IsStamped b.rights b.machine.tables b.stamp b.machine.length × (owed b.machine.lives ≤ T.spare b.trail) × (K.Tells b.keeper → Keeps (K.rows b.keeper) b.machine.tables) × (K.Tells b.keeper → IsTrue (K.is_told b.found.value)) };
+    ghost invariant = { λ b. Reached (record { machine = b.start.value; has_rows = K.is_told b.found.value }) (T.told b.trail) b.machine × IsStamped b.rights b.machine.tables b.stamp b.machine.length × (owed b.machine.lives ≤ T.spare b.trail) × (K.Tells b.keeper → Keeps (K.rows b.keeper) b.machine.tables) × (K.Tells b.keeper → IsTrue (K.is_told b.found.value)) };
 }
 
 /// Carries an answer out: its change, if it has one, and what is said at the length that it leaves.
@@ -105,7 +104,7 @@ fn carry<K: Keeper, T: Trail<Entry = Change>>(
 ) -> Result<Outcome, AllocError>
     requires may { MayBeDone machine.old (change_of (answer_view answer)) }
     requires room { stamp.old ≤ machine.old.length }
-    ensures carried { Carried (change_of (answer_view answer)) (outcome_of (long_after (change_of (answer_view answer)) machine.old.length) (answer_view answer)) result (record { hub = machine.old; told = T.told trail.old; long = T.long trail.old; stamp = stamp.old; faults = K.faults keeper.old }) (record { hub = machine.new; told = T.told trail.new; long = T.long trail.new; stamp = stamp.new; faults = K.faults keeper.new }) }
+    ensures carried { Carried (change_of (answer_view answer)) (outcome_of (long_after (change_of (answer_view answer)) machine.old.length) (answer_view answer)) result (record { hub = machine.old; told = T.told trail.old; stamp = stamp.old; faults = K.faults keeper.old }) (record { hub = machine.new; told = T.told trail.new; stamp = stamp.new; faults = K.faults keeper.new }) }
     ensures counted { K.faults keeper.old ≤ K.faults keeper.new }
     ensures spare { owed machine.old.lives ≤ T.spare trail.old → owed machine.new.lives ≤ T.spare trail.new }
     ensures told { K.Tells keeper.new → K.Tells keeper.old }
@@ -145,7 +144,7 @@ fn carry_change<K: Keeper, T: Trail<Entry = Change>>(
 ) -> Result<Outcome, AllocError>
     requires may { MayBeDone machine.old (Some change) }
     requires room { stamp.old ≤ machine.old.length }
-    ensures carried { Carried (Some change) (outcome_view says) result (record { hub = machine.old; told = T.told trail.old; long = T.long trail.old; stamp = stamp.old; faults = K.faults keeper.old }) (record { hub = machine.new; told = T.told trail.new; long = T.long trail.new; stamp = stamp.new; faults = K.faults keeper.new }) }
+    ensures carried { Carried (Some change) (outcome_view says) result (record { hub = machine.old; told = T.told trail.old; stamp = stamp.old; faults = K.faults keeper.old }) (record { hub = machine.new; told = T.told trail.new; stamp = stamp.new; faults = K.faults keeper.new }) }
     ensures counted { K.faults keeper.old ≤ K.faults keeper.new }
     ensures spare { owed machine.old.lives ≤ T.spare trail.old → owed machine.new.lives ≤ T.spare trail.new }
     ensures told { K.Tells keeper.new → K.Tells keeper.old }
@@ -187,10 +186,10 @@ impl<K: Keeper, T: Trail<Entry = Change>> Book<K, T> {
         config: &HubConfig,
         now: Moment,
     ) -> Result<Book<K, T>, (K, OpenError)>
-        requires empty { T.long trail ≡ 0 }
+        requires empty { T.told trail ≡ [] }
         requires limits { config.now.limits.trail_bytes ≤ 2 ^ 62 }
         requires scopes { MakeTable config.now.custom_scopes }
-        ensures ok { IfOk result (HasOpened config.now now (K.Tells keeper) (K.rows keeper) (T.told trail) (K.faults keeper)) }
+        ensures ok { IfOk result (HasOpened config.now now (K.Tells keeper) (K.rows keeper) (K.faults keeper)) }
         ensures err { IfErr result (λ e. IsRefused config.now now (K.Tells e.0) (K.rows keeper) (K.faults keeper) (K.faults e.0) e.1) }
         ensures counted { IfErr result (λ e. K.faults keeper ≤ K.faults e.0) }
         // a keeper that is handed back has the rows that it had
@@ -234,7 +233,7 @@ impl<K: Keeper, T: Trail<Entry = Change>> Book<K, T> {
         ensures visited { Visited self.old now draw asked.now result self.new }
         ensures start { self.new.start ≡ self.old.start }
         ensures counted { self.old.faults ≤ self.new.faults }
-        ensures followed { IsFollowed self.new }
+        ensures reached { IsReached self.new }
         // the token whose rights decide is looked for once in the cache, which no answer depends on
         ensures looked { Looked self.old.rights self.old.stamp (decider self.old.hub now asked.now) result self.new.rights }
         // work that is given can be done
@@ -265,7 +264,7 @@ impl<K: Keeper, T: Trail<Entry = Change>> Book<K, T> {
 
     /// That the history leads to the state. It does nothing.
     pub fn stands(&self)
-        ensures { Reached self.now.start (entries_of self.now) self.now.hub }
+        ensures { IsReached self.now }
     {
         let _ = &self.trail;
     }
@@ -298,8 +297,7 @@ impl<K: Keeper, T: Trail<Entry = Change>> Book<K, T> {
     /// The keeper and the trail. Takes no memory.
     pub fn into_parts(self) -> (K, T)
         ensures told { T.told result.1 ≡ self.told }
-        ensures followed { IsFollowed self }
-        ensures reached { Reached self.start (entries_of self) self.hub }
+        ensures reached { IsReached self }
         ensures faults { K.faults result.0 ≡ self.faults }
         // the rows kept are those of the state, which is what the history leaves
         ensures rows { K.Tells result.0 → Keeps (K.rows result.0) self.hub.tables }

@@ -10,12 +10,12 @@ ghost use Rattle.hub_core.specs.Removed.{IsRemoved, IsTokenRefused};
 ghost use Rattle.hub_core.specs.Visits.{Entry, Reached};
 ghost use Rattle.hub_core.specs.declared.start.Start.{Start};
 
-/// Where the history is told, its entries lead to one state. It does nothing: its contract is the law.
+/// The entries of a history lead to one state. It does nothing: its contract is the law.
 pub fn entries_lead_to_one_state()
-    ensures { (start : Start) (before : List Entry) (s t : Hub) → start.tells ≡ true → Reached start before s → Reached start before t → s ≡ t }
+    ensures { (start : Start) (before : List Entry) (s t : Hub) → Reached start before s → Reached start before t → s ≡ t }
 {}
 
-/// No entries lead to the state of the opening, also where the history isn't told. It does nothing: its contract is the law.
+/// No entries lead to the state of the opening. It does nothing: its contract is the law.
 pub fn no_entries_lead_to_the_opening()
     ensures { (start : Start) (s : Hub) → Reached start [] s → s ≡ start.machine }
 {}

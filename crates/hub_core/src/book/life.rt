@@ -2,7 +2,7 @@
 ghost use Rattle.std.specs.Prelude.{◌≡◌, ◌≤◌, true};
 ghost use Rattle.server_life.specs.Lives.{is_outcome};
 ghost use Rattle.hub_core.specs.Lived.{LivesOn, LivedAt};
-ghost use Rattle.hub_core.specs.Visits.{IsFollowed, entries_of};
+ghost use Rattle.hub_core.specs.Visits.{IsReached, entries_of};
 
 use crate::book::Book;
 use hub_machine::change::Change;
@@ -19,7 +19,7 @@ impl<K: Keeper, T: Trail<Entry = Change>> Book<K, T> {
         ensures lives { LivesOn self.old self.new generation event result }
         ensures start { self.new.start ≡ self.old.start }
         ensures counted { self.old.faults ≤ self.new.faults }
-        ensures followed { IsFollowed self.new }
+        ensures reached { IsReached self.new }
         // the same in words of places: the outcome is taken in the state that the entries before it left
         ensures placed { LivedAt self.old.start (entries_of self.old) (entries_of self.new) self.old.faults self.new.faults generation event result }
     {

@@ -11,7 +11,6 @@ returns-in-Ok-true-clause-carried g c =
     inl (record {
       hub = same.0;
       telling = same.1;
-      longer = same.2;
       stamped = c.raised.ensures ∙ ap (λ (b : Bool). if b then c.args.stamp.now + 1 else c.args.stamp.now)
           (c.is_of_rights-of_rights.ensures ∙ (λ i. is_of_rights (c.tables.ensures i) (c.change.ensures i)));
       unasked = λ e. ap g.K.Keeper.faults (c.in-Ok-true.ensures.calm e).0;
@@ -31,6 +30,6 @@ returns-in-Ok-false-clause-carried g c =
       has = refl;
       commits = commits _ (λ e. (c.in-Ok-false.ensures.calm e).1 (ap Ok c.in-Ok-false.field-0-test));
       said = ap answered (c.in-Ok.ensures ∙ ap (λ n. refusal_reply n KeeperFault) c.length.ensures.value);
-      stays = record { hub = same.0; telling = same.1; longer = same.2; stamped = refl };
+      stays = record { hub = same.0; telling = same.1; stamped = refl };
       rises = c.in-Ok-false.ensures.cause (ap Ok c.in-Ok-false.field-0-test);
     })

@@ -1,12 +1,9 @@
 use Rattle.std.proofs.Common.{IsTrue, subst}
-use Rattle.hub_core.specs.Visits.{Standing, Reached, entries_of}
-use Rattle.hub_core.proofs.Places.{reached}
+use Rattle.hub_core.specs.Visits.{Standing, IsReached}
 use Rattle.hub_core.proofs.book.Book.into_parts.Goals as goal
 
 pub returns-clause-reached : goal.returns-clause-reached
-returns-clause-reached g c =
-    subst (λ (b : Standing). Reached b.start (entries_of b) b.hub) c.self.view_is
-    (reached c.self.inside.start.value (g.K.Keeper.is_told c.self.inside.found.value) c.self.inside.machine (g.T.Trail.told c.self.inside.trail) (g.T.Trail.long c.self.inside.trail) c.self.invariant.0)
+returns-clause-reached g c = subst IsReached c.self.view_is c.self.invariant.0
 
 pub returns-clause-had : goal.returns-clause-had
 returns-clause-had g c = subst (λ (b : Standing). g.K.Keeper.Tells c.self.inside.keeper → IsTrue b.start.has_rows) c.self.view_is c.self.invariant.4

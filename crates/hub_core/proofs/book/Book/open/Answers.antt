@@ -1,15 +1,15 @@
-use Rattle.std.proofs.Common.{◌≤◌, ◌∙◌, IsTrue, ap, is_some, refl, sym, subst, arith}
+use Rattle.std.proofs.Common.{◌≤◌, ◌∙◌, IsTrue, ap, refl, sym, subst, arith}
 use Rattle.hub_machine.specs.State.{Hub}
 use Rattle.hub_core.proofs.Looking.{current_empty}
 use Rattle.hub_core.proofs.Numbered.{numbered_opened}
 use Rattle.hub_core.proofs.Found.{set_up_where}
-use Rattle.hub_core.proofs.Tied.{tied_opening}
+use Rattle.hub_core.proofs.Tied.{reached_opening}
 use Rattle.hub_core.proofs.book.Book.open.Goals as goal
 
 pub invariant_of-result : goal.invariant_of-result
 invariant_of-result g c = (
-  tied_opening c.of-start.result.value c.in-Ok-open_machine.machine (g.T.Trail.told c.open_machine.new.trail) (g.T.Trail.long c.open_machine.new.trail)
-      c.of-start.ensures (ap (λ (hub : Hub). hub.length) c.in-Ok-open_machine.ensures.ok.hub) (c.open_machine.ensures.trail.1 ∙ c.requires.empty) (g.met.T.Trail.counted c.open_machine.new.trail),
+  reached_opening (record { machine = c.of-start.result.value; has_rows = g.K.Keeper.is_told c.of-found.result.value }) (g.T.Trail.told c.open_machine.new.trail) c.in-Ok-open_machine.machine
+      c.of-start.ensures (ap (λ (hub : Hub). hub.length) c.in-Ok-open_machine.ensures.ok.hub) (c.open_machine.ensures.trail ∙ c.requires.empty),
   record {
     current = current_empty c.in-Ok.rights c.in-Ok-open_machine.machine.tables 0 1024 c.in-Ok.ensures;
     numbered = numbered_opened c.args.config.now c.args.now (g.K.Keeper.Tells c.open_machine.new.keeper) (g.K.Keeper.rows c.args.keeper) c.in-Ok-open_machine.machine c.in-Ok-open_machine.ensures.ok;
@@ -29,9 +29,8 @@ returns-in-Ok-open_machine-clause-ok g c =
       set_up = set_up_where c.args.config.now c.args.now (IsTrue (g.K.Keeper.is_told c.of-found.result.value)) (g.K.Keeper.Tells c.open_machine.new.keeper) (g.K.Keeper.rows c.args.keeper)
           c.of-start.result.value c.in-Ok-open_machine.machine c.of-start.ensures was c.in-Ok-open_machine.ensures.ok;
       was_told = λ has. c.open_machine.ensures.told (was has);
-      tells = ap is_some c.open_machine.ensures.trail.0;
       hub = sym c.of-start.ensures;
-      told = c.open_machine.ensures.trail.0;
+      told = c.open_machine.ensures.trail ∙ c.requires.empty;
       counted = c.open_machine.ensures.counted;
       rights = c.in-Ok.ensures;
       stamp = refl;
