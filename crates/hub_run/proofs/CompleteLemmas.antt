@@ -99,9 +99,9 @@ its_turn one start left text more rest request wanting is at = _
 
 -- ---- the answer
 
--- what the machine knows: one state is reached by entries that are told, and one answer is given in it
+-- what the machine knows: one state is reached by entries, and one answer is given in it
 abbrev pub StateIsOne : Type 0
-StateIsOne = (start : Start) (before : List Entry) (s s' : Hub) → start.tells ≡ true → Reached start before s → Reached start before s' → s ≡ s'
+StateIsOne = (start : Start) (before : List Entry) (s s' : Hub) → Reached start before s → Reached start before s' → s ≡ s'
 
 abbrev pub AnswerIsOne : Type 0
 AnswerIsOne = (s : Hub) (now : ℕ) (draw : Option (List ℕ)) (asked : Asked) (a b : Answer) → Answers s now draw asked a → Answers s now draw asked b → a ≡ b
@@ -113,25 +113,25 @@ same_reply : (a b : Reply) → answered a ≡ answered b → a ≡ b
 same_reply a b e = cc
 
 -- an answer in a state that the entries before the visit left is the one that is due
-due_answer : StateIsOne → AnswerIsOne → (start : Start) (request : Request) (v : Visit) (state : Hub) (call : Asked) (r a : Answer) → start.tells ≡ true
+due_answer : StateIsOne → AnswerIsOne → (start : Start) (request : Request) (v : Visit) (state : Hub) (call : Asked) (r a : Answer)
     → Reached start v.before state → Answers state v.moment v.draw call r → call_read request ≡ Ok call → IsDue start request v a → r ≡ a
-due_answer states answers start request v state call r a tells reached given read due =
-    let here : state ≡ due.state = states start v.before state due.state tells reached due.reached in
+due_answer states answers start request v state call r a reached given read due =
+    let here : state ≡ due.state = states start v.before state due.state reached due.reached in
     let asks : call ≡ due.asked = same_asked call due.asked (call_read request) read due.read in
     let there : Answers due.state v.moment v.draw due.asked r = subst (λ (c : Asked). Answers due.state v.moment v.draw c r) asks
     (subst (λ (s : Hub). Answers s v.moment v.draw call r) here given) in
     answers due.state v.moment v.draw due.asked r a there due.answers
 
-given_answer : StateIsOne → AnswerIsOne → (start : Start) (request : Request) (v : Visit) (call : Asked) (o : Outcome) (r : Reply) (a : Answer) → start.tells ≡ true
-    → call_read request ≡ Ok call → outcome_view o ≡ answered r → IsGiven start v call o → IsDue start request v a → IsDone start v r a ⊎ IsUndone v r a
-given_answer states answers start request v call o r a tells read viewed (inl at) due =
-    let is = due_answer states answers start request v at.state call at.answer a tells at.reached at.answers read due in
+given_answer : StateIsOne → AnswerIsOne → (start : Start) (request : Request) (v : Visit) (call : Asked) (o : Outcome) (r : Reply) (a : Answer)
+    → call_read request ≡ Ok call → outcome_view o ≡ answered r → IsGiven start v call o → IsDue start request v a → IsDone v r a ⊎ IsUndone v r a
+given_answer states answers start request v call o r a read viewed (inl at) due =
+    let is = due_answer states answers start request v at.state call at.answer a at.reached at.answers read due in
     inl (record {
-      entry = at.noted ∙ ap (λ (b : Answer). with_entry start.tells (change_of b) v.before) is;
+      entry = at.noted ∙ ap (λ (b : Answer). with_entry (change_of b) v.before) is;
       reply = sym viewed ∙ (at.outcome ∙ ap (λ (b : Answer). outcome_of (length v.after) b) is);
     })
-given_answer states answers start request v call o r a tells read viewed (inr at) due =
-    let is = due_answer states answers start request v at.state call at.answer a tells at.reached at.answers read due in
+given_answer states answers start request v call o r a read viewed (inr at) due =
+    let is = due_answer states answers start request v at.state call at.answer a at.reached at.answers read due in
     inr (record {
       change = at.change;
       has = ap change_of (sym is) ∙ at.has;
@@ -140,97 +140,97 @@ given_answer states answers start request v call o r a tells read viewed (inr at
       rises = at.rises;
     })
 
-pub its_answer : StateIsOne → AnswerIsOne → (start : Start) (request : Request) (v : Visit) (r : Reply) (a : Answer) → start.tells ≡ true
-    → IsAnswered start request v r → IsDue start request v a → IsDone start v r a ⊎ IsUndone v r a
-its_answer states answers start request v r a tells h due = given_answer states answers start request v h.asked h.outcome r a tells h.read h.said h.given due
+pub its_answer : StateIsOne → AnswerIsOne → (start : Start) (request : Request) (v : Visit) (r : Reply) (a : Answer)
+    → IsAnswered start request v r → IsDue start request v a → IsDone v r a ⊎ IsUndone v r a
+its_answer states answers start request v r a h due = given_answer states answers start request v h.asked h.outcome r a h.read h.said h.given due
 
 -- what a visit whose reply wasn't said has left is no work
-pub its_loss : StateIsOne → AnswerIsOne → (start : Start) (request : Request) (v : Visit) (a : Answer) → start.tells ≡ true
-    → IsLeft start request v → IsDue start request v a → IsWithoutWork start v a
-its_loss states answers start request v a tells (inl same) due = inl same
-its_loss states answers start request v a tells (inr (r, h)) due =
-    ⊎_elim (λ done. inr (r, done)) (λ undone. inl undone.entry) (its_answer states answers start request v r a tells h due)
+pub its_loss : StateIsOne → AnswerIsOne → (start : Start) (request : Request) (v : Visit) (a : Answer)
+    → IsLeft start request v → IsDue start request v a → IsWithoutWork v a
+its_loss states answers start request v a (inl same) due = inl same
+its_loss states answers start request v a (inr (r, h)) due =
+    ⊎_elim (λ done. inr (r, done)) (λ undone. inl undone.entry) (its_answer states answers start request v r a h due)
 
 no_work : (w : owed.Work) (r : Reply) → working w ≡ answered r → ⊥
 no_work w r e = cc
 
 -- the work that a visit gave is the one that is due
-given_work : StateIsOne → AnswerIsOne → (start : Start) (request : Request) (v : Visit) (call : Asked) (o : Outcome) (work : owed.Work) (a : Answer) → start.tells ≡ true
+given_work : StateIsOne → AnswerIsOne → (start : Start) (request : Request) (v : Visit) (call : Asked) (o : Outcome) (work : owed.Work) (a : Answer)
     → call_read request ≡ Ok call → outcome_view o ≡ working work → IsGiven start v call o → IsDue start request v a
-    → (v.after ≡ with_entry start.tells (change_of a) v.before) × (working work ≡ outcome_of (length v.after) a)
-given_work states answers start request v call o work a tells read viewed (inl at) due =
-    let is = due_answer states answers start request v at.state call at.answer a tells at.reached at.answers read due in (
-      at.noted ∙ ap (λ (b : Answer). with_entry start.tells (change_of b) v.before) is,
+    → (v.after ≡ with_entry (change_of a) v.before) × (working work ≡ outcome_of (length v.after) a)
+given_work states answers start request v call o work a read viewed (inl at) due =
+    let is = due_answer states answers start request v at.state call at.answer a at.reached at.answers read due in (
+      at.noted ∙ ap (λ (b : Answer). with_entry (change_of b) v.before) is,
       sym viewed ∙ (at.outcome ∙ ap (λ (b : Answer). outcome_of (length v.after) b) is),
     )
-given_work states answers start request v call o work a tells read viewed (inr at) due =
+given_work states answers start request v call o work a read viewed (inr at) due =
     absurd (no_work work (refusal_reply (length v.after) KeeperFault) (sym viewed ∙ at.outcome))
 
-pub its_work : StateIsOne → AnswerIsOne → (start : Start) (request : Request) (v : Visit) (e : Errand) (a : Answer) → start.tells ≡ true
-    → IsSent start request v e → IsDue start request v a → IsSetOut start request v e a
-its_work states answers start request v e a tells h due =
-    let found = given_work states answers start request v h.asked h.outcome h.work a tells h.read h.gives h.given due in
+pub its_work : StateIsOne → AnswerIsOne → (start : Start) (request : Request) (v : Visit) (e : Errand) (a : Answer)
+    → IsSent start request v e → IsDue start request v a → IsSetOut request v e a
+its_work states answers start request v e a h due =
+    let found = given_work states answers start request v h.asked h.outcome h.work a h.read h.gives h.given due in
     record { asked = h.asked; read = h.read; work = h.work; entry = found.0; gives = found.1; first = h.first; errand = h.errand }
 
 -- the reply that let a call go on is that of the answer that is due
-given_leave : StateIsOne → AnswerIsOne → (start : Start) (request : Request) (v : Visit) (call : Asked) (o : Outcome) (r : Reply) (way : Way) (a : Answer) → start.tells ≡ true
+given_leave : StateIsOne → AnswerIsOne → (start : Start) (request : Request) (v : Visit) (call : Asked) (o : Outcome) (r : Reply) (way : Way) (a : Answer)
     → call_read request ≡ Ok call → outcome_view o ≡ answered r → lets call.call r ≡ Some way → IsGiven start v call o → IsDue start request v a
-    → (v.after ≡ with_entry start.tells (change_of a) v.before) × (answered r ≡ outcome_of (length v.after) a)
-given_leave states answers start request v call o r way a tells read viewed goes (inl at) due =
-    let is = due_answer states answers start request v at.state call at.answer a tells at.reached at.answers read due in (
-      at.noted ∙ ap (λ (b : Answer). with_entry start.tells (change_of b) v.before) is,
+    → (v.after ≡ with_entry (change_of a) v.before) × (answered r ≡ outcome_of (length v.after) a)
+given_leave states answers start request v call o r way a read viewed goes (inl at) due =
+    let is = due_answer states answers start request v at.state call at.answer a at.reached at.answers read due in (
+      at.noted ∙ ap (λ (b : Answer). with_entry (change_of b) v.before) is,
       sym viewed ∙ (at.outcome ∙ ap (λ (b : Answer). outcome_of (length v.after) b) is),
     )
-given_leave states answers start request v call o r way a tells read viewed goes (inr at) due =
+given_leave states answers start request v call o r way a read viewed goes (inr at) due =
     absurd (keeper_stops call.call (length v.after) r way (same_reply r (refusal_reply (length v.after) KeeperFault) (sym viewed ∙ at.outcome)) goes)
 
-pub its_leave : StateIsOne → AnswerIsOne → (start : Start) (request : Request) (v : Visit) (asking : Asking) (a : Answer) → start.tells ≡ true
-    → (h : IsLet start request v asking) → IsDue start request v a → (let_on : IsLetOn start request v asking a) × (let_on.gave ≡ h.gave)
-its_leave states answers start request v asking a tells h due =
-    let found = given_leave states answers start request v h.asked h.outcome h.gave h.way a tells h.read h.said h.goes h.given due in
+pub its_leave : StateIsOne → AnswerIsOne → (start : Start) (request : Request) (v : Visit) (asking : Asking) (a : Answer)
+    → (h : IsLet start request v asking) → IsDue start request v a → (let_on : IsLetOn request v asking a) × (let_on.gave ≡ h.gave)
+its_leave states answers start request v asking a h due =
+    let found = given_leave states answers start request v h.asked h.outcome h.gave h.way a h.read h.said h.goes h.given due in
     (record { asked = h.asked; read = h.read; entry = found.0; gave = h.gave; gives = found.1; way = h.way; goes = h.goes; asks = h.asks }, refl)
 
 -- ---- a connection without faults
 
 pub its_reply : NextIsOne → StateIsOne → AnswerIsOne → (start : Start) (x y : View) (before after : List Turn) (turn : Turn) (left : Option (List ℕ))
-    (text more rest : List ℕ) (request : Request) → start.tells ≡ true → Turns x (before ++ turn ∷ after) y → y.pass.failed ≡ x.pass.failed
+    (text more rest : List ℕ) (request : Request) → Turns x (before ++ turn ∷ after) y → y.pass.failed ≡ x.pass.failed
     → y.pass.faults < 2 ^ 64 - 1 → IsRequestText request text → TurnAt start left (text ++ more) turn rest → IsServed start request turn
-its_reply one states answers start x y before after (visited text' q v r) left text more rest request tells turns same below is at =
+its_reply one states answers start x y before after (visited text' q v r) left text more rest request turns same below is at =
     let mine : q ≡ request = its_turn one start left text more rest request (visited text' q v r) is at in (
       mine,
       λ a due. ⊎_elim (λ done. done)
           (λ undone. absurd (never_risen x y text' q v r (between x y before (visited text' q v r) after turns) same below undone.rises))
-          (its_answer states answers start request v r a tells (subst (λ (p : Request). IsAnswered start p v r) mine at.0.1) due),
+          (its_answer states answers start request v r a (subst (λ (p : Request). IsAnswered start p v r) mine at.0.1) due),
     )
-its_reply one states answers start x y before after (worked text' q v e r) left text more rest request tells turns same below is at =
+its_reply one states answers start x y before after (worked text' q v e r) left text more rest request turns same below is at =
     let mine : q ≡ request = its_turn one start left text more rest request (worked text' q v e r) is at in
     let done : IsWorked start request v e r = subst (λ (p : Request). IsWorked start p v e r) mine at.0.1 in
-    (mine, λ a due. record { set_out = its_work states answers start request v e a tells done.sent due; tale = done.tale; told = done.told; reply = done.reply })
-its_reply one states answers start x y before after (routed text' q v asking r) left text more rest request tells turns same below is at =
+    (mine, λ a due. record { set_out = its_work states answers start request v e a done.sent due; tale = done.tale; told = done.told; reply = done.reply })
+its_reply one states answers start x y before after (routed text' q v asking r) left text more rest request turns same below is at =
     let mine : q ≡ request = its_turn one start left text more rest request (routed text' q v asking r) is at in
     let done : IsRouted start request v asking r = subst (λ (p : Request). IsRouted start p v asking r) mine at.0.1 in (
       mine,
       λ a due.
-          let found = its_leave states answers start request v asking a tells done.let_by due in
+          let found = its_leave states answers start request v asking a done.let_by due in
           record { let_on = found.0; reply = subst (λ (g : Reply). IsSaidOf g asking r) (sym found.1) done.reply },
     )
-its_reply one states answers start x y before after (declined text' q e) left text more rest request tells turns same below is at =
+its_reply one states answers start x y before after (declined text' q e) left text more rest request turns same below is at =
     let mine : q ≡ request = its_turn one start left text more rest request (declined text' q e) is at in
     (mine, subst (λ (p : Request). call_read p ≡ Err e) mine at.0.1)
-its_reply one states answers start x y before after (undrawn text' q) left text more rest request tells turns same below is at =
+its_reply one states answers start x y before after (undrawn text' q) left text more rest request turns same below is at =
     its_turn one start left text more rest request (undrawn text' q) is at
-its_reply one states answers start x y before after (refused e) left text more rest request tells turns same below is at =
+its_reply one states answers start x y before after (refused e) left text more rest request turns same below is at =
     its_turn one start left text more rest request (refused e) is at
-its_reply one states answers start x y before after (unsaid text' q v) left text more rest request tells turns same below is at =
+its_reply one states answers start x y before after (unsaid text' q v) left text more rest request turns same below is at =
     let mine : q ≡ request = its_turn one start left text more rest request (unsaid text' q v) is at in
-    (mine, λ a due. its_loss states answers start request v a tells (subst (λ (p : Request). IsLeft start p v) mine at.1.left) due)
-its_reply one states answers start x y before after (unfinished text' q v e) left text more rest request tells turns same below is at =
+    (mine, λ a due. its_loss states answers start request v a (subst (λ (p : Request). IsLeft start p v) mine at.1.left) due)
+its_reply one states answers start x y before after (unfinished text' q v e) left text more rest request turns same below is at =
     let mine : q ≡ request = its_turn one start left text more rest request (unfinished text' q v e) is at in
-    (mine, λ a due. its_work states answers start request v e a tells (subst (λ (p : Request). IsSent start p v e) mine at.1) due)
-its_reply one states answers start x y before after (unrouted text' q v asking) left text more rest request tells turns same below is at =
+    (mine, λ a due. its_work states answers start request v e a (subst (λ (p : Request). IsSent start p v e) mine at.1) due)
+its_reply one states answers start x y before after (unrouted text' q v asking) left text more rest request turns same below is at =
     let mine : q ≡ request = its_turn one start left text more rest request (unrouted text' q v asking) is at in
-    (mine, λ a due. (its_leave states answers start request v asking a tells (subst (λ (p : Request). IsLet start p v asking) mine at.1) due).0)
-its_reply one states answers start x y before after wanting left text more rest request tells turns same below is at = _
+    (mine, λ a due. (its_leave states answers start request v asking a (subst (λ (p : Request). IsLet start p v asking) mine at.1) due).0)
+its_reply one states answers start x y before after wanting left text more rest request turns same below is at = _
 
 -- ---- a 503
 

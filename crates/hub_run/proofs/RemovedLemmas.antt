@@ -1,8 +1,7 @@
 -- A call that brings a removed token is turned away.
-use Rattle.std.proofs.Common.{◌≡◌, ◌⊎◌, inl, inr, ⊎_elim, ◌≤◌, ℕ, Bool, true, false, List, [], ◌∷◌, ◌++◌, length, map, All, Option, Some, None, Result, Ok, Err, refl, sym, ap, ◌∙◌, subst, arith}
+use Rattle.std.proofs.Common.{◌≡◌, ◌⊎◌, inl, inr, ⊎_elim, ◌≤◌, ℕ, Bool, true, false, List, [], ◌∷◌, ◌++◌, length, All, Option, Some, None, Result, Ok, Err, refl, sym, ap, ◌∙◌, subst, arith}
 use Rattle.std.specs.List.{AllByRecursion}
 use Rattle.std.proofs.lemmas.Bool.{ltb-false}
-use Rattle.std.proofs.lemmas.List.{length-map}
 use Rattle.std.proofs.lemmas.List.Elements.{recursion_from_All, All-from_recursion}
 use mathlib.Core.List.{IsPrefix}
 use Rattle.desk.proofs.Prefixes.{prefix_trans, prefix_shorter}
@@ -14,7 +13,7 @@ use Rattle.hub_core.specs.Answer.{is_past, named}
 use Rattle.hub_core.specs.History.{Answers, change_of, state_after}
 use Rattle.hub_core.specs.Needs.{needs_token}
 use Rattle.hub_core.specs.Removed.{PutsNoToken, IsRemoved, IsTokenRefused}
-use Rattle.hub_core.specs.Visits.{Entry, Reached, with_entry}
+use Rattle.hub_core.specs.Visits.{Reached, with_entry}
 use Rattle.hub_core.specs.declared.start.Start.{Start}
 use Rattle.hub_core.proofs.Removals.{refused_unkept, stays_removed}
 use Rattle.hub_machine.specs.Answers.{outcome_view}
@@ -54,15 +53,7 @@ no_way asked n call r way (inr e) goes = none_way way (sym (ap (lets call.call) 
 none_some : (c : Change) → None ≡ Some c → ⊥
 none_some c e = cc
 
--- ---- entries that are told
-
-told_prefix : (xs ys : List Change) → IsPrefix (map Some xs) (map Some ys) → IsPrefix xs ys
-told_prefix [] ys p = (ys, refl)
-told_prefix (x ∷ xs) [] p = absurd (cc (p.1))
-told_prefix (x ∷ xs) (y ∷ ys) p =
-    let heads : x ≡ y = cc (p.1) in
-    let rest = told_prefix xs ys (p.0, cc (p.1)) in
-    (rest.0, cc (heads, rest.1))
+-- ---- entries
 
 behind : (gone : List Change) (xs ys : List Change) → IsPrefix (gone ++ xs) (gone ++ ys) → IsPrefix xs ys
 behind [] xs ys p = p
@@ -90,41 +81,34 @@ module _ (start : Start) (text : List ℕ) (gone later : List Change) (removed :
       subst (λ (k : List Change). token_of_hash (state_after start.machine k).tables (hash_text text) ≡ None) begins.1
       (stays_removed start.machine text gone rest (record { removed = removed.removed; never_again = front (λ (c : Change). All (PutsNoToken (hash_text text)) (rows_of c)) rest later front_of removed.never_again }))
 
-  module _ (x : View) (v : Visit) (asked : Asked) (tells : start.tells ≡ true) (begins : IsPrefix x.pass.seen v.before) (knows : Knows x asked gone)
-      (within : IsPrefix v.before (map Some (gone ++ later))) (token : asked.token ≡ Some text) (needed : needs_token asked.call ≡ true) where
-    in_all : (h : List Change) → v.before ≡ map Some h → IsPrefix h (gone ++ later)
-    in_all h is = told_prefix h (gone ++ later) (subst (λ (es : List Entry). IsPrefix es (map Some (gone ++ later))) is within)
-
+  module _ (x : View) (v : Visit) (asked : Asked) (begins : IsPrefix x.pass.seen v.before) (knows : Knows x asked gone)
+      (within : IsPrefix v.before (gone ++ later)) (token : asked.token ≡ Some text) (needed : needs_token asked.call ≡ true) where
     -- they are found, unless the call names more than there is
-    found_by : Knows x asked gone → (h : List Change) → v.before ≡ map Some h → (n : ℕ) → n ≡ length v.before → is_past n asked.seen ≡ false → IsPrefix gone h
-    found_by (inl seen) h is n long past =
-        told_prefix gone h (subst (λ (es : List Entry). IsPrefix (map Some gone) es) is (prefix_trans (map Some gone) x.pass.seen v.before seen begins))
-    found_by (inr reached) h is n long past =
-        prefix_shorter gone h (gone ++ later) (later, refl) (in_all h is)
-        (let below = not_past n asked.seen past in let same : n ≡ length h = long ∙ ap length is ∙ length-map h Some in omega (arith, reached, below, same))
+    found_by : Knows x asked gone → (n : ℕ) → n ≡ length v.before → is_past n asked.seen ≡ false → IsPrefix gone v.before
+    found_by (inl seen) n long past = prefix_trans gone x.pass.seen v.before seen begins
+    found_by (inr reached) n long past =
+        prefix_shorter gone v.before (gone ++ later) (later, refl) within (let below = not_past n asked.seen past in omega (arith, reached, below, long))
 
     refused_at : (state : Hub) (a : Answer) → Reached start v.before state → Answers state v.moment v.draw asked a → IsTokenRefused state asked a
     refused_at state a reached answers =
-        let told = reached.told tells in
         refused_unkept state v.moment v.draw asked a text answers token needed (λ past.
-        ap (λ (s : Hub). token_of_hash s.tables (hash_text text)) told.2.state
-        ∙ unkept told.0 (found_by knows told.0 told.1 state.length reached.length past) (in_all told.0 told.1))
+        ap (λ (s : Hub). token_of_hash s.tables (hash_text text)) reached.state ∙ unkept v.before (found_by knows state.length reached.length past) within)
 
     -- ---- what it gives
 
     abbrev TurnedAway : Outcome → Type 0
     TurnedAway o = (v.after ≡ v.before) × (r : Reply) × (outcome_view o ≡ answered r) × IsTokenRefusal asked (length v.after) r
 
-    answered_so : (o : Outcome) (state : Hub) (a : Answer) → state.length ≡ length v.before → v.after ≡ with_entry start.tells (change_of a) v.before
+    answered_so : (o : Outcome) (state : Hub) (a : Answer) → state.length ≡ length v.before → v.after ≡ with_entry (change_of a) v.before
         → outcome_view o ≡ outcome_of (length v.after) a → IsTokenRefused state asked a → TurnedAway o
     answered_so o state a long noted is (inl e) = (
-      noted ∙ ap (λ (b : Answer). with_entry start.tells (change_of b) v.before) e,
+      noted ∙ ap (λ (b : Answer). with_entry (change_of b) v.before) e,
       refusal_reply (length v.after) NoValidToken,
       is ∙ ap (outcome_of (length v.after)) e,
       inl refl,
     )
     answered_so o state a long noted is (inr e) =
-        let same : v.after ≡ v.before = noted ∙ ap (λ (b : Answer). with_entry start.tells (change_of b) v.before) e in (
+        let same : v.after ≡ v.before = noted ∙ ap (λ (b : Answer). with_entry (change_of b) v.before) e in (
           same,
           refusal_reply (length v.after) (SeenPast (named asked.seen) state.length),
           is ∙ ap (outcome_of (length v.after)) e,
@@ -151,32 +135,32 @@ module _ (start : Start) (text : List ℕ) (gone later : List Change) (removed :
 -- ---- the turns
 
 module _ (one : NextIsOne) (start : Start) (x y : View) (left : Option (List ℕ)) (bytes more rest : List ℕ) (request : Request) (asked : Asked) (text : List ℕ) (gone later : List Change)
-    (tells : start.tells ≡ true) (is : IsRequestText request bytes) (read : call_read request ≡ Ok asked) (token : asked.token ≡ Some text) (needed : needs_token asked.call ≡ true)
+    (is : IsRequestText request bytes) (read : call_read request ≡ Ok asked) (token : asked.token ≡ Some text) (needed : needs_token asked.call ≡ true)
     (removed : IsRemoved start.machine text gone later) (knows : Knows x asked gone) where
   -- the call of the turn's request
   its_call : (q : Request) (call : Asked) → q ≡ request → call_read q ≡ Ok call → call ≡ asked
   its_call q call mine found = same_asked call asked (call_read request) (ap call_read (sym mine) ∙ found) read
 
-  sent_away : (q : Request) (v : Visit) (e : Errand) → q ≡ request → IsSent start q v e → IsPrefix x.pass.seen v.before → IsPrefix v.before (map Some (gone ++ later)) → ⊥
+  sent_away : (q : Request) (v : Visit) (e : Errand) → q ≡ request → IsSent start q v e → IsPrefix x.pass.seen v.before → IsPrefix v.before (gone ++ later) → ⊥
   sent_away q v e mine sent begins within =
-      no_errand start text gone later removed x v asked tells begins knows within token needed sent.outcome sent.work sent.gives
-      (given start text gone later removed x v asked tells begins knows within token needed sent.outcome
+      no_errand start text gone later removed x v asked begins knows within token needed sent.outcome sent.work sent.gives
+      (given start text gone later removed x v asked begins knows within token needed sent.outcome
       (subst (λ (c : Asked). IsGiven start v c sent.outcome) (its_call q sent.asked mine sent.read) sent.given))
 
-  let_away : (q : Request) (v : Visit) (a : Asking) → q ≡ request → IsLet start q v a → IsPrefix x.pass.seen v.before → IsPrefix v.before (map Some (gone ++ later)) → ⊥
+  let_away : (q : Request) (v : Visit) (a : Asking) → q ≡ request → IsLet start q v a → IsPrefix x.pass.seen v.before → IsPrefix v.before (gone ++ later) → ⊥
   let_away q v a mine h begins within =
-      no_leave start text gone later removed x v asked tells begins knows within token needed h.outcome h.gave h.asked h.way h.said h.goes
-      (given start text gone later removed x v asked tells begins knows within token needed h.outcome
+      no_leave start text gone later removed x v asked begins knows within token needed h.outcome h.gave h.asked h.way h.said h.goes
+      (given start text gone later removed x v asked begins knows within token needed h.outcome
       (subst (λ (c : Asked). IsGiven start v c h.outcome) (its_call q h.asked mine h.read) h.given))
 
-  reply_away : (q : Request) (v : Visit) (r : Reply) → q ≡ request → IsAnswered start q v r → IsPrefix x.pass.seen v.before → IsPrefix v.before (map Some (gone ++ later))
+  reply_away : (q : Request) (v : Visit) (r : Reply) → q ≡ request → IsAnswered start q v r → IsPrefix x.pass.seen v.before → IsPrefix v.before (gone ++ later)
       → (v.after ≡ v.before) × IsTokenRefusal asked (length v.after) r
   reply_away q v r mine h begins within =
-      told_reply start text gone later removed x v asked tells begins knows within token needed h.outcome r h.said
-      (given start text gone later removed x v asked tells begins knows within token needed h.outcome
+      told_reply start text gone later removed x v asked begins knows within token needed h.outcome r h.said
+      (given start text gone later removed x v asked begins knows within token needed h.outcome
       (subst (λ (c : Asked). IsGiven start v c h.outcome) (its_call q h.asked mine h.read) h.given))
 
-  left_so : (q : Request) (v : Visit) → q ≡ request → IsLeft start q v → IsPrefix x.pass.seen v.before → IsPrefix v.before (map Some (gone ++ later)) → v.after ≡ v.before
+  left_so : (q : Request) (v : Visit) → q ≡ request → IsLeft start q v → IsPrefix x.pass.seen v.before → IsPrefix v.before (gone ++ later) → v.after ≡ v.before
   left_so q v mine (inl same) begins within = same
   left_so q v mine (inr (r, h)) begins within = (reply_away q v r mine h begins within).0
 

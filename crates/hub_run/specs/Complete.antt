@@ -41,8 +41,8 @@ pub record IsDue (start : Start) (request : Request) (v : Visit) (a : Answer) : 
   pub answers : Answers state v.moment v.draw asked a
 
 -- the reply is that of the answer, whose change, if it has one, is the entry of the visit
-pub record IsDone (start : Start) (v : Visit) (r : Reply) (a : Answer) : Type 0 where
-  pub entry : v.after ≡ with_entry start.tells (change_of a) v.before
+pub record IsDone (v : Visit) (r : Reply) (a : Answer) : Type 0 where
+  pub entry : v.after ≡ with_entry (change_of a) v.before
   pub reply : answered r ≡ outcome_of (length v.after) a
 
 -- the reply is 503 `keeper`: the answer has a change, which the keeper refused, and its count of faults rose
@@ -54,27 +54,27 @@ pub record IsUndone (v : Visit) (r : Reply) (a : Answer) : Type 0 where
   pub rises : Rises v.faults v.faults_after
 
 -- the answer is a work, which the errand is by the path of its call's server; its change is the entry of the visit
-pub record IsSetOut (start : Start) (request : Request) (v : Visit) (e : Errand) (a : Answer) : Type 0 where
+pub record IsSetOut (request : Request) (v : Visit) (e : Errand) (a : Answer) : Type 0 where
   pub asked : Asked
   pub read : call_read request ≡ Ok asked
   pub work : owed.Work
-  pub entry : v.after ≡ with_entry start.tells (change_of a) v.before
+  pub entry : v.after ≡ with_entry (change_of a) v.before
   pub gives : working work ≡ outcome_of (length v.after) a
   pub first : e.owed ≡ work.todo
   pub errand : e.work ≡ errand_of (path_for asked.call) work
 
 -- and the reply is that of what is told of the chain
-pub record IsWorkDone (start : Start) (request : Request) (v : Visit) (e : Errand) (r : Reply) (a : Answer) : Type 0 where
-  pub set_out : IsSetOut start request v e a
+pub record IsWorkDone (request : Request) (v : Visit) (e : Errand) (r : Reply) (a : Answer) : Type 0 where
+  pub set_out : IsSetOut request v e a
   pub tale : Tale
   pub told : e.tale ≡ Some tale
   pub reply : tale_reply e.owed tale ≡ Some r
 
 -- the answer's reply lets the call ask the route link, which was asked so; its change, if it has one, is the entry of the visit
-pub record IsLetOn (start : Start) (request : Request) (v : Visit) (asking : Asking) (a : Answer) : Type 0 where
+pub record IsLetOn (request : Request) (v : Visit) (asking : Asking) (a : Answer) : Type 0 where
   pub asked : Asked
   pub read : call_read request ≡ Ok asked
-  pub entry : v.after ≡ with_entry start.tells (change_of a) v.before
+  pub entry : v.after ≡ with_entry (change_of a) v.before
   pub gave : Reply
   pub gives : answered gave ≡ outcome_of (length v.after) a
   pub way : Way
@@ -82,26 +82,26 @@ pub record IsLetOn (start : Start) (request : Request) (v : Visit) (asking : Ask
   pub asks : IsAskingOf way asking
 
 -- and the reply is that of what came
-pub record IsRouteDone (start : Start) (request : Request) (v : Visit) (asking : Asking) (r : Reply) (a : Answer) : Type 0 where
-  pub let_on : IsLetOn start request v asking a
+pub record IsRouteDone (request : Request) (v : Visit) (asking : Asking) (r : Reply) (a : Answer) : Type 0 where
+  pub let_on : IsLetOn request v asking a
   pub reply : IsSaidOf let_on.gave asking r
 
 -- the visit changed nothing, or the answer has a reply, with nothing to be done for it, and its change, if it has one, is the entry of the visit
-abbrev pub IsWithoutWork : Start → Visit → Answer → Type 0
-IsWithoutWork start v a = (v.after ≡ v.before) ⊎ ((r : Reply) × IsDone start v r a)
+abbrev pub IsWithoutWork : Visit → Answer → Type 0
+IsWithoutWork v a = (v.after ≡ v.before) ⊎ ((r : Reply) × IsDone v r a)
 
 -- the turn gives the request the reply of the definition's answer, or of the chain that this answer owes, or of what the route link told where
 -- this answer lets it be asked, the refusal of a request that asks no call, a 503 where no draw came, or a 507
 abbrev pub IsServed : Start → Request → Turn → Type 0
-IsServed start request (visited text q v r) = (q ≡ request) × ((a : Answer) → IsDue start request v a → IsDone start v r a)
-IsServed start request (worked text q v e r) = (q ≡ request) × ((a : Answer) → IsDue start request v a → IsWorkDone start request v e r a)
-IsServed start request (routed text q v asking r) = (q ≡ request) × ((a : Answer) → IsDue start request v a → IsRouteDone start request v asking r a)
+IsServed start request (visited text q v r) = (q ≡ request) × ((a : Answer) → IsDue start request v a → IsDone v r a)
+IsServed start request (worked text q v e r) = (q ≡ request) × ((a : Answer) → IsDue start request v a → IsWorkDone request v e r a)
+IsServed start request (routed text q v asking r) = (q ≡ request) × ((a : Answer) → IsDue start request v a → IsRouteDone request v asking r a)
 IsServed start request (declined text q e) = (q ≡ request) × (call_read request ≡ Err e)
 IsServed start request (undrawn text q) = q ≡ request
 IsServed start request (refused e) = ⊥
-IsServed start request (unsaid text q v) = (q ≡ request) × ((a : Answer) → IsDue start request v a → IsWithoutWork start v a)
-IsServed start request (unfinished text q v e) = (q ≡ request) × ((a : Answer) → IsDue start request v a → IsSetOut start request v e a)
-IsServed start request (unrouted text q v asking) = (q ≡ request) × ((a : Answer) → IsDue start request v a → IsLetOn start request v asking a)
+IsServed start request (unsaid text q v) = (q ≡ request) × ((a : Answer) → IsDue start request v a → IsWithoutWork v a)
+IsServed start request (unfinished text q v e) = (q ≡ request) × ((a : Answer) → IsDue start request v a → IsSetOut request v e a)
+IsServed start request (unrouted text q v asking) = (q ≡ request) × ((a : Answer) → IsDue start request v a → IsLetOn request v asking a)
 IsServed start request wanting = Unit {0}
 
 -- ---- what a 503 tells

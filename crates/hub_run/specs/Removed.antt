@@ -1,5 +1,5 @@
 -- What a call gets that brings a token which was removed.
-use Rattle.std.specs.Prelude.{◌≡◌, ◌⊎◌, ◌≤◌, ℕ, List, length, map, Some}
+use Rattle.std.specs.Prelude.{◌≡◌, ◌⊎◌, ◌≤◌, ℕ, List, length}
 use mathlib.Core.List.{IsPrefix}
 use Rattle.hub_core.specs.Answer.{named}
 use Rattle.hub_machine.specs.Replies.{Reply, refusal_reply}
@@ -10,16 +10,16 @@ use Rattle.hub_run.specs.Turns.{Turn, View, visited, worked, declined, undrawn, 
 
 -- the pass has seen these entries, or the call names a revision at which they stand
 abbrev pub Knows : View → Asked → List Change → Type 0
-Knows x asked gone = IsPrefix (map Some gone) x.pass.seen ⊎ (length gone ≤ named asked.seen)
+Knows x asked gone = IsPrefix gone x.pass.seen ⊎ (length gone ≤ named asked.seen)
 
 -- what the visit of the turn finds, where it has one, is the first of these entries, or all
 abbrev pub StandsIn : List Change → Turn → Type 0
-StandsIn h (visited text q v r) = IsPrefix v.before (map Some h)
-StandsIn h (worked text q v e r) = IsPrefix v.before (map Some h)
-StandsIn h (unsaid text q v) = IsPrefix v.before (map Some h)
-StandsIn h (unfinished text q v e) = IsPrefix v.before (map Some h)
-StandsIn h (routed text q v a r) = IsPrefix v.before (map Some h)
-StandsIn h (unrouted text q v a) = IsPrefix v.before (map Some h)
+StandsIn h (visited text q v r) = IsPrefix v.before h
+StandsIn h (worked text q v e r) = IsPrefix v.before h
+StandsIn h (unsaid text q v) = IsPrefix v.before h
+StandsIn h (unfinished text q v e) = IsPrefix v.before h
+StandsIn h (routed text q v a r) = IsPrefix v.before h
+StandsIn h (unrouted text q v a) = IsPrefix v.before h
 StandsIn h turn = Unit {0}
 
 -- 403 `no valid token`, or 412

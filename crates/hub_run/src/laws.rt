@@ -27,28 +27,27 @@ pub fn a_request_gets_its_turn()
     next_request_is_one()
 }
 
-/// Over a history that is told, a visited request has the reply of the one answer that the definition gives to its call in the
-/// state, at the moment and with the draw of the visit, with the answer's change as the visit's entry; or 503 `keeper` with no entry,
-/// only where the answer has a change and the keeper's count of faults rose in that visit. Where that answer owes work, it is what
-/// was done; and where it lets the call ask the route link, that was asked. Where there was no memory for the reply, or for the visit, the
-/// visit changed nothing, or that answer owes no work.
+/// A visited request has the reply of the one answer that the definition gives to its call in the state, at the moment and with the draw of
+/// the visit, with the answer's change as the visit's entry; or 503 `keeper` with no entry, only where the answer has a change and the
+/// keeper's count of faults rose in that visit. Where that answer owes work, it is what was done; and where it lets the call ask the route
+/// link, that was asked. Where there was no memory for the reply, or for the visit, the visit changed nothing, or that answer owes no work.
 pub fn a_visited_request_gets_its_answer()
-    ensures answered { (start : Start) (request : Request) (v : Visit) (r : Reply) (a : Answer) → start.tells ≡ true
-        → IsAnswered start request v r → IsDue start request v a → IsDone start v r a ⊎ IsUndone v r a }
-    ensures sent { (start : Start) (request : Request) (v : Visit) (e : Errand) (a : Answer) → start.tells ≡ true
-        → IsSent start request v e → IsDue start request v a → IsSetOut start request v e a }
-    ensures let_on { (start : Start) (request : Request) (v : Visit) (asking : Asking) (a : Answer) → start.tells ≡ true
-        → IsLet start request v asking → IsDue start request v a → IsLetOn start request v asking a }
-    ensures unsaid { (start : Start) (request : Request) (v : Visit) (a : Answer) → start.tells ≡ true
-        → IsUnsaid start request v → IsDue start request v a → IsWithoutWork start v a }
+    ensures answered { (start : Start) (request : Request) (v : Visit) (r : Reply) (a : Answer)
+        → IsAnswered start request v r → IsDue start request v a → IsDone v r a ⊎ IsUndone v r a }
+    ensures sent { (start : Start) (request : Request) (v : Visit) (e : Errand) (a : Answer)
+        → IsSent start request v e → IsDue start request v a → IsSetOut request v e a }
+    ensures let_on { (start : Start) (request : Request) (v : Visit) (asking : Asking) (a : Answer)
+        → IsLet start request v asking → IsDue start request v a → IsLetOn request v asking a }
+    ensures unsaid { (start : Start) (request : Request) (v : Visit) (a : Answer)
+        → IsUnsaid start request v → IsDue start request v a → IsWithoutWork v a }
 {}
 
-/// On a connection in which no visit was counted among those that met a failing keeper, over a history that is told, the turn of each
-/// request gives it the reply of the definition's answer, whatever its call, or of the chain that this answer owes, or the refusal of a
-/// request that asks no call, or a 503 where no draw came, or a 507.
+/// On a connection in which no visit was counted among those that met a failing keeper, the turn of each request gives it the reply of the
+/// definition's answer, whatever its call, or of the chain that this answer owes, or the refusal of a request that asks no call, or a 503
+/// where no draw came, or a 507.
 pub fn a_request_without_faults_is_served()
     ensures { (start : Start) (x y : View) (before after : List Turn) (turn : Turn) (left : Option (List ℕ)) (text more rest : List ℕ) (request : Request)
-        → start.tells ≡ true → Turns x (before ++ turn ∷ after) y → y.pass.failed ≡ x.pass.failed → y.pass.faults < 2 ^ 64 - 1
+        → Turns x (before ++ turn ∷ after) y → y.pass.failed ≡ x.pass.failed → y.pass.faults < 2 ^ 64 - 1
         → IsRequestText request text → TurnAt start left (text ++ more) turn rest → IsServed start request turn }
 {
     next_request_is_one()
@@ -85,10 +84,10 @@ pub fn a_connection_gains_what_its_turns_gain()
 
 /// Revocation. A token was removed by an entry that the pass has seen, or that stands before the revision that the request names, and no
 /// later entry up to the visit put its hash again: then a call that needs a token and brings this text gets from its visit 403 `no valid
-/// token`, 412 or 507, and has no entry. A history that is told is taken for granted.
+/// token`, 412 or 507, and has no entry.
 pub fn a_removed_token_is_turned_away()
     ensures { (start : Start) (x y : View) (left : Option (List ℕ)) (bytes more rest : List ℕ) (request : Request) (asked : Asked) (text : List ℕ)
-        (gone later : List Change) → start.tells ≡ true → IsRequestText request bytes → call_read request ≡ Ok asked → asked.token ≡ Some text
+        (gone later : List Change) → IsRequestText request bytes → call_read request ≡ Ok asked → asked.token ≡ Some text
         → needs_token asked.call ≡ true → IsRemoved start.machine text gone later → Knows x asked gone
         → (turn : Turn) → TurnAt start left (bytes ++ more) turn rest → Moves x turn y → StandsIn (gone ++ later) turn → IsTurnedAway asked turn }
 {

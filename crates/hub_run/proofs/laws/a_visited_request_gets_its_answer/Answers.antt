@@ -10,7 +10,7 @@ pub returns-clause-sent : goal.returns-clause-sent
 returns-clause-sent c = its_work one_state one_answer
 
 pub returns-clause-let_on : goal.returns-clause-let_on
-returns-clause-let_on c = λ start request v asking a tells h due. (its_leave one_state one_answer start request v asking a tells h due).0
+returns-clause-let_on c = λ start request v asking a h due. (its_leave one_state one_answer start request v asking a h due).0
 
 pub returns-clause-unsaid : goal.returns-clause-unsaid
-returns-clause-unsaid c = λ start request v a tells h due. its_loss one_state one_answer start request v a tells h.left due
+returns-clause-unsaid c = λ start request v a h due. its_loss one_state one_answer start request v a h.left due
