@@ -1,9 +1,8 @@
 -- The book of a session: over which store it is opened, with which names, and why it isn't.
-use Rattle.std.specs.Prelude.{◌≡◌, ◌⊎◌, ℕ, ◌≤◌, IsTrue, true, List, [], Option, Some, None, is_some, ⊤}
+use Rattle.std.specs.Prelude.{◌≡◌, ◌⊎◌, ℕ, ◌≤◌, IsTrue, true, List, [], Option, Some, None, ⊤}
 use Rattle.hub_devices.specs.Faults.{Rises}
 use Rattle.keeper.specs.Rows.{Rows, AreSame, Lists}
 use Rattle.keeper.specs.declared.keeper.Row.{Row}
-use Rattle.hub_machine.specs.declared.change.Change.{Change}
 use Rattle.hub_opening.specs.Kept.{IsRefusedRow}
 use Rattle.hub_opening.specs.Opening.{IsSetUp, IsLost, IsFull}
 use Rattle.hub_opening.specs.declared.config.HubConfig.{HubConfig}
@@ -78,18 +77,15 @@ module _ {K : Type 0} (Tells : K → Type 0) (rows : K → Rows) (faults : K →
 
 -- ---- the book
 
--- The book began, with no fewer faults than the store had, with the state that the configuration makes of these rows, if they are told; and its
--- history is told from there on, entry by entry, also where the configuration has no trail
+-- the book began, with no fewer faults than the store had, with the state that the configuration makes of these rows, if they are told
 pub record IsOpened (config : HubConfig) (now : ℕ) (Tells : Type 0) (has : Rows) (faults : ℕ) (start : Start) (counted : ℕ) : Type 0 where
   pub names : AreNames config Tells has
   pub set_up : IsSetUp config now Tells has start.machine
-  pub tells : start.tells ≡ true
   pub counts : faults ≤ counted
 
 -- what is known of the book that is opened over a store with these rows and faults
-pub record Opens (config : HubConfig) (now : ℕ) (history : Option (List Change)) (has : Rows) (faults : ℕ) (b : Standing) : Type 0 where
+pub record Opens (config : HubConfig) (now : ℕ) (has : Rows) (faults : ℕ) (b : Standing) : Type 0 where
   pub names : AreNames config (IsTrue b.start.has_rows) has
   pub set_up : IsSetUp config now (IsTrue b.start.has_rows) has b.start.machine
-  pub tells : b.start.tells ≡ is_some history
   pub entries : entries_of b ≡ []
   pub counts : faults ≤ b.faults

@@ -98,10 +98,10 @@ pub fn open_book<K: Keeper, T: Trail<Entry = Change>>(
     config: &HubConfig,
     now: Moment,
 ) -> Result<Book<K, T>, (K, Cause)>
-    requires empty { T.long trail ≡ 0 }
+    requires empty { T.told trail ≡ [] }
     requires limits { config.now.limits.trail_bytes ≤ 2 ^ 62 }
     requires scopes { MakeTable config.now.custom_scopes }
-    ensures ok { IfOk result (spec.Opens config.now now (T.told trail) (K.rows store) (K.faults store)) }
+    ensures ok { IfOk result (spec.Opens config.now now (K.rows store) (K.faults store)) }
     ensures err { IfErr result (λ e. spec.IsUnopened K.Tells K.rows K.faults config.now now store e.0 e.1) }
     ensures stays { IfErr result (λ e. spec.Stays K.Tells K.rows store e.0) }
     ensures counted { IfErr result (λ e. K.faults store ≤ K.faults e.0) }

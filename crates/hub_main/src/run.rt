@@ -31,7 +31,7 @@ fn run_over<W: World, T: Trail<Entry = Change>, R: Wait>(
     store: W::Store,
     outside: &mut Outside<W>,
 ) -> (End, W::Store)
-    requires empty { T.told trail ≡ Some [] }
+    requires empty { T.told trail ≡ [] }
     requires limits { config.now.limits.trail_bytes ≤ 2 ^ 62 }
     requires scopes { MakeTable config.now.custom_scopes }
     ensures ends { spec.EndsChosen W.Store.Tells W.Store.rows W.Store.faults config.now now

@@ -1,4 +1,3 @@
-use Rattle.std.proofs.Common.{◌∙◌}
 use Rattle.hub_main.proofs.Books.{opens}
 use Rattle.hub_main.proofs.Moved.{not_opened}
 use Rattle.hub_main.proofs.opening.open_book.Goals as goal
@@ -8,9 +7,9 @@ returns-in-Err-clause-err g c = c.in-Err.ensures.err c.args.now
 
 pub returns-in-Ok-clause-ok : goal.returns-in-Ok-clause-ok
 returns-in-Ok-clause-ok g c =
-    opens g.K.Keeper.Tells g.K.Keeper.rows g.K.Keeper.faults c.args.config.now c.args.now (g.T.Trail.told c.args.trail) c.args.store _ c.in-Ok.book
+    opens g.K.Keeper.Tells g.K.Keeper.rows g.K.Keeper.faults c.args.config.now c.args.now c.args.store _ c.in-Ok.book
     c.refuse_unknown.ensures.stays c.refuse_unknown.ensures.counted c.in_default.ensures.ok
-    (λ h is. g.met.T.Trail.counted c.args.trail h is ∙ c.requires.empty) c.in-Ok.ensures.ok
+    c.in-Ok.ensures.ok
 
 pub returns-in-Err-open-clause-err : goal.returns-in-Err-open-clause-err
 returns-in-Err-open-clause-err g c =
