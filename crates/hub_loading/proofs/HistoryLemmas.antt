@@ -1,6 +1,5 @@
 -- The history of a job: its posts, and nothing else.
 use Rattle.std.proofs.Common.{◌≡◌, ◌<◌, ◌≤◌, ◌+◌, ◌*◌, arith, ℕ, zero, suc, true, List, [], ◌∷◌, ◌++◌, length, map, All, Some, Result, Ok, Err, append_assoc, append-nil, length-append, refl, sym, ap, ◌∙◌, subst}
-use Rattle.std.proofs.lemmas.List.{length-map}
 use Rattle.std.proofs.lemmas.List.Elements.{All-cons, All-nil, All-head, All-tail}
 use Rattle.hub_core.specs.History.{state_after}
 use Rattle.hub_core.specs.Visits.{Entry}
@@ -110,33 +109,33 @@ pub record Left (start : Start) (k : ℕ) (ds : List (List ℕ)) (y : View) : Ty
   pub stands : Stands start (history_of start.machine k) y
   pub drawn : y.draws ≡ Some ds
 
-two_left : (start : Start) (k : ℕ) (ds : List (List ℕ)) (x z y : View) → start.tells ≡ true → k < 1000000 → Left start k (draw (suc k) ∷ ds) x
+two_left : (start : Start) (k : ℕ) (ds : List (List ℕ)) (x z y : View) → k < 1000000 → Left start k (draw (suc k) ∷ ds) x
     → Post (user_request k) x z → Post (token_request k) z y → Left start (suc k) ds y
-two_left start k ds x z y tells few left (b, text, one, user) (c, body, two, own) =
+two_left start k ds x z y few left (b, text, one, user) (c, body, two, own) =
     let h : List Change = history_of start.machine k in
-    let put = user_posted start tells h k few x z b text left.stands user one in
+    let put = user_posted start h k few x z b text left.stands user one in
     let has : z.draws ≡ Some (draw (k + 1) ∷ ds) = put.1 ∙ (left.drawn ∙ ap (λ (n : ℕ). Some (draw n ∷ ds)) (next_of k)) in
-    let made = token_posted start tells (h ++ user_change k ∷ []) k few z y c body put.0 own ds has two in
+    let made = token_posted start (h ++ user_change k ∷ []) k few z y c body put.0 own ds has two in
     record { stands = made.0; drawn = made.1 }
 
-posts_left : (start : Start) (k : ℕ) (ds : List (List ℕ)) (asks : List Exchange) (x y : View) → start.tells ≡ true → k ≤ 1000000 → Stands start [] x
+posts_left : (start : Start) (k : ℕ) (ds : List (List ℕ)) (asks : List Exchange) (x y : View) → k ≤ 1000000 → Stands start [] x
     → x.draws ≡ Some (draws k ++ ds) → map request_of asks ≡ posts k → All IsAccepted asks → Chain Direct x asks y → Left start k ds y
-posts_left start zero ds asks x y tells few stands has are all chain =
+posts_left start zero ds asks x y few stands has are all chain =
     let none : asks ≡ [] = no_asks asks are in
     let same : y ≡ x = subst (λ (es : List Exchange). Chain Direct x es y) none chain in
     subst (λ (v : View). Left start zero ds v) (sym same) (record { stands = stands; drawn = has })
-posts_left start (suc k) ds asks x y tells few stands has are all chain =
+posts_left start (suc k) ds asks x y few stands has are all chain =
     let apart : Parted (posts k) (user_request k) (token_request k) x y = parted (posts k) (user_request k) (token_request k) asks x y are all chain in
     let own : x.draws ≡ Some (draws k ++ (draw (suc k) ∷ ds)) = has ∙ ap (λ (t : List (List ℕ)). Some t) (append_assoc (draws k) (draw (suc k) ∷ []) ds) in
     let before : Left start k (draw (suc k) ∷ ds) apart.between =
-    posts_left start k (draw (suc k) ∷ ds) apart.before x apart.between tells (omega (arith, few)) stands own apart.are apart.accepted apart.chain in
-    two_left start k ds apart.between apart.middle y tells (omega (arith, few)) before apart.first apart.second
+    posts_left start k (draw (suc k) ∷ ds) apart.before x apart.between (omega (arith, few)) stands own apart.are apart.accepted apart.chain in
+    two_left start k ds apart.between apart.middle y (omega (arith, few)) before apart.first apart.second
 
-pub all_posted : (start : Start) (users : ℕ) (x y : View) → start.tells ≡ true → users ≤ 1000000 → Begins start users x → PostsAll users x y
+pub all_posted : (start : Start) (users : ℕ) (x y : View) → users ≤ 1000000 → Begins start users x → PostsAll users x y
     → Stands start (history_of start.machine users) y
-all_posted start users x y tells few begins posted =
+all_posted start users x y few begins posted =
     let stands : Stands start [] x = record { base = begins.base; alone = begins.alone; seen = begins.seen; clock = begins.clock } in
-    (posts_left start users [] posted.asks x y tells few stands
+    (posts_left start users [] posted.asks x y few stands
     (begins.draws ∙ ap (λ (t : List (List ℕ)). Some t) (sym (append-nil (draws users)))) posted.are posted.accepted posted.chain).stands
 
 -- ---- two entries for each
@@ -148,17 +147,17 @@ twice_long s (suc n) =
     length-append users (token_change n (state_after s users) ∷ [])
     ∙ (ap (λ (m : ℕ). m + 1) (length-append (history_of s n) (user_change n ∷ [])) ∙ omega (arith, twice_long s n))
 
-pub long_as : (h : List Change) (entries : List Entry) (n : ℕ) → entries ≡ map Some h → length h ≡ n → length entries ≡ n
-long_as h entries n is long = ap length is ∙ (length-map h Some ∙ long)
+pub long_as : (h : List Change) (entries : List Entry) (n : ℕ) → entries ≡ h → length h ≡ n → length entries ≡ n
+long_as h entries n is long = ap length is ∙ long
 
 -- ---- the rounds
 
 -- what holds where nobody else is holds in the state that the history left, at the moment of the clock
-pub holds_here : (start : Start) (h : List Change) (x y : View) (P : Hub → ℕ → Type 0) → start.tells ≡ true → Stands start h x → HoldsAt start x y P
+pub holds_here : (start : Start) (h : List Change) (x y : View) (P : Hub → ℕ → Type 0) → Stands start h x → HoldsAt start x y P
     → P (state_after start.machine h) 1700000000
-holds_here start h x y P tells stands at =
+holds_here start h x y P stands at =
     let state : at.state ≡ state_after start.machine h =
-    state_is start h at.before at.state tells (at.whole stands.alone ∙ stands.seen) at.reached in
+    state_is start h at.before at.state (at.whole stands.alone ∙ stands.seen) at.reached in
     let now : at.now ≡ 1700000000 = ((at.told).next (λ k. 1700000000) stands.clock).0 in
     subst (λ (t : ℕ). P (state_after start.machine h) t) now (subst (λ (s : Hub). P s at.now) state at.holds)
 
@@ -176,9 +175,9 @@ pub record Decided (start : Start) (h : List Change) (k other : ℕ) (round : Ro
   pub stands : Stands start h y
   pub decided : IsDecided (state_after start.machine h) k other round
 
-one_decided : (start : Start) (h : List Change) (k other : ℕ) (target : List ℕ) (round : Round) (x y : View) → start.tells ≡ true → Stands start h x
+one_decided : (start : Start) (h : List Change) (k other : ℕ) (target : List ℕ) (round : Round) (x y : View) → Stands start h x
     → AskedBy x (token k) other target round y → Decided start h k other round y
-one_decided start h k other target round x y tells stands asked =
+one_decided start h k other target round x y stands asked =
     let z : View = asked.between in
     let found = asked.found in
     let guarded = asked.guarded in
@@ -189,7 +188,7 @@ one_decided start h k other target round x y tells stands asked =
     let same = chain_same guarded.asks z y guarded.chain in
     record {
       stands = stands_then start h z y (Admits (token k) (record { user = name other; server = [] }) round.admitted) here same.base same.alone (guarded.unnoted start here.base here.alone) came;
-      decided = record { found = holds_here start h x z (IsSeen (token k) (name other) round.found) tells stands seen; admitted = holds_here start h z y (Admits (token k) (record { user = name other; server = [] }) round.admitted) tells here came };
+      decided = record { found = holds_here start h x z (IsSeen (token k) (name other) round.found) stands seen; admitted = holds_here start h z y (Admits (token k) (record { user = name other; server = [] }) round.admitted) here came };
     }
 
 -- and so were all of them
@@ -197,11 +196,11 @@ pub record AllDecided (start : Start) (h : List Change) (seed n k : ℕ) (rounds
   pub stands : Stands start h y
   pub decided : AreDecided (state_after start.machine h) seed n k rounds
 
-pub all_decided : (start : Start) (h : List Change) (seed n k : ℕ) (target : List ℕ) (x y : View) (rounds : List Round) → start.tells ≡ true → Stands start h x
+pub all_decided : (start : Start) (h : List Change) (seed n k : ℕ) (target : List ℕ) (x y : View) (rounds : List Round) → Stands start h x
     → Rounds seed n k target x rounds y → AllDecided start h seed n k rounds y
-all_decided start h seed n zero target x y rounds tells stands done =
+all_decided start h seed n zero target x y rounds stands done =
     record { stands = subst (λ (v : View). Stands start h v) (sym done.1) stands; decided = done.0 }
-all_decided start h seed n (suc k) target x y rounds tells stands (z, before, round, done, asked, is) =
-    let first : AllDecided start h seed n k before z = all_decided start h seed n k target x z before tells stands done in
-    let last : Decided start h k (asked_at seed n k) round y = one_decided start h k (asked_at seed n k) target round z y tells first.stands asked in
+all_decided start h seed n (suc k) target x y rounds stands (z, before, round, done, asked, is) =
+    let first : AllDecided start h seed n k before z = all_decided start h seed n k target x z before stands done in
+    let last : Decided start h k (asked_at seed n k) round y = one_decided start h k (asked_at seed n k) target round z y first.stands asked in
     record { stands = last.stands; decided = (before, round, first.decided, last.decided, is) }

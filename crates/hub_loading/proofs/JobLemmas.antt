@@ -69,15 +69,15 @@ began : (users : ℕ) (start : Start) (first : View) (before : List Entry) → f
 began users start first before base seen none alone clock drawn = record { base = base; seen = seen ∙ none; alone = alone; clock = clock; draws = drawn }
 
 job_done : (seed users : ℕ) (start : Start) (first last : View) (counts : Counts) (entries : List Entry) (revision : ℕ) (loaded : Loaded)
-    → start.tells ≡ true → users ≤ 1000000 → Begins start users first → Runs seed users first counts last → (last.pass.alone ≡ true → entries ≡ last.pass.seen)
+    → users ≤ 1000000 → Begins start users first → Runs seed users first counts last → (last.pass.alone ≡ true → entries ≡ last.pass.seen)
     → revision ≡ length entries → loaded ≡ loaded_of counts revision → IsJob seed users start entries loaded
-job_done seed users start first last counts entries revision loaded tells few begins runs whole long is =
+job_done seed users start first last counts entries revision loaded few begins runs whole long is =
     let h : List Change = history_of start.machine users in
-    let stands : Stands start h runs.between = all_posted start users first runs.between tells few begins runs.posted in
+    let stands : Stands start h runs.between = all_posted start users first runs.between few begins runs.posted in
     let all : AllDecided start h seed users users runs.rounds last =
-    all_decided start h seed users users runs.target runs.between last runs.rounds tells stands runs.asked in
+    all_decided start h seed users users runs.target runs.between last runs.rounds stands runs.asked in
     let seen : entries ≡ last.pass.seen = whole (all.stands).alone in
-    let are : entries ≡ map Some h = seen ∙ (all.stands).seen in
+    let are : entries ≡ h = seen ∙ (all.stands).seen in
     record {
       first = first;
       last = last;
@@ -97,5 +97,5 @@ pub job_made : (seed users : ℕ) (first last : View) (counts : Counts) (begun e
     → (last.pass.alone ≡ true → entries ≡ last.pass.seen) → revision ≡ length entries → loaded ≡ loaded_of counts revision → IsJob seed users ended entries loaded
 job_made seed users first last counts begun ended before entries revision loaded hub few runs base seen none alone clock drawn closed whole long is =
     let same : begun ≡ ended = ended_as seed users first last counts begun ended runs base closed in
-    job_done seed users ended first last counts entries revision loaded (subst IsJobHub same hub).tells (omega (arith, few))
+    job_done seed users ended first last counts entries revision loaded (omega (arith, few))
     (began users ended first before (base ∙ ap (λ (s : Start). Some s) same) seen none alone clock drawn) runs whole long is

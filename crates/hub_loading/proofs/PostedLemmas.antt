@@ -1,6 +1,5 @@
 -- One post more, and what it leaves.
-use Rattle.std.proofs.Common.{◌≡◌, ◌<◌, ◌+◌, inl, inr, ◌⊎◌, ℕ, Bool, true, false, List, [], ◌∷◌, ◌++◌, length, map, codes, Option, Some, None, is_some, Ok, refl, sym, ap, ◌∙◌, subst}
-use Rattle.std.proofs.lemmas.List.{map-append}
+use Rattle.std.proofs.Common.{◌≡◌, ◌<◌, ◌+◌, inl, inr, ◌⊎◌, ℕ, Bool, true, false, List, [], ◌∷◌, ◌++◌, length, codes, Option, Some, None, is_some, Ok, refl, sym, ap, ◌∙◌, subst}
 use Rattle.hub_core.specs.History.{Answers, change_of, state_after}
 use Rattle.hub_core.specs.Visits.{Entry, Reached, with_entry}
 use Rattle.hub_core.specs.declared.start.Start.{Start}
@@ -32,46 +31,27 @@ use Rattle.hub_loading.specs.Posted.{user_change, token_change}
 pub record Stands (start : Start) (h : List Change) (x : View) : Type 0 where
   pub base : x.pass.base ≡ Some start
   pub alone : x.pass.alone ≡ true
-  pub seen : x.pass.seen ≡ map Some h
+  pub seen : x.pass.seen ≡ h
   pub clock : x.clock ≡ Some (λ k. 1700000000)
 
 -- ---- the state
 
-first_same : (a b : Change) (xs ys : List Entry) → Some a ∷ xs ≡ Some b ∷ ys → a ≡ b
-first_same a b xs ys e = cc
-
-behind_same : (a b : Entry) (xs ys : List Entry) → a ∷ xs ≡ b ∷ ys → xs ≡ ys
-behind_same a b xs ys e = cc
-
-pub told_same : (g h : List Change) → map Some g ≡ map Some h → g ≡ h
-told_same [] [] is = refl
-told_same [] (c ∷ h) is = absurd (cc is)
-told_same (b ∷ g) [] is = absurd (cc is)
-told_same (b ∷ g) (c ∷ h) is =
-    let one : b ≡ c = first_same b c (map Some g) (map Some h) is in
-    let rest : g ≡ h = told_same g h (behind_same (Some b) (Some c) (map Some g) (map Some h) is) in
-    cc (one, rest)
-
 -- it is what the history left
-pub state_is : (start : Start) (h : List Change) (before : List Entry) (s : Hub) → start.tells ≡ true → before ≡ map Some h → Reached start before s
-    → s ≡ state_after start.machine h
-state_is start h before s tells is reached =
-    let (g, are, follows) = reached.told tells in
-    follows.state ∙ ap (state_after start.machine) (told_same g h (sym are ∙ is))
+pub state_is : (start : Start) (h : List Change) (before : List Entry) (s : Hub) → before ≡ h → Reached start before s → s ≡ state_after start.machine h
+state_is start h before s is reached = reached.state ∙ ap (state_after start.machine) is
 
 -- ---- the entry of a post
 
-noted_so : (tells : Bool) (o : Option Change) (c : Change) (before : List Entry) → tells ≡ true → o ≡ Some c → with_entry tells o before ≡ before ++ Some c ∷ []
-noted_so tells o c before one two =
-    ap (λ (t : Bool). with_entry t o before) one ∙ ap (λ (p : Option Change). with_entry true p before) two
+noted_so : (o : Option Change) (c : Change) (before : List Entry) → o ≡ Some c → with_entry o before ≡ before ++ c ∷ []
+noted_so o c before one = ap (λ (p : Option Change). with_entry p before) one
 
 -- the state that a visit found, and the change in that state as the one entry more
 abbrev pub Noted : Start → Visit → (Hub → Change) → Type 0
-Noted start v change = (s : Hub) × Reached start v.before s × (v.after ≡ v.before ++ Some (change s) ∷ [])
+Noted start v change = (s : Hub) × Reached start v.before s × (v.after ≡ v.before ++ change s ∷ [])
 
 noted_by : (start : Start) (x y : View) (asked : Asked) (bytes body : List ℕ) (change : Hub → Change) (gave : Gave start x asked bytes y) → IsReply bytes 201 body
-    → start.tells ≡ true → ((s : Hub) (a : Answer) → Answers s (gave.visit).moment (gave.visit).draw asked a → Makes (change s) a) → Noted start gave.visit change
-noted_by start x y asked bytes body change gave reply tells makes = by gave.given
+    → ((s : Hub) (a : Answer) → Answers s (gave.visit).moment (gave.visit).draw asked a → Makes (change s) a) → Noted start gave.visit change
+noted_by start x y asked bytes body change gave reply makes = by gave.given
   where
     n : ℕ
     n = length (gave.visit).after
@@ -79,11 +59,11 @@ noted_by start x y asked bytes body change gave reply tells makes = by gave.give
     refused : (r : Refusal) → answered gave.reply ≡ answered (refusal_reply n r) → ⊥
     refused r said = no_refusal n r gave.reply bytes body said gave.is reply
 
-    made : (s : Hub) (a : Answer) → Reached start (gave.visit).before s → (gave.visit).after ≡ with_entry start.tells (change_of a) (gave.visit).before
+    made : (s : Hub) (a : Answer) → Reached start (gave.visit).before s → (gave.visit).after ≡ with_entry (change_of a) (gave.visit).before
         → outcome_view gave.outcome ≡ outcome_of n a → Makes (change s) a → Noted start gave.visit change
     made s a reached noted outcome (inl (r, is)) = absurd (refused r (sym gave.said ∙ (outcome ∙ ap (outcome_of n) is)))
     made s a reached noted outcome (inr (g, is)) =
-        (s, reached, noted ∙ noted_so start.tells (change_of a) (change s) (gave.visit).before tells (ap change_of is))
+        (s, reached, noted ∙ noted_so (change_of a) (change s) (gave.visit).before (ap change_of is))
 
     by : IsGiven start gave.visit asked gave.outcome → Noted start gave.visit change
     by (inl at) = made at.state at.answer at.reached at.noted at.outcome (makes at.state at.answer at.answers)
@@ -116,19 +96,18 @@ first_taken (Some e) d ds left left' f f' is has drew =
 -- ---- what a post leaves
 
 left_so : (start : Start) (h : List Change) (c : Hub → Change) (x y : View) (asked : Asked) (bytes : List ℕ) (request : List ℕ) (gave : Gave start x asked bytes y)
-    → start.tells ≡ true → Stands start h x → Direct x request (Ok bytes) y → Noted start gave.visit c → Stands start (h ++ c (state_after start.machine h) ∷ []) y
-left_so start h c x y asked bytes request gave tells stands direct (s, reached, noted) =
+    → Stands start h x → Direct x request (Ok bytes) y → Noted start gave.visit c → Stands start (h ++ c (state_after start.machine h) ∷ []) y
+left_so start h c x y asked bytes request gave stands direct (s, reached, noted) =
     let v : Visit = gave.visit in
-    let found : v.before ≡ map Some h = (gave.visits).whole stands.alone ∙ stands.seen in
-    let state : s ≡ state_after start.machine h = state_is start h v.before s tells found reached in
+    let found : v.before ≡ h = (gave.visits).whole stands.alone ∙ stands.seen in
+    let state : s ≡ state_after start.machine h = state_is start h v.before s found reached in
     record {
       base = (direct.same).base ∙ stands.base;
       alone = (direct.same).alone ∙ stands.alone;
       seen = (gave.visits).seen
           ∙ (noted
-          ∙ (ap (λ (b : List Entry). b ++ Some (c s) ∷ []) found
-          ∙ (ap (λ (t : Hub). map Some h ++ Some (c t) ∷ []) state
-          ∙ sym (map-append Some h (c (state_after start.machine h) ∷ [])))));
+          ∙ (ap (λ (b : List Entry). b ++ c s ∷ []) found
+          ∙ ap (λ (t : Hub). h ++ c t ∷ []) state));
       clock = (((gave.visits).told).next (λ k. 1700000000) stands.clock).1;
     }
 
@@ -141,7 +120,7 @@ moment_is start h x y asked bytes gave stands = (((gave.visits).told).next (λ k
 never_drawn : false ≡ true → ⊥
 never_drawn is = cc is
 
-module _ (start : Start) (tells : start.tells ≡ true) (h : List Change) (k : ℕ) (few : k < 1000000) (x y : View) (bytes body : List ℕ) (stands : Stands start h x)
+module _ (start : Start) (h : List Change) (k : ℕ) (few : k < 1000000) (x y : View) (bytes body : List ℕ) (stands : Stands start h x)
     (reply : IsReply bytes 201 body) where
   user_gave : Direct x (user_request k) (Ok bytes) y → Gave start x (add (name k)) bytes y
   user_gave direct = by (its_turn start x y (user_request k) bytes (post_of (user_target (name k)) []) stands.base (user_reads k (name_is k few)) refl direct)
@@ -157,9 +136,9 @@ module _ (start : Start) (tells : start.tells ≡ true) (h : List Change) (k : �
       let gave : Gave start x (add (name k)) bytes y = user_gave direct in
       let v : Visit = gave.visit in
       let noted : Noted start v (λ s. added v.moment (name k)) =
-      noted_by start x y (add (name k)) bytes body (λ s. added v.moment (name k)) gave reply tells (λ s a answers. user_makes s v.moment v.draw (name k) a answers) in
+      noted_by start x y (add (name k)) bytes body (λ s. added v.moment (name k)) gave reply (λ s a answers. user_makes s v.moment v.draw (name k) a answers) in
       let now : v.moment ≡ 1700000000 = moment_is start h x y (add (name k)) bytes gave stands in (
-        left_so start h (λ s. user_change k) x y (add (name k)) bytes (user_request k) gave tells stands direct
+        left_so start h (λ s. user_change k) x y (add (name k)) bytes (user_request k) gave stands direct
             (subst (λ (m : ℕ). Noted start v (λ s. added m (name k))) now noted),
         undrawn v.draw x.draws y.draws _ _ gave.drawn (gave.visits).drew,
       )
@@ -183,10 +162,10 @@ module _ (start : Start) (tells : start.tells ≡ true) (h : List Change) (k : �
       let v : Visit = gave.visit in
       let taken : Taken v.draw (draw (k + 1)) ds y.draws = first_taken v.draw (draw (k + 1)) ds x.draws y.draws _ _ gave.drawn has (gave.visits).drew in
       let noted : Noted start v (λ s. issued s v.moment (draw (k + 1)) (name k)) =
-      noted_by start x y (issue (name k)) bytes body (λ s. issued s v.moment (draw (k + 1)) (name k)) gave reply tells
+      noted_by start x y (issue (name k)) bytes body (λ s. issued s v.moment (draw (k + 1)) (name k)) gave reply
       (λ s a answers. token_makes s v.moment (draw (k + 1)) (name k) a (subst (λ (o : Option (List ℕ)). Answers s v.moment o (issue (name k)) a) taken.0 answers)) in
       let now : v.moment ≡ 1700000000 = moment_is start h x y (issue (name k)) bytes gave stands in (
-        left_so start h (token_change k) x y (issue (name k)) bytes (token_request k) gave tells stands direct
+        left_so start h (token_change k) x y (issue (name k)) bytes (token_request k) gave stands direct
             (subst (λ (m : ℕ). Noted start v (λ s. issued s m (draw (k + 1)) (name k))) now noted),
         taken.1,
       )

@@ -112,7 +112,7 @@ unnoted_of start x y asked bytes nothing gave alone =
     by : IsGiven start gave.visit asked gave.outcome → (gave.visit).after ≡ (gave.visit).before
     by (inl at) =
         at.noted
-        ∙ ap (λ (o : Option Change). with_entry start.tells o (gave.visit).before)
+        ∙ ap (λ (o : Option Change). with_entry o (gave.visit).before)
         (nothing at.state (gave.visit).moment (gave.visit).draw at.answer at.answers)
     by (inr at) = at.noted
 

@@ -69,7 +69,7 @@ pub record IsJob (seed users : ℕ) (start : Start) (entries : List Entry) (load
   pub counts : Counts
   pub runs : Runs seed users first counts last
   pub seen : entries ≡ last.pass.seen
-  pub history : entries ≡ map Some (history_of start.machine users)
+  pub history : entries ≡ history_of start.machine users
   pub long : length entries ≡ 2 * users
   pub decided : AreDecided (state_of start.machine users) seed users users runs.rounds
   pub is : loaded ≡ loaded_of counts (length entries)

@@ -1,5 +1,5 @@
 -- The hub of a job, its draws, and what is seen of its hub and its devices.
-use Rattle.std.specs.Prelude.{◌≡◌, ℕ, zero, suc, true, false, IsTrue, List, [], ◌∷◌, ◌++◌, codes, Some, None}
+use Rattle.std.specs.Prelude.{◌≡◌, ℕ, zero, suc, false, IsTrue, List, [], ◌∷◌, ◌++◌, codes, Some, None}
 use Rattle.desk.specs.Passes.{PassState}
 use Rattle.hub_core.specs.Visits.{Entry}
 use Rattle.hub_core.specs.declared.start.Start.{Start}
@@ -41,10 +41,9 @@ config_of name = record {
   custom_scopes = [];
 }
 
--- a hub of root alone begins so, over a keeper that had no rows, if it told them, and its history is told
+-- a hub of root alone begins so, over a keeper that had no rows, if it told them
 pub record IsJobHub (start : Start) : Type 0 where
   pub set_up : IsSetUp (config_of (codes "root")) 1700000000 (IsTrue start.has_rows) no_rows start.machine
-  pub tells : start.tells ≡ true
 
 -- 1 to n
 abbrev pub draws : ℕ → List (List ℕ)
