@@ -1,5 +1,5 @@
 -- A step of a life keeps a book's history and its state together, and stands at a place of the history.
-use Rattle.std.proofs.Common.{◌≡◌, ℕ, Bool, true, false, cond, List, Option, refl, sym, ◌∙◌, ap, inr}
+use Rattle.std.proofs.Common.{◌≡◌, ℕ, Bool, true, false, cond, List, Option, refl, sym, ◌∙◌, inr}
 use Rattle.std.specs.Prelude.{Some, None, Result, Ok, Err, IsOk, OnErr}
 use Rattle.std.specs.FinMap.{get}
 use Rattle.server_life.specs.LifeTable.{row, or_refused, is_generation, generation_of, life_after}
@@ -18,7 +18,6 @@ use Rattle.hub_machine.specs.State.{Hub}
 use Rattle.hub_lives.specs.Lives.{LifeStep, step_of, step_at}
 use Rattle.hub_machine.specs.Apply.{apply}
 use Rattle.hub_machine.specs.Steps.{Steps, KeptAs, Owes, entry_of, noted_event, is_end}
-use Rattle.hub_machine.specs.declared.change.Change.{Change}
 use Rattle.hub_machine.specs.declared.step.Kept.{Kept as EndKept}
 use Rattle.hub_machine.specs.declared.step.Kept.TheVariants as K
 use Rattle.hub_machine.specs.declared.step.Step.{Step}

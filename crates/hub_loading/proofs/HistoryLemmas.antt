@@ -1,5 +1,5 @@
 -- The history of a job: its posts, and nothing else.
-use Rattle.std.proofs.Common.{◌≡◌, ◌<◌, ◌≤◌, ◌+◌, ◌*◌, arith, ℕ, zero, suc, true, List, [], ◌∷◌, ◌++◌, length, map, All, Some, Result, Ok, Err, append_assoc, append-nil, length-append, refl, sym, ap, ◌∙◌, subst}
+use Rattle.std.proofs.Common.{◌≡◌, ◌<◌, ◌≤◌, ◌+◌, ◌*◌, arith, ℕ, zero, suc, List, [], ◌∷◌, ◌++◌, length, map, All, Some, Result, Ok, Err, append_assoc, append-nil, length-append, refl, sym, ap, ◌∙◌, subst}
 use Rattle.std.proofs.lemmas.List.Elements.{All-cons, All-nil, All-head, All-tail}
 use Rattle.hub_core.specs.History.{state_after}
 use Rattle.hub_core.specs.Visits.{Entry}

@@ -1,5 +1,5 @@
 -- A whole job, from its posts and its rounds.
-use Rattle.std.proofs.Common.{◌≡◌, ◌≤◌, ◌*◌, arith, ℕ, zero, suc, true, List, [], length, map, Option, Some, Result, sym, ap, ◌∙◌, subst}
+use Rattle.std.proofs.Common.{◌≡◌, ◌≤◌, ◌*◌, arith, ℕ, zero, suc, true, List, [], length, Option, Some, Result, sym, ap, ◌∙◌, subst}
 use Rattle.hub_core.specs.Visits.{Entry}
 use Rattle.hub_core.specs.declared.start.Start.{Start}
 use Rattle.hub_devices.specs.declared.link_error.LinkError.{LinkError}

@@ -1,5 +1,5 @@
 -- One post more, and what it leaves.
-use Rattle.std.proofs.Common.{◌≡◌, ◌<◌, ◌+◌, inl, inr, ◌⊎◌, ℕ, Bool, true, false, List, [], ◌∷◌, ◌++◌, length, codes, Option, Some, None, is_some, Ok, refl, sym, ap, ◌∙◌, subst}
+use Rattle.std.proofs.Common.{◌≡◌, ◌<◌, ◌+◌, inl, inr, ◌⊎◌, ℕ, true, false, List, [], ◌∷◌, ◌++◌, length, codes, Option, Some, None, is_some, Ok, refl, sym, ap, ◌∙◌, subst}
 use Rattle.hub_core.specs.History.{Answers, change_of, state_after}
 use Rattle.hub_core.specs.Visits.{Entry, Reached, with_entry}
 use Rattle.hub_core.specs.declared.start.Start.{Start}

@@ -1,5 +1,5 @@
 -- The hub of a job, its draws, and what is seen of its hub and its devices.
-use Rattle.std.specs.Prelude.{◌≡◌, ℕ, zero, suc, false, IsTrue, List, [], ◌∷◌, ◌++◌, codes, Some, None}
+use Rattle.std.specs.Prelude.{ℕ, zero, suc, true, false, IsTrue, List, [], ◌∷◌, ◌++◌, codes, Some, None}
 use Rattle.desk.specs.Passes.{PassState}
 use Rattle.hub_core.specs.Visits.{Entry}
 use Rattle.hub_core.specs.declared.start.Start.{Start}

@@ -1,5 +1,5 @@
 -- The book of a session, and what is known at its end.
-use Rattle.std.proofs.Common.{◌≡◌, ◌≤◌, inr, ℕ, IsTrue, refl, arith}
+use Rattle.std.proofs.Common.{◌≤◌, inr, ℕ, IsTrue, refl, arith}
 use Rattle.keeper.specs.Rows.{Rows}
 use Rattle.hub_opening.specs.declared.config.HubConfig.{HubConfig}
 use Rattle.hub_core.specs.Opened.{HasOpened}

@@ -1,4 +1,4 @@
-use Rattle.std.proofs.Common.{◌≡◌, ap, refl, subst}
+use Rattle.std.proofs.Common.{ap, refl, subst}
 use Rattle.hub_core.specs.Lived.{LivesOn, LivedAt}
 use Rattle.hub_core.specs.Visits.{Standing, entries_of}
 use Rattle.hub_core.proofs.Living.{reached_stepped, stamped_lives, lived_at, same_count}
