@@ -19,6 +19,7 @@ mod processes;
 pub mod programs;
 pub mod random;
 pub mod routes;
+mod sockets;
 pub mod standard;
 pub mod starting;
 pub mod targets;

@@ -6,6 +6,7 @@ use crate::limits::{
     ACCEPT_AGAIN_MILLIS, ACCEPT_TRIES, READ_OR_WRITE_SECONDS, SILENT_CALLERS, SILENT_SECONDS,
     WAITING_CALLERS,
 };
+use crate::sockets::next_stream;
 use crate::waiting::{awaited, comes_first, is_over, is_there, millis_of};
 use hub_devices::listener::Listener;
 use hub_devices::source::Failed;
@@ -213,8 +214,8 @@ impl SocketListener {
     fn next_caller(&mut self) -> io::Result<Option<TcpStream>>
         ensures { self.new.faults ≡ self.old.faults }
     {
-        match self.door.listener.accept() {
-            Ok((stream, _)) => self.take(stream),
+        match next_stream(&self.door.listener) {
+            Ok(stream) => self.take(stream),
             Err(error) if is_no_fault(error.kind()) => Ok(None),
             Err(error) => Err(error),
         }

@@ -1,6 +1,7 @@
 //! Connections to targets.
 use crate::connection::{SocketSink, SocketSource, sides};
 use crate::limits::{CONNECT_SECONDS, LET_GO_SECONDS, LOOK_AGAIN_MILLIS, TARGET_READ_SECONDS};
+use crate::sockets;
 use crate::waiting::is_over;
 use hub_kit::target::Target;
 use std::io::{self, ErrorKind};
@@ -40,7 +41,11 @@ fn stream_to_named(rt: &HostRuntime, text: &str) -> io::Result<TcpStream> {
 
 /// A stream to an address.
 fn stream_at(rt: &HostRuntime, address: SocketAddr) -> io::Result<TcpStream> {
-    TcpStream::connect_timeout(rt, &address, Duration::from_secs(CONNECT_SECONDS))
+    let limit = Duration::from_secs(CONNECT_SECONDS);
+    match address {
+        SocketAddr::V4(numbers) => sockets::stream_to(numbers, limit),
+        SocketAddr::V6(_) => TcpStream::connect_timeout(rt, &address, limit),
+    }
 }
 
 /// Whether somebody listens at the target. It isn't known where no connection is made, and none is refused.
