@@ -1,3 +1,4 @@
+pub mod LineLemmas
 pub mod NameLemmas
 pub mod ReplyLemmas
 pub mod StepLemmas

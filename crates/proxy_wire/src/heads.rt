@@ -1,5 +1,5 @@
 //! Heads of requests and replies as they are passed on.
-ghost use Rattle.std.specs.Prelude.{◌≡◌, ◌<◌, ◌≤◌, [], ◌++◌, length, take, map, not, All, IfOk, OnOk};
+ghost use Rattle.std.specs.Prelude.{◌≡◌, ◌<◌, ◌≤◌, [], ◌++◌, length, take, map, not, All, IfOk, IfSome, OnOk};
 ghost use Rattle.httparse.specs.Spans.{IsHeaderWithin, IsResponseWithin, span_bytes};
 ghost use Rattle.http_wire.specs.Head.{header_at};
 ghost use Rattle.proxy_wire.specs.Heads.{is_hop, is_switched, last_line, header_line, header_lines, request_line, status_line};
@@ -19,6 +19,11 @@ const PROXY_CONNECTION: &[u8] = b"proxy-connection";
 pub(crate) const UPGRADE: &[u8] = b"upgrade";
 
 const VERSION: &[u8] = b"HTTP/1.";
+
+/// What stands between a header's name and its value.
+const COLON: &[u8] = b": ";
+
+const LINE_END: &[u8] = b"\r\n";
 
 /// The last line of a head, and the empty line behind it.
 const CLOSE_AND_END: &[u8] = b"Connection: close\r\n\r\n";
@@ -68,9 +73,35 @@ fn push_header(text: &mut Bytes, name: &[u8], value: &[u8]) -> Result<(), AllocE
     ensures { OnOk result (text.new ≡ text.old ++ header_line (record { name = name.now; value = value.now })) }
 {
     text.push_all(name)?;
-    text.push_all(b": ")?;
+    text.push_all(COLON)?;
     text.push_all(value)?;
-    text.push_all(b"\r\n")
+    text.push_all(LINE_END)
+}
+
+/// The line of a header as it stands in the bytes, where it is written there as it is passed on: with one space behind the colon.
+fn line_at<'a>(bytes: &'a [u8], span: HeaderSpan) -> Option<&'a [u8]>
+    requires { IsHeaderWithin (length bytes.now) span }
+    ensures { IfSome result (λ line. line.now ≡ header_line (header_at bytes.now span)) }
+{
+    let end = span.value.end;
+    if span.value.start < span.name.end || bytes.len() - end < 2 {
+        return None;
+    }
+    if &bytes[span.name.end..span.value.start] == COLON && &bytes[end..end + 2] == LINE_END {
+        return Some(&bytes[span.name.start..end + 2]);
+    }
+    None
+}
+
+/// The line of a header of a reply, in one piece where it stands so in the bytes, as most do.
+fn push_line(text: &mut Bytes, bytes: &[u8], span: HeaderSpan) -> Result<(), AllocError>
+    requires { IsHeaderWithin (length bytes.now) span }
+    ensures { OnOk result (text.new ≡ text.old ++ header_line (header_at bytes.now span)) }
+{
+    match line_at(bytes, span) {
+        Some(line) => text.push_all(line),
+        None => push_header(text, span.name.of(bytes), span.value.of(bytes)),
+    }
 }
 
 /// The lines of a request's headers.
@@ -97,7 +128,7 @@ fn push_spans(
 {
     'lines: for span in spans {
         if !is_hop(upgrade, span.name.of(bytes)) {
-            push_header(text, span.name.of(bytes), span.value.of(bytes))?;
+            push_line(text, bytes, *span)?;
         }
     }
     Ok(())
