@@ -9,6 +9,7 @@ use hub_rows::records::{
 };
 use hub_rows::rows::Row;
 use keeper::keeper::Row as KeptRow;
+use record_texts::known_form::{server_of, token_of, user_of};
 use record_texts::record::{RowError, of_row};
 use std::alloc::Global;
 
@@ -56,6 +57,9 @@ fn read_user(alloc: Global, kept: &KeptRow) -> Result<Row, RowError>
     requires { kept.now.kind ≡ 1 }
     ensures { spec.IsReading kept.now result }
 {
+    if let Some(user) = user_of(kept) {
+        return Ok(Row::User(user));
+    }
     match of_row::<User>(alloc, kept) {
         Ok(user) => Ok(Row::User(user)),
         Err(error) => Err(error),
@@ -96,6 +100,9 @@ fn read_token(alloc: Global, kept: &KeptRow) -> Result<Row, RowError>
     requires { kept.now.kind ≡ 5 }
     ensures { spec.IsReading kept.now result }
 {
+    if let Some(token) = token_of(alloc, kept) {
+        return Ok(Row::Token(token));
+    }
     match of_row::<Token>(alloc, kept) {
         Ok(token) => Ok(Row::Token(token)),
         Err(error) => Err(error),
@@ -106,6 +113,9 @@ fn read_server(alloc: Global, kept: &KeptRow) -> Result<Row, RowError>
     requires { kept.now.kind ≡ 6 }
     ensures { spec.IsReading kept.now result }
 {
+    if let Some(server) = server_of(kept) {
+        return Ok(Row::ServerRow(server));
+    }
     match of_row::<ServerRow>(alloc, kept) {
         Ok(server) => Ok(Row::ServerRow(server)),
         Err(error) => Err(error),

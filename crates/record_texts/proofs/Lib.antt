@@ -4,3 +4,5 @@ pub mod There
 pub mod Leases
 pub mod OneText
 pub mod KeyTexts
+pub mod Cuts
+pub mod KnownForms

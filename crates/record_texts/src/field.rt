@@ -170,7 +170,8 @@ pub(crate) fn texts_value<T: Textual>(alloc: Global, texts: &[T]) -> Result<Valu
     Ok(Value::Array(items))
 }
 
-fn add<T: Drop>(items: &mut Vec<T>, item: T) -> Result<(), AllocError>
+/// Adds an item to a list.
+pub(crate) fn add<T: Drop>(items: &mut Vec<T>, item: T) -> Result<(), AllocError>
     ensures { OnOk result (items.new.items ≡ items.old.items ++ item ∷ []) }
 {
     match items.push(item) {
