@@ -1,4 +1,6 @@
 pub mod Givens
+pub mod ShiftLemmas
+pub mod SessionLemmas
 pub mod SentNames
 pub mod SentRows
 pub mod SentState

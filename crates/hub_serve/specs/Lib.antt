@@ -1,2 +1,4 @@
 pub mod Given
 pub mod Ends
+pub mod Shifts
+pub mod Sessions

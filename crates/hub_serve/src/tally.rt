@@ -1,123 +1,98 @@
-//! How many connections were served. Only `serve` and `add` raise the count.
-ghost use Rattle.std.specs.Prelude.{◌≡◌, ◌+◌, ◌≤◌, ◌<◌, ◌^◌, ℕ, Some, Err};
-ghost use Rattle.hub_core.specs.declared.start.Start.{Start};
-ghost use Rattle.hub_devices.specs.Faults.{Rises};
-ghost use Rattle.hub_run.specs.Connections.{ConnectionEnds};
-ghost use Rattle.hub_run.specs.Turns.{view_of};
+//! What is told of the connections that were served. It is for clauses alone, and only the count has bytes.
+ghost use Rattle.std.specs.Prelude.{◌≡◌, ◌+◌, ◌<◌, ◌^◌, ◌++◌, ◌∷◌, [], length};
+ghost use Rattle.keeper.specs.Pasts.{entries_of};
+ghost use Rattle.hub_serve.specs.Shifts.{count_of, shifts_of};
 
-use desk::{Desk, Pass};
 use http_wire::error::SessionFault;
-use hub_core::book::Book;
-use hub_devices::clock::Clock;
-use hub_devices::listener::Listener;
-use hub_devices::random::Random;
-use hub_devices::route_link::RouteLink;
-use hub_devices::spawner::Spawner;
-use hub_machine::change::Change;
-use hub_run::{HubKit, Served, serve_connection};
-use keeper::keeper::Keeper;
-use keeper::trail::Trail;
-use std::alloc::Global;
-use std::marker::{Model, PhantomData};
-use std::sync::Wait;
+use hub_run::Served;
+use keeper::past::Past;
+use std::snapshot::Snapshot;
 
-/// A source and a sink as a connection left them. Contracts see both, and no call takes them out: the connection ends
-/// where this is dropped.
+/// The pass and the kit of a worker, and the two sides of the connection that it serves, at one time.
+pub struct Seen<P, Q, I, O> {
+    pub pass: Snapshot<P>,
+    pub kit: Snapshot<Q>,
+    pub input: Snapshot<I>,
+    pub output: Snapshot<O>,
+}
+
+impl<P, Q, I, O> Drop for Seen<P, Q, I, O> {
+    fn drop(self) {
+        let Self {
+            pass: _,
+            kit: _,
+            input: _,
+            output: _,
+        } = self;
+    }
+}
+
+impl<P, Q, I, O> Seen<P, Q, I, O> {
+    pub(crate) fn of(pass: &P, kit: &Q, input: &I, output: &O) -> Seen<P, Q, I, O>
+        ensures worker { (result.pass.value ≡ pass.now) × (result.kit.value ≡ kit.now) }
+        ensures sides { (result.input.value ≡ input.now) × (result.output.value ≡ output.now) }
+    {
+        Seen {
+            pass: Snapshot::of(pass),
+            kit: Snapshot::of(kit),
+            input: Snapshot::of(input),
+            output: Snapshot::of(output),
+        }
+    }
+}
+
+/// A connection that was served: what stood before it and after it, and how it ended.
+pub struct Connection<P, Q, I, O> {
+    pub before: Seen<P, Q, I, O>,
+    pub after: Seen<P, Q, I, O>,
+    pub ended: Result<Served, SessionFault>,
+}
+
+impl<P, Q, I, O> Drop for Connection<P, Q, I, O> {
+    fn drop(self) {
+        let Self {
+            before: _,
+            after: _,
+            ended: _,
+        } = self;
+    }
+}
+
+/// The connections that one worker served, one after the other.
+pub type Shift<P, Q, I, O> = Past<Connection<P, Q, I, O>>;
+
+/// The connections that were served: how many, and what is told of each, for each worker those that it served.
 #[derive(Drop)]
-pub struct Finished<I, O> {
-    input: I,
-    output: O,
+pub struct Tally<P, Q, I, O> {
+    pub count: u64,
+    pub shifts: Past<Shift<P, Q, I, O>>,
 }
 
-impl<I, O> Model for Finished<I, O> {
-    ghost Value = { I × O };
-
-    ghost view = { λ f. (f.input, f.output) };
-}
-
-/// How many connections of a listener were served. Contracts see the count.
-#[derive(Drop)]
-pub struct Tally<L> {
-    count: u64,
-    of: PhantomData<L>,
-}
-
-impl<L> Model for Tally<L> {
-    ghost use Rattle.std.specs.Prelude.{ℕ, ◌<◌, ◌^◌};
-
-    ghost Value = { ℕ };
-
-    ghost view = { λ t. t.count };
-
-    ghost invariant = { λ t. t.count < 2 ^ 64 };
-}
-
-impl<L: Listener> Tally<L> {
+impl<P, Q, I, O> Tally<P, Q, I, O> {
     /// A tally of no connection.
-    pub fn new() -> Tally<L>
-        ensures { result ≡ 0 }
+    pub(crate) fn new() -> Tally<P, Q, I, O>
+        ensures { (result.count ≡ 0) × (shifts_of result ≡ []) }
     {
         Tally {
             count: 0,
-            of: PhantomData,
+            shifts: Past::new(),
         }
     }
 
     /// How many connections were served.
     pub fn count(&self) -> u64
-        ensures { result ≡ self.now }
+        ensures { result ≡ self.now.count }
     {
         self.count
     }
 
-    /// Serves a connection on its own two sides, as `serve_connection` does, and counts it.
-    pub fn serve<
-        K: Keeper,
-        T: Trail<Entry = Change>,
-        S: Spawner,
-        P: RouteLink,
-        C: Clock,
-        R: Random,
-        W: Wait,
-    >(
-        &mut self,
-        rt: &W,
-        alloc: Global,
-        desk: &Desk<Book<K, T>>,
-        pass: &mut Pass<Book<K, T>>,
-        input: L::In,
-        output: L::Out,
-        kit: &mut HubKit<S, P, C, R>,
-    ) -> (Finished<L::In, L::Out>, Result<Served, SessionFault>)
-        requires sides { L.are_sides input output }
-        requires at_desk { pass.old.of ≡ desk.now }
-        requires room { self.old + 1 < 2 ^ 64 }
-        ensures counted { self.new ≡ self.old + 1 }
-        ensures of { pass.new.of ≡ pass.old.of }
-        ensures base { pass.new.base ≡ pass.old.base }
-        ensures alone { pass.new.alone ≡ pass.old.alone }
-        ensures ends { (start : Start) → pass.old.base ≡ Some start
-            → ConnectionEnds start
-            (view_of C.to_come R.left S.calls P.calls R.faults S.faults P.faults pass.old kit.old) (L.In.left input) (L.Out.held output)
-            (view_of C.to_come R.left S.calls P.calls R.faults S.faults P.faults pass.new kit.new)
-            (L.In.left result.0.0) (L.Out.held result.0.1) result.1 }
-        ensures reads { L.In.faults input ≤ L.In.faults result.0.0 }
-        ensures writes { L.Out.faults output ≤ L.Out.faults result.0.1 }
-        ensures read_fault { (n : ℕ) → result.1 ≡ Err (SessionFault.ReadFault n) → Rises (L.In.faults input) (L.In.faults result.0.0) }
-        ensures write_fault { (n : ℕ) → result.1 ≡ Err (SessionFault.WriteFault n) → Rises (L.Out.faults output) (L.Out.faults result.0.1) }
+    /// Adds what one more worker served.
+    pub(crate) fn add(&mut self, count: u64, shift: Shift<P, Q, I, O>)
+        requires room { self.old.count + count < 2 ^ 64 }
+        ensures count { self.new.count ≡ self.old.count + count }
+        ensures shifts { shifts_of self.new ≡ shifts_of self.old ++ entries_of shift ∷ [] }
     {
-        let mut input = input;
-        let mut output = output;
-        self.count += 1;
-        let served = serve_connection(rt, alloc, desk, pass, &mut input, &mut output, kit);
-        (Finished { input, output }, served)
-    }
-
-    /// Adds what another tally counts.
-    pub fn add(&mut self, other: Tally<L>)
-        requires room { self.old + other < 2 ^ 64 }
-        ensures { self.new ≡ self.old + other }
-    {
-        self.count += other.count;
+        self.count += count;
+        self.shifts.add(shift);
     }
 }

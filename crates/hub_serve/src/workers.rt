@@ -1,96 +1,78 @@
 //! The workers: each takes connections in turn with the others, and serves them by a pass and a kit of its own. Which book it is, and
 //! what a kit has, they don't look at: that all this may go to another thread is asked where they are called.
-ghost use Rattle.std.specs.Prelude.{◌≡◌, ◌⊎◌, ◌+◌, ◌≤◌, ◌<◌, ◌^◌, All, length, IfOk, true};
+ghost use Rattle.std.specs.Prelude.{◌≡◌, ◌⊎◌, [], ◌+◌, ◌≤◌, ◌<◌, ◌^◌, ℕ, List, All, length, Option, Some, IfOk, IfErr, Result, true};
 ghost use mathlib.Core.List.{IsPrefix};
+ghost use Rattle.desk.specs.Passes.{PassState};
+ghost use Rattle.desk.specs.Seats.{only};
+ghost use Rattle.http_wire.specs.declared.error.SessionFault.{SessionFault};
+ghost use Rattle.hub_run.specs.declared.served.Served.{Served};
+ghost use Rattle.keeper.specs.Pasts.{entries_of};
+ghost use Rattle.hub_serve.specs.Shifts.{IsServed, IsShift, IsWhole, all_own, count_of, shifts_of, split_from};
 
 use crate::doors::{Doors, Doorway};
-use crate::tally::Tally;
+use crate::tally::{Connection, Shift, Tally};
 use desk::{Booked, Desk, Pass};
-use hub_core::book::Book;
-use hub_devices::clock::Clock;
 use hub_devices::listener::Listener;
-use hub_devices::random::Random;
-use hub_devices::route_link::RouteLink;
-use hub_devices::spawner::Spawner;
-use hub_machine::change::Change;
-use hub_run::HubKit;
-use keeper::keeper::Keeper;
-use keeper::trail::Trail;
+use keeper::past::Past;
 use std::alloc::{AllocError, Global};
+use std::snapshot::Snapshot;
 use std::sync::ledger::{self, Share};
 use std::sync::{Mutex, Wait};
 use std::thread::{Threads, for_each_mut};
 
 /// What serves connections over a desk of such books.
 pub(crate) trait Serves<B: Booked> {
-    /// Serves a connection, and counts it.
+    /// Of the pass, of what serves, of the bytes to come and of those that were written, before a connection and after it, and of how it ended.
+    ghost ends: { PassState B.Entry B.Base → Self → Option (List ℕ) → Option (List ℕ)
+        → PassState B.Entry B.Base → Self → Option (List ℕ) → Option (List ℕ) → Result Served SessionFault → Type 0 };
+
+    /// Serves a connection on its own two sides, and tells of it.
     fn serve<L: Listener, W: Wait>(
         &mut self,
         rt: &W,
         alloc: Global,
         desk: &Desk<B>,
         pass: &mut Pass<B>,
-        tally: &mut Tally<L>,
         input: L::In,
         output: L::Out,
-    )
+    ) -> Connection<Pass<B>, Self, L::In, L::Out>
         requires sides { L.are_sides input output }
         requires at_desk { pass.old.of ≡ desk.now }
-        requires room { tally.old + 1 < 2 ^ 64 }
         ensures of { pass.new.of ≡ pass.old.of }
-        ensures counted { tally.new ≡ tally.old + 1 };
-}
-
-impl<K: Keeper, T: Trail<Entry = Change>, S: Spawner, P: RouteLink, C: Clock, R: Random> Serves<
-    Book<K, T>,
-> for HubKit<S, P, C, R> {
-    fn serve<L: Listener, W: Wait>(
-        &mut self,
-        rt: &W,
-        alloc: Global,
-        desk: &Desk<Book<K, T>>,
-        pass: &mut Pass<Book<K, T>>,
-        tally: &mut Tally<L>,
-        input: L::In,
-        output: L::Out,
-    )
-        requires sides { L.are_sides input output }
-        requires at_desk { pass.old.of ≡ desk.now }
-        requires room { tally.old + 1 < 2 ^ 64 }
-        ensures of { pass.new.of ≡ pass.old.of }
-        ensures counted { tally.new ≡ tally.old + 1 }
-    {
-        // a connection's fault ends that connection alone
-        let _ = tally.serve(rt, alloc, desk, pass, input, output, self);
-    }
+        ensures before { (pass.old ≡ result.before.pass.value) × (self.old ≡ result.before.kit.value) }
+        ensures after { (result.after.pass.value ≡ pass.new) × (result.after.kit.value ≡ self.new) }
+        ensures served { IsServed L.are_sides ends L.In.left L.Out.held result };
 }
 
 /// What a worker has. Its share of the connections given is what it has served.
 #[derive(Drop)]
 pub(crate) struct Worker<'k, B: Booked, L: Listener, Q, N: Doorway> {
     pub pass: Pass<B>,
-    pub tally: Tally<L>,
+    pub count: u64,
+    pub shift: Shift<Pass<B>, Q, L::In, L::Out>,
     pub share: Share<N>,
     pub kit: &'k mut Q,
     pub ghost one_part: { share.parts ≡ 1 },
-    pub ghost served: { share.amount ≡ tally },
+    pub ghost given: { share.amount ≡ count },
+    pub ghost counted: { length (entries_of shift) ≡ count },
 }
 
 impl<'k, B: Booked, L: Listener, Q, N: Doorway> Worker<'k, B, L, Q, N> {
     fn new(pass: Pass<B>, share: Share<N>, kit: &'k mut Q) -> Worker<'k, B, L, Q, N>
         requires { (share.parts ≡ 1) × (share.amount ≡ 0) }
-        ensures { result.pass ≡ pass }
+        ensures { (result.pass ≡ pass) × (entries_of result.shift ≡ []) }
     {
         Worker {
             pass,
-            tally: Tally::new(),
+            count: 0,
+            shift: Past::new(),
             share,
             kit,
         }
     }
 }
 
-/// A worker for each kit, with a pass of its own.
+/// A worker for each kit, with a pass of its own. Where there is no memory none is made.
 pub(crate) fn hire<'k, B: Booked, L: Listener, Q, N: Doorway>(
     alloc: Global,
     desk: &Desk<B>,
@@ -99,26 +81,28 @@ pub(crate) fn hire<'k, B: Booked, L: Listener, Q, N: Doorway>(
     all: &mut Share<N>,
 ) -> Result<Vec<Worker<'k, B, L, Q, N>>, AllocError>
     requires of { pass.old.of ≡ desk.now }
+    requires first { (pass.old.others ≡ Some 0) × (pass.old.alone ≡ true) }
     requires parts { all.old.parts ≡ length kits.old }
     requires none { all.old.amount ≡ 0 }
-    ensures pass { (pass.new.of ≡ pass.old.of) × (pass.new.seen ≡ pass.old.seen) × (pass.new.base ≡ pass.old.base) × (pass.new.faults ≡ pass.old.faults) }
-    ensures of { IfOk result (λ v. All (λ w. w.pass.of ≡ desk.now) v.items) }
+    ensures others { IfOk result (λ v. pass.new ≡ record pass.old { others = Some (length v.items); alone = only (Some (length v.items)) }) }
+    ensures kept { IfErr result (λ _. pass.new ≡ pass.old) }
+    ensures idle { IfOk result (λ v. All (λ w. (w.pass ≡ split_from pass.old) × (entries_of w.shift ≡ [])) v.items) }
     ensures parts { IfOk result (λ v. all.new.parts + length v.items ≡ all.old.parts) }
     ensures one_each { IfOk result (λ v. length v.items ≡ length kits.old) }
     ensures none { all.new.amount ≡ 0 }
 {
-    let mut workers = Vec::new(alloc);
     let count = kits.len();
+    let mut workers = Vec::with_capacity(alloc, count)?;
     let mut lent = kits.iter_mut();
     for _i in 0..count {
         let Some(kit) = lent.next() else {
             break;
         };
-        let own = desk.split(pass)?;
+        let own = desk.split(pass).unwrap();
         let share = all.split_off(1, 0);
         let worker = Worker::new(own, share, kit);
         if workers.push(worker).is_err() {
-            return Err(AllocError);
+            unreachable!();
         }
     }
     Ok(workers)
@@ -136,13 +120,16 @@ pub(crate) fn run<
     rt: &W,
     alloc: Global,
     desk: &Desk<B>,
+    first: &Snapshot<Pass<B>>,
     doors: Doors<'a, L, N>,
     workers: &mut [Worker<'_, B, L, Q, N>],
     count: usize,
 ) -> Doors<'a, L, N>
     requires of { All (λ w. w.pass.of ≡ desk.now) workers.old }
+    requires shift { All (λ w. IsShift L.are_sides Q.ends L.In.left L.Out.held (split_from first.now.value) (entries_of w.shift) w.pass w.kit.now) workers.old }
     requires threads { 0 < count }
     ensures of { All (λ w. w.pass.of ≡ desk.now) workers.new }
+    ensures shift { All (λ w. IsShift L.are_sides Q.ends L.In.left L.Out.held (split_from first.now.value) (entries_of w.shift) w.pass w.kit.now) workers.new }
     ensures over { (result.left ≡ 0) ⊎ (result.failed ≡ true) }
 {
     let mut doors = doors;
@@ -151,7 +138,7 @@ pub(crate) fn run<
             return doors;
         }
         let shared = Mutex::new(doors);
-        run_all(rt, alloc, desk, &shared, workers, count);
+        run_all(rt, alloc, desk, first, &shared, workers, count);
         doors = shared.into_inner();
     }
     unreachable!()
@@ -168,22 +155,25 @@ fn run_all<
     rt: &W,
     alloc: Global,
     desk: &Desk<B>,
+    first: &Snapshot<Pass<B>>,
     doors: &Mutex<Doors<'_, L, N>>,
     workers: &mut [Worker<'_, B, L, Q, N>],
     count: usize,
 )
     requires of { All (λ w. w.pass.of ≡ desk.now) workers.old }
+    requires shift { All (λ w. IsShift L.are_sides Q.ends L.In.left L.Out.held (split_from first.now.value) (entries_of w.shift) w.pass w.kit.now) workers.old }
     requires threads { 0 < count }
     ensures of { All (λ w. w.pass.of ≡ desk.now) workers.new }
+    ensures shift { All (λ w. IsShift L.are_sides Q.ends L.In.left L.Out.held (split_from first.now.value) (entries_of w.shift) w.pass w.kit.now) workers.new }
 {
     for_each_mut(
         rt,
         workers,
         count,
         &|_, worker: &mut Worker<'_, B, L, Q, N>|
-            requires { worker.old.pass.of ≡ desk.now }
-            ensures { worker.new.pass.of ≡ desk.entry.now }
-        { work(rt, alloc, desk, doors, worker) },
+            requires { (worker.old.pass.of ≡ desk.now) × IsShift L.are_sides Q.ends L.In.left L.Out.held (split_from first.now.value) (entries_of worker.old.shift) worker.old.pass worker.old.kit.now }
+            ensures { (worker.new.pass.of ≡ desk.entry.now) × IsShift L.are_sides Q.ends L.In.left L.Out.held (split_from first.entry.now.value) (entries_of worker.new.shift) worker.new.pass worker.new.kit.now }
+        { work(rt, alloc, desk, first, doors, worker) },
     );
 }
 
@@ -192,14 +182,17 @@ fn work<B: Booked, L: Listener, Q: Serves<B>, N: Doorway, W: Wait>(
     rt: &W,
     alloc: Global,
     desk: &Desk<B>,
+    first: &Snapshot<Pass<B>>,
     doors: &Mutex<Doors<'_, L, N>>,
     worker: &mut Worker<'_, B, L, Q, N>,
 )
-    requires { worker.old.pass.of ≡ desk.now }
-    ensures { worker.new.pass.of ≡ desk.now }
+    requires of { worker.old.pass.of ≡ desk.now }
+    requires shift { IsShift L.are_sides Q.ends L.In.left L.Out.held (split_from first.now.value) (entries_of worker.old.shift) worker.old.pass worker.old.kit.now }
+    ensures of { worker.new.pass.of ≡ desk.now }
+    ensures shift { IsShift L.are_sides Q.ends L.In.left L.Out.held (split_from first.now.value) (entries_of worker.new.shift) worker.new.pass worker.new.kit.now }
 {
     for _ in rt.forever() {
-        if !turn(rt, alloc, desk, doors, worker) {
+        if !turn(rt, alloc, desk, first, doors, worker) {
             break;
         }
     }
@@ -210,15 +203,20 @@ fn turn<B: Booked, L: Listener, Q: Serves<B>, N: Doorway, W: Wait>(
     rt: &W,
     alloc: Global,
     desk: &Desk<B>,
+    first: &Snapshot<Pass<B>>,
     doors: &Mutex<Doors<'_, L, N>>,
     worker: &mut Worker<'_, B, L, Q, N>,
 ) -> bool
-    requires { worker.old.pass.of ≡ desk.now }
-    ensures { worker.new.pass.of ≡ desk.now }
+    requires of { worker.old.pass.of ≡ desk.now }
+    requires shift { IsShift L.are_sides Q.ends L.In.left L.Out.held (split_from first.now.value) (entries_of worker.old.shift) worker.old.pass worker.old.kit.now }
+    ensures of { worker.new.pass.of ≡ desk.now }
+    ensures shift { IsShift L.are_sides Q.ends L.In.left L.Out.held (split_from first.now.value) (entries_of worker.new.shift) worker.new.pass worker.new.kit.now }
 {
+    let _ = first;
     let Worker {
         pass,
-        tally,
+        count,
+        shift,
         share,
         kit,
     } = worker;
@@ -227,40 +225,50 @@ fn turn<B: Booked, L: Listener, Q: Serves<B>, N: Doorway, W: Wait>(
     let Some((input, output)) = next else {
         return false;
     };
-    kit.serve(rt, alloc, desk, pass, tally, input, output);
+    let connection = kit.serve::<L, W>(rt, alloc, desk, pass, input, output);
+    shift.add(connection);
+    *count += 1;
     true
 }
 
-/// Joins every pass, and adds every tally.
-pub(crate) fn join_all<'k, L: Listener, B: Booked, Q, N: Doorway>(
+/// Joins every pass, and adds every count.
+pub(crate) fn join_all<'k, L: Listener, B: Booked, Q: Serves<B>, N: Doorway>(
     desk: &Desk<B>,
+    first: &Snapshot<Pass<B>>,
     pass: &mut Pass<B>,
     mut workers: Vec<Worker<'k, B, L, Q, N>>,
     taken: &mut ledger::Book<N>,
     all: &mut Share<N>,
-) -> Tally<L>
+) -> Tally<Pass<B>, Q, L::In, L::Out>
     requires of { pass.old.of ≡ desk.now }
+    requires others { (pass.old.others ≡ Some (length workers.items)) × (pass.old.alone ≡ only pass.old.others) }
     requires workers { All (λ w. w.pass.of ≡ desk.now) workers.items }
+    requires shift { All (λ w. IsShift L.are_sides Q.ends L.In.left L.Out.held (split_from first.now.value) (entries_of w.shift) w.pass w.kit.now) workers.items }
     requires none { all.old.amount ≡ 0 }
     requires whole { all.old.parts + length workers.items ≡ N.parts }
     requires fits { taken.old.total < 2 ^ 64 }
     ensures of { (pass.new.of ≡ pass.old.of) × (pass.new.base ≡ pass.old.base) }
     ensures begins { IsPrefix pass.old.seen pass.new.seen }
     ensures counted { pass.old.faults ≤ pass.new.faults }
-    ensures total { result ≡ taken.old.total }
+    ensures alone { pass.new.alone ≡ true }
+    ensures mine { pass.new.mine ≡ all_own (split_from first.now.value) pass.old.mine (shifts_of result) }
+    ensures shifts { All (λ cs. IsWhole L.are_sides Q.ends L.In.left L.Out.held (split_from first.now.value) cs) (shifts_of result) }
+    ensures total { (result.count ≡ taken.old.total) × (count_of (shifts_of result) ≡ result.count) }
 {
+    let _ = first;
     let mut tally = Tally::new();
     while let Some(worker) = workers.pop() {
         let Worker {
             pass: own,
-            tally: served,
+            count,
+            shift,
             share,
             kit: _,
         } = worker;
         desk.join(pass, own);
         all.merge(share);
         taken.audit(all);
-        tally.add(served);
+        tally.add(count, shift);
     }
     taken.audit(all);
     tally

@@ -1,0 +1,12 @@
+use Rattle.keeper.specs.Pasts.{entries_of}
+use Rattle.hub_serve.specs.Shifts.{split_from}
+use Rattle.hub_serve.proofs.ShiftLemmas.{shift_push}
+use Rattle.hub_serve.proofs.workers.turn.Goals as goal
+
+pub returns-clause-shift : goal.returns-clause-shift
+returns-clause-shift g c =
+    let worker = c.args.worker.now in
+    let served = c.serve-connection in
+    shift_push g.L.Listener.are_sides g.Q.Serves.ends g.L.In.Source.left g.L.Out.Sink.held (split_from c.args.first.now.value) (entries_of worker.shift) worker.pass
+    worker.kit.now served.result served.new.pass served.new.self c.requires.shift served.ensures.before.0 served.ensures.before.1 served.ensures.after.0
+    served.ensures.after.1 served.ensures.served (entries_of c.add.new.self) c.add.ensures

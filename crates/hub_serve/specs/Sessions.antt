@@ -1,0 +1,89 @@
+-- What is told of the connections that were served.
+use Rattle.std.specs.Prelude.{◌≡◌, ℕ, List, [], ◌∷◌, map, flat_map, drop, length, All, Option, Some, Result}
+use Rattle.desk.specs.Passes.{PassState}
+use Rattle.desk.specs.OwnEntries.{placed, merged}
+use Rattle.http_wire.specs.declared.error.SessionFault.{SessionFault}
+use Rattle.hub_devices.specs.declared.calls.Spawning.{Spawning}
+use Rattle.hub_devices.specs.declared.calls.Routing.{Routing}
+use Rattle.hub_devices.specs.declared.calls.Told.{Told}
+use Rattle.hub_core.specs.Visits.{Entry}
+use Rattle.hub_core.specs.Views.{View, view_of}
+use Rattle.hub_core.specs.declared.kit.HubKit.{HubKit}
+use Rattle.hub_core.specs.declared.start.Start.{Start}
+use Rattle.hub_run.specs.Connections.{ConnectionEnds}
+use Rattle.hub_run.specs.declared.served.Served.{Served}
+use Rattle.hub_serve.specs.Shifts.{count_of, split_from, shifts_of}
+use Rattle.hub_serve.specs.declared.tally.Connection.{Connection}
+use Rattle.hub_serve.specs.declared.tally.Tally.{Tally}
+
+-- a connection that was served: what its worker's pass and devices told, the bytes to come from its source and those that its sink held,
+-- each before and after it; and how it ended
+pub record Session : Type 0 where
+  pub before : View
+  pub left : Option (List ℕ)
+  pub held : Option (List ℕ)
+  pub after : View
+  pub left_after : Option (List ℕ)
+  pub held_after : Option (List ℕ)
+  pub ended : Result Served SessionFault
+
+-- it ended as connections do for a book that began with `start`
+abbrev pub EndsOver : Start → Session → Type 0
+EndsOver start s = ConnectionEnds start s.before s.left s.held s.after s.left_after s.held_after s.ended
+
+-- what the pass's own entries grew by, each with its place
+abbrev pub gained : Session → List (ℕ × Entry)
+gained s = drop (length s.before.pass.mine) s.after.pass.mine
+
+-- these came behind that one, each where the one before it had left the pass and the devices
+abbrev pub GoOn : Session → List Session → Type 0
+GoOn s [] = Unit {0}
+GoOn s (t ∷ ts) = (t.before ≡ s.after) × GoOn t ts
+
+-- all of a worker, whose pass was split off the pass p
+abbrev pub GoFrom : PassState Entry Start → List Session → Type 0
+GoFrom p [] = Unit {0}
+GoFrom p (s ∷ ss) = (s.before.pass ≡ split_from p) × GoOn s ss
+
+-- own entries, with all that these workers gained, in the order of their places
+abbrev pub with_gains : List (ℕ × Entry) → List (List Session) → List (ℕ × Entry)
+with_gains mine [] = mine
+with_gains mine (ss ∷ rest) = with_gains (merged mine (flat_map gained ss)) rest
+
+-- for each worker the connections that it served, so many in all. Each ended as it has to, and the book has the entries that the pass p had
+-- made of it before and those that they gained, each at its place, and no other
+pub record AreServed (start : Start) (p : PassState Entry Start) (entries : List Entry) (number : ℕ) (workers : List (List Session)) : Type 0 where
+  pub count : count_of workers ≡ number
+  pub each : All (λ ss. All (EndsOver start) ss) workers
+  pub follow : All (GoFrom p) workers
+  pub whole : placed 0 entries ≡ with_gains p.mine workers
+
+-- ---- as plain values
+
+-- how a connection ended, by the pass and the kit before and after it, and by the bytes to come and those that were written
+abbrev pub HasEnded : {S P C R : Type 0} → (C → Option (ℕ → ℕ)) → (R → Option (List (List ℕ))) → (S → Option (List (Spawning × Told))) → (P → Option (List (Routing × Told)))
+    → (R → ℕ) → (S → ℕ) → (P → ℕ) → PassState Entry Start → HubKit S P C R → Option (List ℕ) → Option (List ℕ)
+    → PassState Entry Start → HubKit S P C R → Option (List ℕ) → Option (List ℕ) → Result Served SessionFault → Type 0
+HasEnded to_come draws spawned linked draw_faults spawn_faults route_faults p k left held q k' left' held' ended = (start : Start) → p.base ≡ Some start
+    → ConnectionEnds start (view_of to_come draws spawned linked draw_faults spawn_faults route_faults p k) left held
+    (view_of to_come draws spawned linked draw_faults spawn_faults route_faults q k') left' held' ended
+
+module _ {S P C R I O : Type 0} (to_come : C → Option (ℕ → ℕ)) (draws : R → Option (List (List ℕ))) (spawned : S → Option (List (Spawning × Told)))
+    (linked : P → Option (List (Routing × Told))) (draw_faults : R → ℕ) (spawn_faults : S → ℕ) (route_faults : P → ℕ)
+    (left : I → Option (List ℕ)) (held : O → Option (List ℕ)) where
+  abbrev view : PassState Entry Start → HubKit S P C R → View
+  view = view_of to_come draws spawned linked draw_faults spawn_faults route_faults
+
+  abbrev pub session_of : Connection (PassState Entry Start) (HubKit S P C R) I O → Session
+  session_of c = record {
+    before = view c.before.pass.value c.before.kit.value;
+    left = left c.before.input.value;
+    held = held c.before.output.value;
+    after = view c.after.pass.value c.after.kit.value;
+    left_after = left c.after.input.value;
+    held_after = held c.after.output.value;
+    ended = c.ended;
+  }
+
+  abbrev pub sessions_of : Tally (PassState Entry Start) (HubKit S P C R) I O → List (List Session)
+  sessions_of tally = map (λ cs. map session_of cs) (shifts_of tally)
