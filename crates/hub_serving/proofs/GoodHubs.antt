@@ -51,9 +51,9 @@ serves_good connections h h' (Err why) doors output serves = wanting connections
 
 -- ---- the book
 
-module _ {K : Type 0} (Tells : K → Type 0) (rows : K → Rows) (faults : K → ℕ) where
+module _ {K : Type 0} (Tells : K → Type 0) (rows : K → Rows) (faults : K → ℕ) (Sides : Option (List ℕ) → Option (List ℕ) → Type 0) where
   over_good : (start : Start) (counts : ℕ) (plan : Plan) (h h' : Hall) (k' : K) (end : End) → Stands h.doors.faults h'.doors.faults
-      → Stands h.output.faults h'.output.faults → EndsOver Tells rows faults start counts plan h h' k' end → IsWell plan.connections end
+      → Stands h.output.faults h'.output.faults → EndsOver Tells rows faults Sides start counts plan h h' k' end → IsWell plan.connections end
   over_good start counts plan h h' k' end doors output (inl left) = wanting plan.connections end left.wanting
   over_good start counts plan h h' k' end doors output (inr (table, inl left)) = wanting plan.connections end left.wanting
   over_good start counts plan h h' k' end doors output (inr (table, inr by)) =
@@ -61,24 +61,25 @@ module _ {K : Type 0} (Tells : K → Type 0) (rows : K → Rows) (faults : K →
 
 -- ---- the whole
 
-module _ {K : Type 0} (Tells : K → Type 0) (rows : K → Rows) (faults : K → ℕ) (Chooses : K → Option (List ℕ) → K → Type 0) where
+module _ {K : Type 0} (Tells : K → Type 0) (rows : K → Rows) (faults : K → ℕ) (Sides : Option (List ℕ) → Option (List ℕ) → Type 0)
+    (Chooses : K → Option (List ℕ) → K → Type 0) where
   -- the count of the chosen store stands between
   stands : (k chosen k' : K) → Stands (faults k) (faults k') → faults k ≤ faults chosen → faults chosen ≤ faults k' → Stands (faults chosen) (faults k')
   stands k chosen k' all less more =
       let below = all.0 in let low = all.1 in (omega (arith, less, more, below, low), omega (arith, less, more, below, low))
 
   at_good : (plan : Plan) (h h' : Hall) (k k' : K) (end : End) → IsGood rows Chooses plan h.clock k → Tells k' → NoneRose faults h h' k k'
-      → (at : EndsAt Tells rows faults Chooses plan h h' k k' end)
-      → EndsChosen Tells rows faults plan at.now (record h { clock = at.later }) h' at.chosen k' end → IsWell plan.connections end
+      → (at : EndsAt Tells rows faults Sides Chooses plan h h' k k' end)
+      → EndsChosen Tells rows faults Sides plan at.now (record h { clock = at.later }) h' at.chosen k' end → IsWell plan.connections end
   at_good plan h h' k k' end good told none at (inl (cause, is, unopened, left)) =
       because plan.connections end cause is
       (unopened_good Tells rows faults plan.hub at.now at.chosen k' cause told (stands k at.chosen k' none.store at.chooses.counted at.counted)
       (good at.chosen at.now at.later at.chooses.chooses at.moment) unopened)
   at_good plan h h' k k' end good told none at (inr ends) =
-      over_good Tells rows faults ends.0 ends.1 plan (record h { clock = at.later }) h' k' end none.doors none.output ends.3
+      over_good Tells rows faults Sides ends.0 ends.1 plan (record h { clock = at.later }) h' k' end none.doors none.output ends.3
 
   planned_good : (plan : Plan) (h h' : Hall) (k k' : K) (end : End) → IsGood rows Chooses plan h.clock k → Tells k' → NoneRose faults h h' k k'
-      → EndsPlanned Tells rows faults Chooses plan h h' k k' end → IsWell plan.connections end
+      → EndsPlanned Tells rows faults Sides Chooses plan h h' k k' end → IsWell plan.connections end
   planned_good plan h h' k k' end good told none (inl (cause, is, unchosen, left)) =
       because plan.connections end cause is (chosen_good (faults k) (faults k') cause none.store unchosen)
   planned_good plan h h' k k' end good told none (inr at) = at_good plan h h' k k' end good told none at at.ends
@@ -90,6 +91,6 @@ module _ {K : Type 0} (Tells : K → Type 0) (rows : K → Rows) (faults : K →
 
   pub run_good : (plan : Plan) (h h' : Hall) (k k' : K) (told : Option End) (status : ℕ)
       → IsGood rows Chooses plan h.clock k → Tells k' → NoneRose faults h h' k k'
-      → RunEnds Tells rows faults Chooses plan h h' k k' told status → EndsWell plan told status
+      → RunEnds Tells rows faults Sides Chooses plan h h' k k' told status → EndsWell plan told status
   run_good plan h h' k k' told status good tells none ends =
       ends_well plan ends.0 told status ends.1 ends.3 (planned_good plan h h' k k' ends.0 good tells none ends.2)

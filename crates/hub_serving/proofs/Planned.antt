@@ -64,23 +64,24 @@ wanting_plan (Some words) files = tt
 same : {K : Type 0} (a b : K) → Some a ≡ Some b → a ≡ b
 same a b is = cc
 
-module _ {K : Type 0} (Tells : K → Type 0) (rows : K → Rows) (faults : K → ℕ) where
+module _ {K : Type 0} (Tells : K → Type 0) (rows : K → Rows) (faults : K → ℕ) (Sides : Option (List ℕ) → Option (List ℕ) → Type 0) where
   -- what follows over the book
   pub ends_over : (plan : Plan) (now : ℕ) (history : Option (List Change)) (h h' : Hall) (k k' : K) (b : Standing) (end : End)
       → Opens plan.hub now history (rows k) (faults k) b → is_some history ≡ true → (Tells k' → IsTrue b.start.has_rows)
-      → EndsOver Tells rows faults b.start b.faults plan h h' k' end → EndsChosen Tells rows faults plan now h h' k k' end
+      → EndsOver Tells rows faults Sides b.start b.faults plan h h' k' end → EndsChosen Tells rows faults Sides plan now h h' k k' end
   ends_over plan now history h h' k k' b end opened trail had over =
       inr (b.start, b.faults, opened_by_end Tells rows faults plan.hub now history k k' b opened trail had, over)
 
-module _ {K : Type 0} (Tells : K → Type 0) (rows : K → Rows) (faults : K → ℕ) (Chooses : K → Option (List ℕ) → K → Type 0) where
+module _ {K : Type 0} (Tells : K → Type 0) (rows : K → Rows) (faults : K → ℕ) (Sides : Option (List ℕ) → Option (List ℕ) → Type 0)
+    (Chooses : K → Option (List ℕ) → K → Type 0) where
   -- the store was taken from the outside and put back
   pub run_ends : (plan : Plan) (h h' : Hall) (taken back k k' : K) (end : End) (status : ℕ)
-      → EndsPlanned Tells rows faults Chooses plan h h' taken back end → status ≡ status_of end → Some taken ≡ Some k → Some back ≡ Some k'
-      → RunEnds Tells rows faults Chooses plan h h' k k' (Some end) status
+      → EndsPlanned Tells rows faults Sides Chooses plan h h' taken back end → status ≡ status_of end → Some taken ≡ Some k → Some back ≡ Some k'
+      → RunEnds Tells rows faults Sides Chooses plan h h' k k' (Some end) status
   run_ends plan h h' taken back k k' end status ends is before after = (
     end,
     refl,
-    subst (λ (x : K). EndsPlanned Tells rows faults Chooses plan h h' x k' end) (same taken k before)
-        (subst (λ (x : K). EndsPlanned Tells rows faults Chooses plan h h' taken x end) (same back k' after) ends),
+    subst (λ (x : K). EndsPlanned Tells rows faults Sides Chooses plan h h' x k' end) (same taken k before)
+        (subst (λ (x : K). EndsPlanned Tells rows faults Sides Chooses plan h h' taken x end) (same back k' after) ends),
     is,
   )

@@ -12,7 +12,7 @@ use Rattle.hub_serving.specs.declared.plan.Plan.{Plan}
 use Rattle.hub_serving.specs.declared.end.NotServed.TheVariants.{Because}
 
 -- of stores of a kind that tells of each whether its rows are told, its rows and its count of faults: the store k, which is k' at the end
-module _ {K : Type 0} (Tells : K → Type 0) (rows : K → Rows) (faults : K → ℕ) where
+module _ {K : Type 0} (Tells : K → Type 0) (rows : K → Rows) (faults : K → ℕ) (Sides : Option (List ℕ) → Option (List ℕ) → Type 0) where
   -- nothing was written, accepted or called, and the store has the rows that it had
   pub record IsLeft (h h' : Hall) (k k' : K) : Type 0 where
     pub quiet : IsQuiet h h'
@@ -31,13 +31,14 @@ module _ {K : Type 0} (Tells : K → Type 0) (rows : K → Rows) (faults : K →
   abbrev pub EndsOpened : Plan → (now : ℕ) → Hall → Hall → K → K → End → Type 0
   EndsOpened plan now h h' k k' end =
       (start : Start) × (counted : ℕ) × IsOpened plan.hub now (Tells k') (rows k) (faults k) start counted
-      × EndsOver Tells rows faults start counted plan h h' k' end
+      × EndsOver Tells rows faults Sides start counted plan h h' k' end
 
   -- what follows the choice of the store
   abbrev pub EndsChosen : Plan → (now : ℕ) → Hall → Hall → K → K → End → Type 0
   EndsChosen plan now h h' k k' end = EndsUnopened plan now h h' k k' end ⊎ EndsOpened plan now h h' k k' end
 
-module _ {K : Type 0} (Tells : K → Type 0) (rows : K → Rows) (faults : K → ℕ) (Chooses : K → Option (List ℕ) → K → Type 0) where
+module _ {K : Type 0} (Tells : K → Type 0) (rows : K → Rows) (faults : K → ℕ) (Sides : Option (List ℕ) → Option (List ℕ) → Type 0)
+    (Chooses : K → Option (List ℕ) → K → Type 0) where
   -- over the store that the choice of its place left, at the moment that the clock gave then
   pub record EndsAt (plan : Plan) (h h' : Hall) (k k' : K) (end : End) : Type 0 where
     pub chosen : K
@@ -46,11 +47,11 @@ module _ {K : Type 0} (Tells : K → Type 0) (rows : K → Rows) (faults : K →
     pub now : ℕ
     pub later : Option (ℕ → ℕ)
     pub moment : moments.Tells h.clock now later
-    pub ends : EndsChosen Tells rows faults plan now (record h { clock = later }) h' chosen k' end
+    pub ends : EndsChosen Tells rows faults Sides plan now (record h { clock = later }) h' chosen k' end
 
   -- what follows the plan: the store takes its place, or it doesn't
   abbrev pub EndsPlanned : Plan → Hall → Hall → K → K → End → Type 0
-  EndsPlanned plan h h' k k' end = EndsUnchosen Tells rows faults h h' k k' end ⊎ EndsAt plan h h' k k' end
+  EndsPlanned plan h h' k k' end = EndsUnchosen Tells rows faults Sides h h' k k' end ⊎ EndsAt plan h h' k k' end
 
   -- how the command ended, as it is told at the end, and the status of that
   abbrev pub RunEnds : Plan → Hall → Hall → K → K → (told : Option End) → (status : ℕ) → Type 0

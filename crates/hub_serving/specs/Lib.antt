@@ -6,3 +6,4 @@ pub mod Served
 pub mod Commands
 pub mod Law
 pub mod Good
+pub mod Histories

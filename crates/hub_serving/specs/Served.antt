@@ -1,5 +1,5 @@
 -- What is done over an opened book: running servers are taken back, the routes are brought into step, and connections are served.
-use Rattle.std.specs.Prelude.{◌≡◌, ◌==◌, ◌⊎◌, ℕ, ◌≤◌, ◌<◌, ◌^◌, true, not, List, [], map, length, Option, Result, Ok, Err}
+use Rattle.std.specs.Prelude.{◌≡◌, ◌==◌, ◌⊎◌, ℕ, ◌≤◌, ◌<◌, ◌^◌, true, not, List, [], map, length, All, Option, Result, Ok, Err}
 use mathlib.Core.List.{IsPrefix}
 use Rattle.atomic_table.specs.Seated.{TableId}
 use Rattle.desk.specs.Passes.{PassState, IsSamePass, opening}
@@ -20,6 +20,7 @@ use Rattle.hub_sync.specs.declared.calls.Synced.{Synced}
 use Rattle.hub_sync.specs.declared.calls.SyncFault.{SyncFault}
 use Rattle.hub_sync.specs.declared.calls.SyncFault.TheVariants as sync
 use Rattle.hub_serve.specs.Given.{Gave}
+use Rattle.hub_serve.specs.Sessions.{AreServed, Session}
 use Rattle.hub_main.specs.Served.{HasKept}
 use Rattle.hub_main.specs.declared.cause.Cause.TheVariants.{Memory}
 use Rattle.hub_serving.specs.Hall.{Hall, IsQuiet, IsUnserved, at_view, view_in}
@@ -72,14 +73,27 @@ Attends managed h h' end =
     ((length managed < 2 ^ 32) × ∥ Attended (map service_of managed) h.services h.doors.given h'.services h'.doors.given ∥₁)
     ⊎ ((end ≡ Err (Because Memory)) × (h'.services ≡ h.services))
 
-module _ {K : Type 0} (Tells : K → Type 0) (rows : K → Rows) (faults : K → ℕ) where
-  -- Connections were served by passes that had seen these entries, and the services tended; and the store has exactly the rows of the state
-  -- that the last entries left
-  pub record EndsReady (start : Start) (seen : List Entry) (plan : Plan) (h h' : Hall) (k' : K) (end : End) : Type 0 where
+-- each of these began with what the two sides of a connection tell when the listener gives it
+abbrev pub AreGiven : (Option (List ℕ) → Option (List ℕ) → Type 0) → List (List Session) → Type 0
+AreGiven Sides workers = All (λ ss. All (λ s. Sides s.left s.held) ss) workers
+
+-- how many connections were served
+abbrev pub served_by : End → ℕ
+served_by (Ok end) = end.count
+served_by (Err why) = 0
+
+-- with such sides of connections
+module _ {K : Type 0} (Tells : K → Type 0) (rows : K → Rows) (faults : K → ℕ) (Sides : Option (List ℕ) → Option (List ℕ) → Type 0) where
+  -- Connections were served, as many as are told, by workers whose passes were split off this one, and the services tended. The history is what
+  -- the pass had made of it and what these connections gained, and no more; and the store has exactly the rows of the state that it left
+  pub record EndsReady (start : Start) (pass : PassState Entry Start) (plan : Plan) (h h' : Hall) (k' : K) (end : End) : Type 0 where
     pub serves : Serves plan.connections h h' end
     pub services : Attends plan.managed h h' end
     pub entries : List Entry
-    pub begins : IsPrefix seen entries
+    pub begins : IsPrefix pass.seen entries
+    pub workers : List (List Session)
+    pub are : AreServed start pass entries (served_by end) workers
+    pub given : AreGiven Sides workers
     pub kept : HasKept Tells rows faults start entries k'
 
   -- the routes were brought into step, as far as the link didn't fail, and then connections were served; or memory was wanting for that
@@ -88,7 +102,7 @@ module _ {K : Type 0} (Tells : K → Type 0) (rows : K → Rows) (faults : K →
     pub synced : View
     pub syncs : Syncs start plan.hub.hub_url (view_in pass h) answer synced
     pub wanting : answer ≡ Err sync.Memory → end ≡ Err (Because Memory)
-    pub ends : EndsReady start synced.pass.seen plan (at_view h synced) h' k' end
+    pub ends : EndsReady start synced.pass plan (at_view h synced) h' k' end
 
   -- from the view x on the servers that were being adopted were taken back, and then the routes brought into step and connections served
   pub record EndsBy (start : Start) (x : View) (plan : Plan) (h h' : Hall) (k' : K) (end : End) : Type 0 where

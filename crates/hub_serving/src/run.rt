@@ -4,7 +4,7 @@ ghost use Rattle.hub_config.specs.Managed.{are_distinct};
 ghost use Rattle.hub_opening.specs.Kept.{MakeTable};
 ghost use Rattle.hub_serving.specs.Commands as spec;
 ghost use Rattle.hub_main.specs.Told.{files_told};
-ghost use Rattle.hub_serving.specs.Hall.{hall};
+ghost use Rattle.hub_serving.specs.Hall.{SidesTell, hall};
 ghost use Rattle.hub_serving.specs.Plans.{IsPlanOf};
 ghost use Rattle.hub_words.specs.Serve.{serve_read};
 
@@ -38,7 +38,7 @@ fn run_over<W: ServeWorld, T: Trail<Entry = Change> + Send, R: Threads + Wait + 
     requires scopes { MakeTable plan.now.hub.custom_scopes }
     requires apart { are_distinct plan.now.managed ≡ true }
     requires kits { 0 < length outside.old.kits.items }
-    ensures ends { spec.EndsChosen W.Store.Tells W.Store.rows W.Store.faults plan.now now
+    ensures ends { spec.EndsChosen W.Store.Tells W.Store.rows W.Store.faults (SidesTell W.Doors.are_sides W.Doors.In.left W.Doors.Out.held) plan.now now
         (hall W.Out.held W.Out.faults W.Doors.given W.Doors.faults W.Time.to_come W.Draws.left W.Starts.calls W.Paths.calls W.Draws.faults W.Starts.faults W.Paths.faults W.Runs.calls W.Runs.faults outside.old.output outside.old.doors outside.old.kit outside.old.services)
         (hall W.Out.held W.Out.faults W.Doors.given W.Doors.faults W.Time.to_come W.Draws.left W.Starts.calls W.Paths.calls W.Draws.faults W.Starts.faults W.Paths.faults W.Runs.calls W.Runs.faults outside.new.output outside.new.doors outside.new.kit outside.new.services) store result.1 result.0 }
     ensures counted { W.Store.faults store ≤ W.Store.faults result.1 }
@@ -63,7 +63,7 @@ fn run_at<W: ServeWorld, R: Threads + Wait + Sync>(
     requires scopes { MakeTable plan.now.hub.custom_scopes }
     requires apart { are_distinct plan.now.managed ≡ true }
     requires kits { 0 < length outside.old.kits.items }
-    ensures ends { spec.EndsChosen W.Store.Tells W.Store.rows W.Store.faults plan.now now
+    ensures ends { spec.EndsChosen W.Store.Tells W.Store.rows W.Store.faults (SidesTell W.Doors.are_sides W.Doors.In.left W.Doors.Out.held) plan.now now
         (hall W.Out.held W.Out.faults W.Doors.given W.Doors.faults W.Time.to_come W.Draws.left W.Starts.calls W.Paths.calls W.Draws.faults W.Starts.faults W.Paths.faults W.Runs.calls W.Runs.faults outside.old.output outside.old.doors outside.old.kit outside.old.services)
         (hall W.Out.held W.Out.faults W.Doors.given W.Doors.faults W.Time.to_come W.Draws.left W.Starts.calls W.Paths.calls W.Draws.faults W.Starts.faults W.Paths.faults W.Runs.calls W.Runs.faults outside.new.output outside.new.doors outside.new.kit outside.new.services) store result.1 result.0 }
     ensures counted { W.Store.faults store ≤ W.Store.faults result.1 }
@@ -88,7 +88,7 @@ fn run_planned<W: ServeWorld, R: Threads + Wait + Sync>(
     requires scopes { MakeTable plan.now.hub.custom_scopes }
     requires apart { are_distinct plan.now.managed ≡ true }
     requires kits { 0 < length outside.old.kits.items }
-    ensures ends { spec.EndsPlanned W.Store.Tells W.Store.rows W.Store.faults W.Store.Chooses plan.now
+    ensures ends { spec.EndsPlanned W.Store.Tells W.Store.rows W.Store.faults (SidesTell W.Doors.are_sides W.Doors.In.left W.Doors.Out.held) W.Store.Chooses plan.now
         (hall W.Out.held W.Out.faults W.Doors.given W.Doors.faults W.Time.to_come W.Draws.left W.Starts.calls W.Paths.calls W.Draws.faults W.Starts.faults W.Paths.faults W.Runs.calls W.Runs.faults outside.old.output outside.old.doors outside.old.kit outside.old.services)
         (hall W.Out.held W.Out.faults W.Doors.given W.Doors.faults W.Time.to_come W.Draws.left W.Starts.calls W.Paths.calls W.Draws.faults W.Starts.faults W.Paths.faults W.Runs.calls W.Runs.faults outside.new.output outside.new.doors outside.new.kit outside.new.services) store result.1 result.0 }
     ensures counted { W.Store.faults store ≤ W.Store.faults result.1 }
@@ -106,11 +106,12 @@ fn run_planned<W: ServeWorld, R: Threads + Wait + Sync>(
 /// put back at the end, whatever the status. Words and file stand here so that the plan has to be theirs: nothing is read of either again.
 ///
 /// The status is 3 where a name in a list is neither kept nor configured, where a running server has a target that the pool hasn't, or a
-/// table would pass its limit; 4 where the store doesn't take its place, fails at opening, or has a row that doesn't read; 7 where memory is
-/// wanting before the first connection. Nothing is accepted or written then. Otherwise running servers were taken back, the routes were
-/// brought into step unless their link failed, the services were tended and stopped, the line `served N` is written, and the rows are those
-/// of the last state of the history. The status is then 0 where as many connections were served as the words ask for, 8 where the listener
-/// failed before that, 6 where the output failed, and 7 where memory was wanting for the line.
+/// table would pass its limit; 4 where the store doesn't take its place, fails at opening, or has a row that doesn't read; 7 where memory
+/// is wanting before the first connection. Nothing is accepted or written then. Otherwise running servers were taken back, the routes were
+/// brought into step unless their link failed, the services were tended and stopped, the line `served N` is written, and the history has
+/// what these servers and these connections gained and nothing else; the rows are those of its last state. The status is then 0 where as
+/// many connections were served as the words ask for, 8 where the listener failed before that, 6 where the output failed, and 7 where
+/// memory was wanting for the line.
 pub fn run<F: Files, W: ServeWorld, R: Threads + Wait + Sync>(
     rt: &R,
     alloc: Global,
@@ -123,7 +124,7 @@ pub fn run<F: Files, W: ServeWorld, R: Threads + Wait + Sync>(
     requires store { IsSome outside.old.store }
     requires kits { 0 < length outside.old.kits.items }
     ensures store { IsSome outside.new.store }
-    ensures ends { (k k' : W.Store) → outside.old.store ≡ Some k → outside.new.store ≡ Some k' → spec.RunEnds W.Store.Tells W.Store.rows W.Store.faults W.Store.Chooses plan.now
+    ensures ends { (k k' : W.Store) → outside.old.store ≡ Some k → outside.new.store ≡ Some k' → spec.RunEnds W.Store.Tells W.Store.rows W.Store.faults (SidesTell W.Doors.are_sides W.Doors.In.left W.Doors.Out.held) W.Store.Chooses plan.now
         (hall W.Out.held W.Out.faults W.Doors.given W.Doors.faults W.Time.to_come W.Draws.left W.Starts.calls W.Paths.calls W.Draws.faults W.Starts.faults W.Paths.faults W.Runs.calls W.Runs.faults outside.old.output outside.old.doors outside.old.kit outside.old.services)
         (hall W.Out.held W.Out.faults W.Doors.given W.Doors.faults W.Time.to_come W.Draws.left W.Starts.calls W.Paths.calls W.Draws.faults W.Starts.faults W.Paths.faults W.Runs.calls W.Runs.faults outside.new.output outside.new.doors outside.new.kit outside.new.services) k k' outside.new.end result }
     ensures counted { (k k' : W.Store) → outside.old.store ≡ Some k → outside.new.store ≡ Some k' → W.Store.faults k ≤ W.Store.faults k' }

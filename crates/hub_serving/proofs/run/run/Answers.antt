@@ -13,5 +13,5 @@ run_planned-end-requires-clause-apart g c κs within = plan_apart _ _ c.args.pla
 
 pub returns-clause-ends : goal.returns-clause-ends
 returns-clause-ends g c = λ k k' before after.
-    run_ends _ _ _ _ _ _ _ c.in-Some.store _ k k' _ c.status_of-status.result c.run_planned-end.ensures.ends c.status_of-status.ensures
+    run_ends _ _ _ _ _ _ _ _ c.in-Some.store _ k k' _ c.status_of-status.result c.run_planned-end.ensures.ends c.status_of-status.ensures
     (sym c.in-Some.is ∙ c.take.ensures.value ∙ before) after

@@ -9,5 +9,5 @@ open_book-requires-clause-empty g c =
 
 pub returns-in-Ok-clause-ends : goal.returns-in-Ok-clause-ends
 returns-in-Ok-clause-ends g c =
-    ends_over _ _ _ c.args.plan.now c.args.now (g.T.Trail.told c.args.trail) _ _ c.args.store _ c.in-Ok.book _
+    ends_over _ _ _ _ c.args.plan.now c.args.now (g.T.Trail.told c.args.trail) _ _ c.args.store _ c.in-Ok.book _
     c.in-Ok.ensures.ok (ap is_some c.requires.empty) c.serve_book.ensures.had c.serve_book.ensures.ends

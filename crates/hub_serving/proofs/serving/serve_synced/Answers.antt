@@ -29,8 +29,8 @@ returns-then-is_wanting-clause-ends g c = λ start base.
     let asked : option_copied c.as_ref-hub.result ≡ c.args.plan.now.hub.hub_url = search rules in
     let syncs = in_step start c.args.plan.now.hub.hub_url (option_copied c.as_ref-hub.result) (view_in c.args.pass before) synced c.sync_routes-answer.result asked
     s.same s.comes s.mine s.failed (s.told start base) s.counted s.cause refl refl refl refl refl in
-    unsynced _ _ _ start c.sync_routes-answer.new.pass.base c.args.pass synced c.sync_routes-answer.result c.args.plan.now before _ c.close.result syncs
-    c.close.ensures.begins c.close.ensures.base (s.same.1 ∙ base) c.into_parts-store.ensures.reached c.into_parts-store.ensures.rows
+    unsynced _ _ _ _ start c.args.pass synced c.sync_routes-answer.result c.args.plan.now before _ c.close.result syncs
+    (s.same.2 ∙ c.requires.alone) c.close.ensures.begins c.close.ensures.whole c.close.ensures.own c.close.ensures.base (s.same.1 ∙ base) c.into_parts-store.ensures.reached c.into_parts-store.ensures.rows
 
 pub returns-clause-ends : goal.returns-clause-ends
 returns-clause-ends g c = λ start base.
@@ -57,7 +57,7 @@ returns-clause-ends g c = λ start base.
     let asked : option_copied c.as_ref-hub.result ≡ c.args.plan.now.hub.hub_url = search rules in
     let syncs = in_step start c.args.plan.now.hub.hub_url (option_copied c.as_ref-hub.result) (view_in c.args.pass before) synced c.sync_routes-answer.result asked
     s.same s.comes s.mine s.failed (s.told start base) s.counted s.cause refl refl refl refl refl in
-    by_synced _ _ _ start c.args.pass synced c.sync_routes-answer.result c.is_wanting.result c.args.plan.now before _ _ _ syncs c.is_wanting.ensures
+    by_synced _ _ _ _ start c.args.pass synced c.sync_routes-answer.result c.is_wanting.result c.args.plan.now before _ _ _ syncs c.is_wanting.ensures
     c.if-is_wanting.false (c.serve_ready.ensures.ends start (s.same.1 ∙ base))
 
 pub returns-then-is_wanting-clause-counted : goal.returns-then-is_wanting-clause-counted
