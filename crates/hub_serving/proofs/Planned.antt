@@ -1,8 +1,7 @@
 -- What is true of each plan, and what follows the words.
-use Rattle.std.proofs.Common.{◌≡◌, ◌≤◌, ◌^◌, inl, inr, ℕ, Bool, true, false, ◌&&◌, IsTrue, List, Option, Some, None, is_some, Result, Ok, Err, refl, sym, ap, subst}
+use Rattle.std.proofs.Common.{◌≡◌, ◌≤◌, ◌^◌, inl, inr, ℕ, Bool, true, false, ◌&&◌, IsTrue, List, Option, Some, None, Result, Ok, Err, refl, sym, ap, subst}
 use Rattle.keeper.specs.Rows.{Rows}
 use Rattle.hub_core.specs.Visits.{Standing}
-use Rattle.hub_machine.specs.declared.change.Change.{Change}
 use Rattle.hub_config.specs.Managed.{are_distinct}
 use Rattle.hub_config.specs.declared.config.ConfigManaged.{ConfigManaged}
 use Rattle.hub_opening.specs.Kept.{MakeTable}
@@ -66,11 +65,11 @@ same a b is = cc
 
 module _ {K : Type 0} (Tells : K → Type 0) (rows : K → Rows) (faults : K → ℕ) (Sides : Option (List ℕ) → Option (List ℕ) → Type 0) where
   -- what follows over the book
-  pub ends_over : (plan : Plan) (now : ℕ) (history : Option (List Change)) (h h' : Hall) (k k' : K) (b : Standing) (end : End)
-      → Opens plan.hub now history (rows k) (faults k) b → is_some history ≡ true → (Tells k' → IsTrue b.start.has_rows)
+  pub ends_over : (plan : Plan) (now : ℕ) (h h' : Hall) (k k' : K) (b : Standing) (end : End)
+      → Opens plan.hub now (rows k) (faults k) b → (Tells k' → IsTrue b.start.has_rows)
       → EndsOver Tells rows faults Sides b.start b.faults plan h h' k' end → EndsChosen Tells rows faults Sides plan now h h' k k' end
-  ends_over plan now history h h' k k' b end opened trail had over =
-      inr (b.start, b.faults, opened_by_end Tells rows faults plan.hub now history k k' b opened trail had, over)
+  ends_over plan now h h' k k' b end opened had over =
+      inr (b.start, b.faults, opened_by_end Tells rows faults plan.hub now k k' b opened had, over)
 
 module _ {K : Type 0} (Tells : K → Type 0) (rows : K → Rows) (faults : K → ℕ) (Sides : Option (List ℕ) → Option (List ℕ) → Type 0)
     (Chooses : K → Option (List ℕ) → K → Type 0) where

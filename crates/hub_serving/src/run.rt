@@ -33,7 +33,7 @@ fn run_over<W: ServeWorld, T: Trail<Entry = Change> + Send, R: Threads + Wait + 
     store: W::Store,
     outside: &mut ServeOutside<W>,
 ) -> (End, W::Store)
-    requires empty { T.told trail ≡ Some [] }
+    requires empty { T.told trail ≡ [] }
     requires limits { plan.now.hub.limits.trail_bytes ≤ 2 ^ 62 }
     requires scopes { MakeTable plan.now.hub.custom_scopes }
     requires apart { are_distinct plan.now.managed ≡ true }
