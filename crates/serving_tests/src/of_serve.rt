@@ -3,7 +3,7 @@ use crate::check::check;
 use crate::hubs::{kit, open};
 use crate::peers::{Peer, Street};
 use crate::scene::Scene;
-use hub_serve::{ServeFault, serve};
+use hub_serve::{ServeFault, Tally, serve};
 use std::alloc::Global;
 use std::process::Abort;
 use std::sync::Wait;
@@ -166,6 +166,11 @@ const SERVINGS: [Serving; 6] = [
     },
 ];
 
+/// How many connections a tally counts. It is let go here, where what it tells of has no name.
+fn count_of<P, Q, I, O>(tally: Tally<P, Q, I, O>) -> u64 {
+    tally.count()
+}
+
 /// Whether the connections are served as they should.
 fn is_served<W: Threads + Wait + Abort + Sync>(rt: &W, alloc: Global, serving: &Serving) -> bool {
     let scene = Scene::new();
@@ -193,9 +198,10 @@ fn is_served<W: Threads + Wait + Abort + Sync>(rt: &W, alloc: Global, serving: &
         &mut kits,
         serving.connections,
     );
+    let served = count_of(tally);
     let length = book.length();
     drop(book);
-    (tally.count() == serving.served)
+    (served == serving.served)
         & (end == serving.end)
         & (length == serving.length)
         & scene.ends_at(rt, serving.stage)
