@@ -62,7 +62,9 @@ impl WireBuffer {
         requires { n ≤ length self.old }
         ensures { self.new ≡ drop n self.old }
     {
-        let _gone = self.bytes.drain(..n);
+        let left = self.bytes.len() - n;
+        self.bytes.copy_within(n.., 0);
+        self.bytes.truncate(left);
     }
 }
 
