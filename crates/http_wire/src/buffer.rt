@@ -11,7 +11,10 @@ use std::marker::Model;
 /// How many bytes a head may have, and how many a buffer keeps.
 pub const HEAD_LIMIT: usize = 16384;
 
-/// How many bytes are read at once.
+/// How many bytes are read first: most heads have no more, and the allocator hands out a piece of this size at once.
+const FIRST: usize = 1000;
+
+/// How many bytes are read at once behind those.
 const CHUNK: usize = 4096;
 
 pub struct WireBuffer {
@@ -68,6 +71,34 @@ impl WireBuffer {
     }
 }
 
+/// Reads once, by way of this piece. What came stands behind what was kept.
+fn fill_by<I: Source>(
+    input: &mut I,
+    kept: &mut WireBuffer,
+    piece: &mut [u8],
+) -> Result<usize, FillError>
+    requires room { length kept.old < 16384 }
+    requires piece { 0 < length piece.old }
+    ensures took { Took (I.left input.old) kept.old (I.left input.new) kept.new }
+    ensures count { IfOk result (λ n. length kept.new ≡ length kept.old + n) }
+    ensures end { IfOk result (λ n. n ≡ 0 → IsEnd (I.left input.new)) }
+    ensures kept { OnErr result (kept.new ≡ kept.old) }
+    ensures counted { I.faults input.old ≤ I.faults input.new }
+    ensures cause { result ≡ Err FillError.Fault → Rises (I.faults input.old) (I.faults input.new) }
+{
+    if kept.bytes.reserve(piece.len()).is_err() {
+        return Err(FillError::Memory);
+    }
+    let most = (HEAD_LIMIT - kept.bytes.len()).min(piece.len());
+    let Ok(count) = input.read(&mut piece[..most]) else {
+        return Err(FillError::Fault);
+    };
+    match kept.bytes.extend_from_slice(&piece[..count]) {
+        Ok(()) => Ok(count),
+        Err(_) => unreachable!(),
+    }
+}
+
 /// Reads once. What came stands behind what was kept.
 pub(crate) fn fill<I: Source>(input: &mut I, kept: &mut WireBuffer) -> Result<usize, FillError>
     requires { length kept.old < 16384 }
@@ -78,16 +109,9 @@ pub(crate) fn fill<I: Source>(input: &mut I, kept: &mut WireBuffer) -> Result<us
     ensures counted { I.faults input.old ≤ I.faults input.new }
     ensures cause { result ≡ Err FillError.Fault → Rises (I.faults input.old) (I.faults input.new) }
 {
-    let mut chunk = [0; CHUNK];
-    if kept.bytes.reserve(CHUNK).is_err() {
-        return Err(FillError::Memory);
-    }
-    let most = (HEAD_LIMIT - kept.bytes.len()).min(CHUNK);
-    let Ok(count) = input.read(&mut chunk[..most]) else {
-        return Err(FillError::Fault);
-    };
-    match kept.bytes.extend_from_slice(&chunk[..count]) {
-        Ok(()) => Ok(count),
-        Err(_) => unreachable!(),
+    if kept.bytes.is_empty() {
+        fill_by(input, kept, &mut [0; FIRST])
+    } else {
+        fill_by(input, kept, &mut [0; CHUNK])
     }
 }

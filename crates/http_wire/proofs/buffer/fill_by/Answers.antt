@@ -1,6 +1,6 @@
-use Rattle.std.proofs.Common.{◌≡◌, ℕ, List, ◌++◌, ◌+◌, ◌≤◌, length, take, sym, ap, ◌∙◌, arith, length-append}
+use Rattle.std.proofs.Common.{◌≡◌, ℕ, List, ◌++◌, ◌+◌, ◌≤◌, length, take, sym, ap, ◌∙◌, length-append}
 use Rattle.std.proofs.lemmas.List.{length-take-le, take-append-le}
-use Rattle.http_wire.proofs.buffer.fill.Goals as goal
+use Rattle.http_wire.proofs.buffer.fill_by.Goals as goal
 
 -- what stands behind what was kept, where the front of the chunk is what came
 behind : (n : ℕ) (kept into rest held new : List ℕ) → n ≤ length into → held ≡ kept → new ≡ held ++ take n (into ++ rest) → kept ++ take n into ≡ new
@@ -22,12 +22,3 @@ returns-clause-took g c = record {
 pub returns-clause-count : goal.returns-clause-count
 returns-clause-count g c =
     longer _ _ _ _ _ _ c.in-Ok.ensures.fits (c.reserve.ensures.items ∙ c.kept.view_is) c.in-Ok-extend_from_slice.ensures.items
-
-within : (n : ℕ) (into rest : List ℕ) → n ≤ length into → n ≤ length (into ++ rest)
-within n into rest fits = omega (arith, fits, length-append into rest)
-
-pub slice_bounds-chunk-end-2 : goal.slice_bounds-chunk-end-2
-slice_bounds-chunk-end-2 g c = within _ _ _ c.in-Ok.ensures.fits
-
-pub slice_bounds-extend_from_slice-end : goal.slice_bounds-extend_from_slice-end
-slice_bounds-extend_from_slice-end g c = sym (length-take-le _ _ (within _ _ _ c.in-Ok.ensures.fits))
