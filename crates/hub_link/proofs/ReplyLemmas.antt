@@ -10,13 +10,13 @@ use Rattle.httparse.specs.Grammar.{Field, ResponseHead, status_code}
 use Rattle.httparse.specs.Spans.{IsResponseWithin, IsResponseOf, IsResponseAt, header_bytes, name_and_value}
 use Rattle.httparse.proofs.GrammarLemmas.{response_unique}
 use Rattle.http_wire.specs.declared.decimal.Decimal.{Decimal}
-use Rattle.http_wire.specs.declared.decimal.Decimal.TheVariants.{Other}
+use Rattle.http_wire.specs.declared.decimal.Decimal.TheVariants.{Number, Other}
 use Rattle.http_wire.specs.declared.head.Header.{Header}
 use Rattle.http_wire.specs.Decimal.{number_in}
 use Rattle.http_wire.specs.Due.{number_said, length_said}
 use Rattle.http_wire.specs.Fields.{is_named, values_of}
 use Rattle.http_wire.specs.Head.{header_of, header_at}
-use Rattle.hub_link.specs.Replies.{IsReply, IsNoReply, IsLength}
+use Rattle.hub_link.specs.Replies.{IsReply, IsNoReply, IsLength, HasCome}
 
 abbrev pub header : List ℕ → List ℕ → Header
 header name value = record { name = name; value = value }
@@ -102,6 +102,17 @@ whole_reply bytes spans r within (h, at) room fits = record {
   whole = at.reads.1;
   code = at.code;
   fits = subst (λ (hs : List Header). IsLength (length_said hs) (drop r.len bytes)) (same_headers bytes (take r.headers spans) h.fields at.fields) fits;
+}
+
+-- a whole head and as many bytes as it says, where it says a number
+pub whole_by_length : (bytes : List ℕ) (spans : List HeaderSpan) (r : ResponseSpans) → IsResponseWithin bytes spans r → IsResponseOf bytes spans r → length spans ≡ 64
+    → length_said (map (header_at bytes) (take r.headers spans)) ≡ Some (Number (length (drop r.len bytes))) → HasCome bytes
+unfolding whole_reply
+whole_by_length bytes spans r within (h, at) room said = record {
+  status = r.code;
+  body = drop r.len bytes;
+  reply = whole_reply bytes spans r within (h, at) room (subst (λ (d : Option Decimal). IsLength d (drop r.len bytes)) (sym said) refl);
+  said = ap length_said (sym (same_headers bytes (take r.headers spans) h.fields at.fields)) ∙ said;
 }
 
 -- a head whose lengths don't fit what stands behind it is no reply's

@@ -30,6 +30,13 @@ pub record IsReply (bytes : List ℕ) (status : ℕ) (body : List ℕ) : Type 0 
 abbrev pub IsNoReply : List ℕ → Type 0
 IsNoReply bytes = (status : ℕ) (body : List ℕ) → ¬ (IsReply bytes status body)
 
+-- the bytes are one reply by the length that it says, so that none of it is still to come
+pub record HasCome (bytes : List ℕ) : Type 0 where
+  pub status : ℕ
+  pub body : List ℕ
+  pub reply : IsReply bytes status body
+  pub said : length_said (map header_of (IsReply.head reply).fields) ≡ Some (Number (length body))
+
 -- what bytes say as a reply: its status and its body, if they are one
 abbrev pub Says : List ℕ → Option (ℕ × List ℕ) → Type 0
 Says bytes (Some (status, body)) = IsReply bytes status body

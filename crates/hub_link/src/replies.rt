@@ -1,12 +1,13 @@
 //! One reply that is whole.
-ghost use Rattle.std.specs.Prelude.{◌≡◌, ◌++◌, ◌∷◌, [], List, ℕ, map, length, IsTrue, ◌↔◌, IfSome, IfNone, All, None, codes};
+ghost use Rattle.std.specs.Prelude.{◌≡◌, ◌++◌, ◌∷◌, [], List, ℕ, map, length, IsTrue, ◌↔◌, IfSome, IfNone, All, None, Some, true, codes};
 ghost use Rattle.std.specs.Str.{str_eq_ignore_ascii_case};
 ghost use Rattle.httparse.specs.Spans.{IsHeaderWithin};
+ghost use Rattle.http_wire.specs.declared.decimal.Decimal.TheVariants.{Number};
 ghost use Rattle.http_wire.specs.declared.head.Header.{Header};
 ghost use Rattle.http_wire.specs.Due.{number_said};
 ghost use Rattle.http_wire.specs.Due as due;
 ghost use Rattle.http_wire.specs.Head.{header_at};
-ghost use Rattle.hub_link.specs.Replies.{IsReply, IsNoReply, IsFront, IsLength};
+ghost use Rattle.hub_link.specs.Replies.{IsReply, IsNoReply, IsFront, IsLength, HasCome};
 
 use http_wire::decimal::{Decimal, number_in};
 use http_wire::heads::HEADER_LIMIT;
@@ -104,5 +105,30 @@ pub fn read_reply(bytes: &[u8]) -> Option<(u16, &[u8])>
             }
         }
         Front::Other => None,
+    }
+}
+
+/// Whether it is said that the bytes are as many as they are.
+fn is_said(said: Option<Decimal>, body: &[u8]) -> bool
+    ensures { result ≡ true → said ≡ Some (Number (length body.now)) }
+{
+    match said {
+        Some(Decimal::Number(n)) => n == body.len() as u64,
+        _ => false,
+    }
+}
+
+/// Whether the bytes are a whole reply by the length that it says, so that none of it is still to come. It is false of one that says no
+/// length, whose body ends where the connection does.
+pub fn has_come(bytes: &[u8]) -> bool
+    ensures { result ≡ true → HasCome bytes.now }
+{
+    let mut spans = [EMPTY_HEADER_SPAN; HEADER_LIMIT];
+    match find_front(bytes, &mut spans) {
+        Front::Whole(r) => {
+            let said = length_said(bytes, &spans[..r.headers]);
+            is_said(said, &bytes[r.len..])
+        }
+        Front::Other => false,
     }
 }

@@ -10,14 +10,15 @@ use hub_edge::targets::connect;
 use hub_kit::bytes::Bytes;
 use hub_kit::target::Target;
 use hub_link::link::HubLink;
+use hub_link::replies::has_come;
 use std::io::{self, ErrorKind};
 use std::time::{Duration, Instant};
 
 /// How many bytes are read at once.
 const PIECE: usize = 4096;
 
-/// Asks the hub at a target, by a connection for each request. A reply ends where the hub ends the connection, so each request
-/// has to wish that.
+/// Asks the hub at a target, by a connection for each request. A reply ends where its length says, or where the hub ends the
+/// connection, so each request has to wish that.
 pub struct SocketHub {
     rt: HostRuntime,
     target: Target,
@@ -59,7 +60,7 @@ impl SocketHub {
     }
 }
 
-/// All that comes, within the limits of a reply.
+/// All that comes, within the limits of a reply. Where what came is a whole reply by the length that it says, its end isn't waited for.
 fn read_to_end(rt: &HostRuntime, input: &mut SocketSource) -> io::Result<Bytes> {
     let begun = Instant::now(rt)?;
     let limit = Duration::from_secs(REPLY_SECONDS);
@@ -80,6 +81,9 @@ fn read_to_end(rt: &HostRuntime, input: &mut SocketSource) -> io::Result<Bytes> 
             break;
         }
         reply.push_all(&piece[..count])?;
+        if has_come(reply.as_slice()) {
+            return Ok(reply);
+        }
     }
     Err(io::Error::from(ErrorKind::InvalidData))
 }
