@@ -14,6 +14,9 @@ use hub_link::replies::read_reply;
 use request_parts::body::{body_object, truth_at};
 use std::alloc::{AllocError, Global};
 
+/// How many bytes nearly all of these requests have at most.
+const ASK_ROOM: usize = 256;
+
 const ASK_FRONT: &[u8] = b"GET /hub/api/user?for=";
 
 const ASK_MIDDLE: &[u8] = b" HTTP/1.1\r\nHost: hub\r\nAuthorization: token ";
@@ -36,7 +39,7 @@ pub enum Access {
 fn access_request(alloc: Global, key: &ServerKey, token: &[u8]) -> Result<Bytes, AllocError>
     ensures { IfOk result (λ text. text ≡ spec.access_request key.now token.now) }
 {
-    let mut text = Bytes::new(alloc);
+    let mut text = Bytes::from_vec(Vec::with_capacity(alloc, ASK_ROOM)?);
     text.push_all(ASK_FRONT)?;
     text.push_all(key.user.as_bytes())?;
     text.push_all(b"/")?;
