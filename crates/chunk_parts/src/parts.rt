@@ -2,11 +2,14 @@
 ghost use Rattle.std.specs.Prelude.{◌≡◌, ◌≢◌, ◌*◌, ◌<◌, ◌≤◌, ◌-◌, ℕ, List, length};
 ghost use Rattle.chunk_parts.specs.Parts.{IsAt, IsPart, IsNoLine, is_done, after_line, after_data};
 
-use httparse::spans::{HeaderSpan, parse_headers};
+use httparse::spans::{EMPTY_HEADER_SPAN, HeaderSpan, parse_headers};
 use httparse::{Status, parse_chunk_size};
 
 /// How many bytes a size line, and how many a trailer may have.
 const PART_LIMIT: usize = 16384;
+
+/// From so many bytes on a trailer may have more than 64 headers, since each has at least three bytes.
+const LONG_TRAILER: usize = 192;
 
 /// Where a chunked body stands: what comes next.
 #[derive(Clone, Copy, Debug, PartialEq, Eq)]
@@ -117,6 +120,53 @@ fn trailer_part(bytes: &[u8], spans: &mut [HeaderSpan]) -> Part
         Ok(Status::Complete((len, _))) => Part::Whole(len, At::Done),
         Ok(Status::Partial) => unended(bytes.len()),
         Err(_) => Part::Bad,
+    }
+}
+
+/// A trailer that has few headers.
+fn short_trailer(bytes: &[u8]) -> Part
+    requires { length bytes.now < 192 }
+    ensures { IsPart At.Trailer bytes.now result }
+{
+    let mut spans = [EMPTY_HEADER_SPAN; 64];
+    trailer_part(bytes, &mut spans)
+}
+
+/// A trailer that may have many headers. Its room is 170 KiB of the stack, so it stays a function of its own: in line it would stand in the
+/// frame of every caller. Hardly a trailer is so long.
+#[inline(never)]
+fn long_trailer(bytes: &[u8]) -> Part
+    requires { length bytes.now ≤ 16384 }
+    ensures { IsPart At.Trailer bytes.now result }
+{
+    let mut spans = [EMPTY_HEADER_SPAN; 5462];
+    trailer_part(bytes, &mut spans)
+}
+
+/// A trailer, with room for as many headers as the bytes can have.
+fn any_trailer(bytes: &[u8]) -> Part
+    requires { length bytes.now ≤ 16384 }
+    ensures { IsPart At.Trailer bytes.now result }
+{
+    if bytes.len() < LONG_TRAILER {
+        short_trailer(bytes)
+    } else {
+        long_trailer(bytes)
+    }
+}
+
+/// What stands next. Room for a trailer's headers is taken of the stack.
+pub fn part_at(at: At, bytes: &[u8]) -> Part
+    requires sane { IsAt at }
+    requires short { length bytes.now ≤ 16384 }
+    ensures { IsPart at bytes.now result }
+{
+    match at {
+        At::Line => line_part(bytes),
+        At::Data(count) => data_part(bytes, count),
+        At::LineEnd => end_part(bytes),
+        At::Trailer => any_trailer(bytes),
+        At::Done => unreachable!(),
     }
 }
 
