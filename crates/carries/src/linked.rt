@@ -78,5 +78,5 @@ pub(crate) fn carry_linked<R: Threads, I: Source + Send, O: Shuts, U: Tunnelled<
             up,
         );
     }
-    one_of(give_back(alloc, &reply, back, output, up))
+    one_of(give_back(&reply, back, output, up))
 }

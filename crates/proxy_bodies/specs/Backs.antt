@@ -1,12 +1,14 @@
 -- Bodies of replies that are passed back: whole, or a part, and why no more.
-use Rattle.std.specs.Prelude.{◌≡◌, ◌≤◌, ◌⊎◌, ◌+◌, ℕ, List, [], ◌++◌, length, Option}
+use Rattle.std.specs.Prelude.{◌≡◌, ◌≤◌, ◌⊎◌, ◌+◌, ℕ, List, [], ◌++◌, length, min, Option}
 use Rattle.hub_devices.specs.Faults.{Rises}
 use Rattle.upstreams.specs.Upstream.{Told, IsSpent}
 use Rattle.chunk_parts.specs.Chunks.{BreaksChunks, BeginsChunked}
 use Rattle.chunk_parts.specs.declared.parts.At.{At}
-use Rattle.chunk_parts.specs.Parts.{IsNext, IsBadPart}
+use Rattle.chunk_parts.specs.Parts.{IsBadPart, Stands}
 use Rattle.proxy_wire.specs.declared.framing.Framing.{Framing}
 use Rattle.proxy_wire.specs.declared.framing.Framing.TheVariants.{Length, Chunked, ToEnd}
+use Rattle.proxy_bodies.specs.declared.backs.Remainder.{Remainder}
+use Rattle.proxy_bodies.specs.declared.backs.Remainder.TheVariants.{Bytes, Parts}
 use Rattle.proxy_bodies.specs.declared.backs.BackEnd.{BackEnd}
 use Rattle.proxy_bodies.specs.declared.backs.BackEnd.TheVariants.{Spent, ReceiveFault, WriteFault, Bad}
 use Rattle.proxy_bodies.specs.Bodies.{IsWholeBody}
@@ -34,6 +36,20 @@ IsBackEnd f told body tail links links' writes writes' =
     IsBackWhole f told body tail
     ⊎ (IsBackPart f body × (IsSpent told ⊎ ((length body ≡ body_limit) ⊎ (Rises links links' ⊎ Rises writes writes'))))
 
+-- what is left of a body behind its first bytes; of one that is longer than is passed back, what of it is
+abbrev pub IsBehind : Framing → List ℕ → Remainder → Type 0
+IsBehind (Length n) front (Bytes m) = length front + m ≡ min n body_limit
+IsBehind (Length n) front (Parts a) = ⊥
+IsBehind Chunked front (Bytes m) = ⊥
+IsBehind Chunked front (Parts a) = Stands a front
+IsBehind ToEnd front (Bytes m) = length front + m ≡ body_limit
+IsBehind ToEnd front (Parts a) = ⊥
+
+-- whatever body this is left of, with `body` behind its first bytes its passing back ends so
+abbrev pub EndsBehind : Remainder → Option Told → List ℕ → List ℕ → ℕ → ℕ → ℕ → ℕ → Type 0
+EndsBehind left told body tail links links' writes writes' =
+    (f : Framing) (front : List ℕ) → IsBehind f front left → IsBackEnd f told (front ++ body) tail links links' writes writes'
+
 -- a body by its length stops
 abbrev pub StopsSized : Option Told → BackEnd → Type 0
 StopsSized told Spent = IsSpent told
@@ -41,9 +57,13 @@ StopsSized told ReceiveFault = Unit {0}
 StopsSized told WriteFault = Unit {0}
 StopsSized told Bad = ⊥
 
+-- bytes lead from one place in a chunked body to another, whatever came before them
+abbrev pub Leads : At → List ℕ → At → Type 0
+Leads a piece next = (given : List ℕ) → Stands a given → Stands next (given ++ piece)
+
 -- a part of a chunked body stops: `piece` of what is held was written
 abbrev pub StopsBack : At → Option Told → List ℕ → List ℕ → BackEnd → Type 0
 StopsBack a told held piece Spent = (piece ≡ []) × IsSpent told
 StopsBack a told held piece ReceiveFault = piece ≡ []
-StopsBack a told held piece WriteFault = (rest more : List ℕ) × (next : At) × (held ≡ piece ++ more) × IsNext a (piece ++ rest) next
+StopsBack a told held piece WriteFault = (rest more : List ℕ) × (next : At) × (held ≡ piece ++ more) × Leads a (piece ++ rest) next
 StopsBack a told held piece Bad = (piece ≡ []) × IsBadPart a held

@@ -1,16 +1,15 @@
 //! The bodies of replies, passed back to a client. Nothing here takes memory.
-ghost use Rattle.std.specs.Prelude.{◌≡◌, ◌≢◌, ◌<◌, ◌≤◌, ◌+◌, ◌++◌, ℕ, List, [], length, min, take, drop, Err, IfOk, IfErr, OnOk, OnErr};
+ghost use Rattle.std.specs.Prelude.{◌≡◌, ◌≢◌, ◌<◌, ◌≤◌, ◌+◌, ◌-◌, ◌++◌, ℕ, List, [], length, min, take, drop};
+ghost use Rattle.std.specs.Prelude.{Err, IfOk, IfErr, OnOk, OnErr};
 ghost use Rattle.hub_devices.specs.Faults.{Rises};
 ghost use Rattle.hub_devices.specs.Streams.{Appends};
 ghost use Rattle.upstreams.specs.Upstream.{IsOpen, Moves, IsSpent};
-ghost use Rattle.chunk_parts.specs.Parts.{IsAt};
-ghost use Rattle.proxy_bodies.specs.Bodies.{IsOn};
-ghost use Rattle.proxy_bodies.specs.Backs.{StopsBack, StopsSized, IsBackEnd};
+ghost use Rattle.chunk_parts.specs.Parts.{IsAt, Stands};
+ghost use Rattle.proxy_bodies.specs.Backs.{Leads, StopsBack, StopsSized, IsBehind, EndsBehind};
 
-use crate::parts::{STEPS, part_in};
+use crate::parts::{STEPS, more_in, next_in};
 use chunk_parts::parts::{At, Part, is_done};
 use http_wire::writes::write_all;
-use httparse::spans::HeaderSpan;
 use hub_devices::sink::Sink;
 use hub_devices::source::Failed;
 use piece_window::window::{Window, receive_window};
@@ -18,7 +17,16 @@ use proxy_wire::framing::Framing;
 use upstreams::upstream::Upstream;
 
 /// The most bytes of a body that are passed back.
-pub const BODY_LIMIT: u64 = 9_223_372_036_854_775_807;
+const BODY_LIMIT: u64 = 9_223_372_036_854_775_807;
+
+/// What is left of a body behind its first bytes.
+#[derive(Clone, Copy, Debug, PartialEq, Eq)]
+pub enum Remainder {
+    /// So many bytes, or fewer where the upstream ends.
+    Bytes(u64),
+    /// Chunks, from this place on.
+    Parts(At),
+}
 
 /// Why a body, or a part of it, did not go back whole.
 #[derive(Clone, Copy, Debug, PartialEq, Eq)]
@@ -119,34 +127,63 @@ fn back_length<U: Upstream, O: Sink>(
     Ok(())
 }
 
-/// Writes the next part of a chunked body, or receives on towards it.
+/// How many of the bytes in the window go in one write with the head before them, and what is left of the body behind those: of chunks all
+/// that are whole, and of other bodies as much as is there.
+pub fn first_bytes(framing: Framing, window: &Window) -> (usize, Remainder)
+    ensures within { result.0 ≤ length window.now }
+    ensures short { result.0 ≤ 16384 }
+    ensures behind { IsBehind framing (take result.0 window.now) result.1 }
+{
+    match framing {
+        Framing::Length(count) => first_of(count.min(BODY_LIMIT), window),
+        Framing::Chunked => {
+            let (count, at) = more_in(At::Line, window, 0);
+            (count, Remainder::Parts(at))
+        }
+        Framing::ToEnd => first_of(BODY_LIMIT, window),
+    }
+}
+
+/// Of so many bytes those that are in the window, and how many are left.
+fn first_of(most: u64, window: &Window) -> (usize, Remainder)
+    ensures within { result.0 ≤ length window.now }
+    ensures short { result.0 ≤ 16384 }
+    ensures few { result.0 ≤ most }
+    ensures left { result.1 ≡ Remainder.Bytes (most - result.0) }
+{
+    let count = most.min(window.as_slice().len() as u64);
+    (count as usize, Remainder::Bytes(most - count))
+}
+
+/// Writes the next parts of a chunked body, as many as the window holds, or receives on towards the next one.
+#[tactic(auto, using(crate::proofs::PartLemmas::leads_none))]
 fn back_part<U: Upstream, O: Sink>(
     at: At,
     up: &mut U,
     window: &mut Window,
     output: &mut O,
-    spans: &mut [HeaderSpan],
 ) -> Result<At, BackEnd>
     requires sane { IsAt at }
-    requires room { length spans.old ≡ 5462 }
     requires open { IsOpen (U.told up.old) }
     ensures ok { IfOk result (λ next. (piece got : List ℕ) × (window.old ++ got ≡ piece ++ window.new)
         × Moves (U.told up.old) [] got (U.told up.new) × Appends (O.held output.old) piece (O.held output.new)
-        × IsOn at piece next × (0 < length piece + length got)) }
+        × Leads at piece next × (0 < length piece + length got)) }
     ensures err { IfErr result (λ e. (part got : List ℕ) × (window.old ++ got ≡ window.new)
         × Moves (U.told up.old) [] got (U.told up.new) × Appends (O.held output.old) part (O.held output.new)
         × StopsBack at (U.told up.new) window.new part e) }
-    ensures kept { length spans.new ≡ 5462 }
     ensures receives { U.faults up.old ≤ U.faults up.new }
     ensures writes { O.faults output.old ≤ O.faults output.new }
     ensures receive_fault { result ≡ Err BackEnd.ReceiveFault → Rises (U.faults up.old) (U.faults up.new) }
     ensures write_fault { result ≡ Err BackEnd.WriteFault → Rises (O.faults output.old) (O.faults output.new) }
 {
-    match part_in(at, window, spans) {
-        Part::Whole(n, next) => match write_first(window, output, n) {
-            Ok(()) => Ok(next),
-            Err(_) => Err(BackEnd::WriteFault),
-        },
+    match next_in(at, window) {
+        Part::Whole(n, next) => {
+            let (more, last) = more_in(next, window, n);
+            match write_first(window, output, n + more) {
+                Ok(()) => Ok(last),
+                Err(_) => Err(BackEnd::WriteFault),
+            }
+        }
         Part::Open => match receive_window(up, window) {
             Ok(0) => Err(BackEnd::Spent),
             Ok(_) => Ok(at),
@@ -156,89 +193,66 @@ fn back_part<U: Upstream, O: Sink>(
     }
 }
 
-/// Passes back a chunked body of a reply, or a part of it.
-fn back_chunked<U: Upstream, O: Sink>(
-    up: &mut U,
-    window: &mut Window,
-    output: &mut O,
-    spans: &mut [HeaderSpan],
-)
-    requires room { length spans.old ≡ 5462 }
+/// Passes back the chunks of a reply that are left, or a part of them.
+fn back_chunks<U: Upstream, O: Sink>(at: At, up: &mut U, window: &mut Window, output: &mut O)
+    requires begun { (front : List ℕ) × Stands at front }
     requires open { IsOpen (U.told up.old) }
     ensures done { (body got tail : List ℕ) × (window.old ++ got ≡ body ++ tail)
         × Moves (U.told up.old) [] got (U.told up.new) × Appends (O.held output.old) body (O.held output.new)
-        × IsBackEnd Framing.Chunked (U.told up.new) body tail
+        × EndsBehind (Remainder.Parts at) (U.told up.new) body tail
         (U.faults up.old) (U.faults up.new) (O.faults output.old) (O.faults output.new) }
     ensures receives { U.faults up.old ≤ U.faults up.new }
     ensures writes { O.faults output.old ≤ O.faults output.new }
 {
-    let mut at = At::Line;
+    let mut at = at;
     let mut steps = STEPS;
     'parts: while !is_done(at) {
         if steps == 0 {
             return;
         }
         steps -= 1;
-        match back_part(at, up, window, output, spans) {
+        match back_part(at, up, window, output) {
             Ok(next) => at = next,
             Err(_) => return,
         }
     }
 }
 
-/// Passes back a body of so many bytes, or a part of it.
-fn back_sized<U: Upstream, O: Sink>(up: &mut U, window: &mut Window, output: &mut O, count: u64)
+/// Passes back so many bytes of a reply, or a part of them.
+fn back_bytes<U: Upstream, O: Sink>(up: &mut U, window: &mut Window, output: &mut O, count: u64)
     requires { IsOpen (U.told up.old) }
     ensures done { (body got tail : List ℕ) × (window.old ++ got ≡ body ++ tail)
         × Moves (U.told up.old) [] got (U.told up.new) × Appends (O.held output.old) body (O.held output.new)
-        × IsBackEnd (Framing.Length count) (U.told up.new) body tail
+        × EndsBehind (Remainder.Bytes count) (U.told up.new) body tail
         (U.faults up.old) (U.faults up.new) (O.faults output.old) (O.faults output.new) }
     ensures receives { U.faults up.old ≤ U.faults up.new }
     ensures writes { O.faults output.old ≤ O.faults output.new }
 {
-    match back_length(up, window, output, count.min(BODY_LIMIT)) {
+    match back_length(up, window, output, count) {
         Ok(()) => {}
         Err(_) => {}
     }
 }
 
-/// Passes back all that comes until the upstream ends, or a part of it.
-fn back_rest<U: Upstream, O: Sink>(up: &mut U, window: &mut Window, output: &mut O)
-    requires { IsOpen (U.told up.old) }
-    ensures done { (body got tail : List ℕ) × (window.old ++ got ≡ body ++ tail)
-        × Moves (U.told up.old) [] got (U.told up.new) × Appends (O.held output.old) body (O.held output.new)
-        × IsBackEnd Framing.ToEnd (U.told up.new) body tail
-        (U.faults up.old) (U.faults up.new) (O.faults output.old) (O.faults output.new) }
-    ensures receives { U.faults up.old ≤ U.faults up.new }
-    ensures writes { O.faults output.old ≤ O.faults output.new }
-{
-    match back_length(up, window, output, BODY_LIMIT) {
-        Ok(()) => {}
-        Err(_) => {}
-    }
-}
-
-/// Passes back a reply's body, whose first bytes the window holds, or a part of it: all of it, unless the upstream ended
-/// early, a count of faults rose, or 2^63 - 1 bytes went back. Bytes that are no chunk count as the upstream's early end.
+/// Passes back what is left of a reply's body, whose next bytes the window holds, or a part of it: all of it, unless the upstream
+/// ended early, a count of faults rose, or 2^63 - 1 bytes of the body went back. Bytes that are no chunk count as the upstream's early end.
 pub fn back_body<U: Upstream, O: Sink>(
-    framing: Framing,
+    left: Remainder,
     up: &mut U,
     window: &mut Window,
     output: &mut O,
-    spans: &mut [HeaderSpan],
 )
-    requires room { framing ≡ Framing.Chunked → length spans.old ≡ 5462 }
+    requires begun { (f : Framing) × (front : List ℕ) × IsBehind f front left }
     requires open { IsOpen (U.told up.old) }
     ensures done { (body got tail : List ℕ) × (window.old ++ got ≡ body ++ tail)
         × Moves (U.told up.old) [] got (U.told up.new) × Appends (O.held output.old) body (O.held output.new)
-        × IsBackEnd framing (U.told up.new) body tail
+        × EndsBehind left (U.told up.new) body tail
         (U.faults up.old) (U.faults up.new) (O.faults output.old) (O.faults output.new) }
     ensures receives { U.faults up.old ≤ U.faults up.new }
     ensures writes { O.faults output.old ≤ O.faults output.new }
 {
-    match framing {
-        Framing::Length(count) => back_sized(up, window, output, count),
-        Framing::Chunked => back_chunked(up, window, output, spans),
-        Framing::ToEnd => back_rest(up, window, output),
+    match left {
+        Remainder::Bytes(count) => back_bytes(up, window, output, count),
+        Remainder::Parts(at) => back_chunks(at, up, window, output),
     }
 }

@@ -76,16 +76,6 @@ ends_refused q old new r bytes given got (Err (WriteFault n)) written moved refu
   written.5,
 )
 
--- no memory was there for the head of the reply
-pub back_refused : (text : List ℕ) (f : Framing) (behind : List ℕ) (held held' : Option (List ℕ)) (told : Option Told) (u w w' : ℕ) (result : Result Forwarded SessionFault)
-    → IsWritten refusal.Memory held held' w w' result → BackEnds text f behind held held' told told u u w w' result
-back_refused text f behind held held' told u w w' (Ok Passed) written = absurd written
-back_refused text f behind held held' told u w w' (Ok (Refused s)) written = (written.0, refl, written.1)
-back_refused text f behind held held' told u w w' (Ok Ended) written = absurd written
-back_refused text f behind held held' told u w w' (Ok Cut) written = absurd written
-back_refused text f behind held held' told u w w' (Err (ReadFault n)) written = absurd written
-back_refused text f behind held held' told u w w' (Err (WriteFault n)) written = (written.0, written.1, refl, written.3, written.4, written.5, inl written.2)
-
 -- more bytes behind the reply's head
 pub begins_more : (up : Bool) (method bytes : List ℕ) (r : ResponseHead) (f : Framing) (rest more : List ℕ) → BeginsReply up method bytes r f rest → BeginsReply up method (bytes ++ more) r f (rest ++ more)
 begins_more up method bytes r f rest more b = record {
@@ -106,16 +96,6 @@ moved_left : (old mid new : Place) (bytes : List ℕ) → mid.left ≡ new.left 
 moved_left old mid new bytes left kept took =
     subst (λ (l : Option (List ℕ)). Took old.left old.kept l (bytes ++ new.kept)) left
     (subst (λ (k : List ℕ). Took old.left old.kept mid.left (bytes ++ k)) kept took)
-
-abbrev Unwritten : Going → Place → Place → List ℕ → List ℕ → List ℕ → List ℕ → List ℕ → Type 0
-Unwritten q old new bytes given got part more =
-    ((r : Refusal) × (refusal_text r ≡ part ++ more) × IsRefused q new.kept new.told old.links new.links bytes given got r)
-    ⊎ ((r : ResponseHead) × (f : Framing) × (rest : List ℕ) × BeginsReply q.upgrade q.method got r f rest × IsCutBack (reply_passed r) f rest part more × IsSent q bytes given)
-
-unwritten : (q : Going) (old new : Place) (bytes given got part more : List ℕ) (r : ResponseHead) (f : Framing) (behind : List ℕ) → IsSent q bytes given → BeginsReply q.upgrade q.method got r f behind
-    → (refusal_text refusal.Memory ≡ part ++ more) ⊎ IsCutBack (reply_passed r) f behind part more → Unwritten q old new bytes given got part more
-unwritten q old new bytes given got part more r f behind sent begins (inl is) = inl (refusal.Memory, is, tt)
-unwritten q old new bytes given got part more r f behind sent begins (inr is) = inr (r, f, behind, begins, is, sent)
 
 -- the reply to a request that is no upgrade doesn't switch over
 pub no_switch : (s : ℕ) → IsFinal false s → s ≡ 101 → ⊥
@@ -149,16 +129,7 @@ ends_back q old mid new bytes given got behind r f (Ok Passed) moved sent begins
     ends = later_end f new.told back.0 back.2 old.links mid.links new.links old.writes mid.writes new.writes early late (omega (arith, writes)) written back.6;
   },
 )
-ends_back q old mid new bytes given got behind r f (Ok (Refused s)) moved sent begins settled left kept held writes early late written back = (
-  refusal.Memory,
-  bytes,
-  given,
-  got,
-  (moved_left old mid new bytes left kept moved.0, subst (λ (t : Option Told). Moves old.told given got t) (sym back.1) moved.1),
-  back.0,
-  subst (λ (h : Option (List ℕ)). Appends h (refusal_text refusal.Memory) new.held) held back.2,
-  tt,
-)
+ends_back q old mid new bytes given got behind r f (Ok (Refused s)) moved sent begins settled left kept held writes early late written back = absurd back
 ends_back q old mid new bytes given got behind r f (Ok Ended) moved sent begins settled left kept held writes early late written back = absurd back
 ends_back q old mid new bytes given got behind r f (Ok Cut) moved sent begins settled left kept held writes early late written back = absurd back
 ends_back q old mid new bytes given got behind r f (Err (ReadFault n)) moved sent begins settled left kept held writes early late written back = absurd back
@@ -170,7 +141,7 @@ ends_back q old mid new bytes given got behind r f (Err (WriteFault n)) moved se
   (moved_left old mid new bytes left kept moved.0, subst (λ (t : Option Told). Moves old.told given got t) (sym back.2) moved.1),
   subst (λ (h : Option (List ℕ)). Appends h back.0 new.held) held back.3,
   subst (λ (w : ℕ). Rises w new.writes) writes back.4,
-  record { more = back.1; of = unwritten q old new bytes given got back.0 back.1 r f behind sent begins back.6 },
+  record { more = back.1; of = inr (r, f, behind, begins, back.6, sent) },
   back.5,
 )
 

@@ -1,4 +1,3 @@
 pub mod Refusals
-pub mod Joins
 pub mod Passes
 pub mod Forward

@@ -142,14 +142,13 @@ abbrev pub BackEnds : List ℕ → Framing → List ℕ → Option (List ℕ) �
 BackEnds text f behind held held' told told' links links' writes writes' (Ok Passed) =
     (body got tail : List ℕ) × (behind ++ got ≡ body ++ tail) × Moves told [] got told' × Appends held (text ++ body) held'
     × IsBackEnd f told' body tail links links' writes writes'
-BackEnds text f behind held held' told told' links links' writes writes' (Ok (Refused s)) =
-    (s ≡ status_of refusal.Memory) × (told' ≡ told) × Appends held (refusal_text refusal.Memory) held'
+BackEnds text f behind held held' told told' links links' writes writes' (Ok (Refused s)) = ⊥
 BackEnds text f behind held held' told told' links links' writes writes' (Ok Ended) = ⊥
 BackEnds text f behind held held' told told' links links' writes writes' (Ok Cut) = ⊥
 BackEnds text f behind held held' told told' links links' writes writes' (Err (ReadFault n)) = ⊥
 BackEnds text f behind held held' told told' links links' writes writes' (Err (WriteFault n)) =
     (part more : List ℕ) × (told' ≡ told) × Appends held part held' × Rises writes writes' × (n ≡ 0)
-    × ((refusal_text refusal.Memory ≡ part ++ more) ⊎ IsCutBack text f behind part more)
+    × IsCutBack text f behind part more
 
 -- a connection to the target was asked for once and made, the request passed on, and the upstream finished; `links` is its count once it
 -- was connected

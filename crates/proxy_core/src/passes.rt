@@ -1,10 +1,9 @@
 //! One request that is passed on to a target.
-ghost use Rattle.std.specs.Prelude.{◌≡◌, ◌≢◌, ◌≤◌, ◌++◌, ℕ, List, [], length, false, IfOk, OnErr};
+ghost use Rattle.std.specs.Prelude.{◌≡◌, ◌≢◌, ◌≤◌, ◌++◌, ℕ, List, length, take, drop, false, OnOk, OnErr};
 ghost use Rattle.hub_devices.specs.Faults.{Rises};
 ghost use Rattle.hub_devices.specs.Streams.{Appends};
 ghost use Rattle.upstreams.specs.Upstream.{IsOpen};
 ghost use Rattle.proxy_wire.specs.Heads as heads;
-ghost use Rattle.proxy_core.specs.Joins.{MayJoin, framing_behind};
 ghost use Rattle.proxy_core.specs.Passes.{PassEnds, BackEnds, PassOn};
 
 use crate::exchange::{Stop, exchange};
@@ -17,69 +16,40 @@ use hub_devices::source::{Failed, Source};
 use hub_kit::target::Target;
 use piece_window::rooms::Rooms;
 use piece_window::window::Window;
-use proxy_bodies::backs::{BODY_LIMIT, back_body, write_first};
-use proxy_bodies::parts::trailer_room;
+use proxy_bodies::backs::{back_body, first_bytes, write_first};
 use proxy_wire::framing::Framing;
 use proxy_wire::heads::request_text;
 use proxy_wire::replies::Reply;
 use std::alloc::Global;
 use upstreams::upstream::Upstream;
 
-/// How many bytes of a body may go in one write with its head: all of a body of a length, if `back_body` passes back so many. Chunks, and a
-/// body to the upstream's end, go apart.
-fn most_joined(framing: Framing) -> u64
-    ensures { MayJoin framing result }
-{
-    match framing {
-        Framing::Length(count) if count <= BODY_LIMIT => count,
-        _ => 0,
-    }
-}
-
-/// The framing of what is behind the first n bytes of a body.
-fn framing_behind(framing: Framing, n: u64) -> Framing
-    requires { MayJoin framing n }
-    ensures { result ≡ framing_behind framing n }
-{
-    match framing {
-        Framing::Length(count) => Framing::Length(count - n),
-        Framing::Chunked => Framing::Chunked,
-        Framing::ToEnd => Framing::ToEnd,
-    }
-}
-
-/// Writes a head, and in one with it up to `most` of the bytes behind it, as many as the window holds; the head alone, if there is no room
-/// for it before them. Gives how many bytes went with it.
+/// Writes a head, and behind it the first n bytes of the window: in one write, where there is room for the head before them.
 fn give_head<O: Sink>(
     text: &[u8],
-    most: u64,
+    n: usize,
     back: &mut Window,
     output: &mut O,
-) -> Result<u64, Failed>
-    ensures ok { IfOk result (λ n. (front : List ℕ) × (length front ≡ n) × (n ≤ most) × (back.old ≡ front ++ back.new)
-        × Appends (O.held output.old) (text.now ++ front) (O.held output.new)) }
-    ensures err { OnErr result ((front rest part more : List ℕ) × (length front ≤ most) × (back.old ≡ front ++ rest)
-        × (text.now ++ front ≡ part ++ more) × Appends (O.held output.old) part (O.held output.new)) }
+) -> Result<(), Failed>
+    requires within { n ≤ length back.old }
+    requires short { n ≤ 16384 }
+    ensures ok { OnOk result ((back.new ≡ drop n back.old)
+        × Appends (O.held output.old) (text.now ++ take n back.old) (O.held output.new)) }
+    ensures err { OnErr result ((part more : List ℕ) × (text.now ++ take n back.old ≡ part ++ more)
+        × Appends (O.held output.old) part (O.held output.new)) }
     ensures counted { O.faults output.old ≤ O.faults output.new }
     ensures cause { OnErr result (Rises (O.faults output.old) (O.faults output.new)) }
 {
-    let count = most.min(back.as_slice().len() as u64) as usize;
     if back.put_front(text) {
-        return match write_first(back, output, text.len() + count) {
-            Ok(()) => Ok(count as u64),
-            Err(_) => Err(Failed),
-        };
+        return write_first(back, output, text.len() + n);
     }
     match write_all(output, text) {
-        Ok(()) => Ok(0),
+        Ok(()) => write_first(back, output, n),
         Err(_) => Err(Failed),
     }
 }
 
-/// Passes back a reply whose head was read. All memory is taken before the head is written. The first bytes of a body of a length go in one
-/// write with the head.
+/// Passes back a reply whose head was read, and takes no memory. The first bytes of its body go in one write with the head.
 pub fn give_back<O: Sink, U: Upstream>(
-    alloc: Global,
     reply: &Reply,
     back: &mut Window,
     output: &mut O,
@@ -91,16 +61,12 @@ pub fn give_back<O: Sink, U: Upstream>(
     ensures links { U.faults up.old ≤ U.faults up.new }
     ensures writes { O.faults output.old ≤ O.faults output.new }
 {
-    let Ok(mut spans) = trailer_room(alloc, reply.framing) else {
-        return refuse(output, Refusal::Memory);
-    };
-    let most = most_joined(reply.framing);
-    let count = match give_head(reply.text.as_slice(), most, back, output) {
-        Ok(count) => count,
+    let (count, left) = first_bytes(reply.framing, back);
+    match give_head(reply.text.as_slice(), count, back, output) {
+        Ok(()) => {}
         Err(_) => return Err(SessionFault::WriteFault(0)),
-    };
-    let left = framing_behind(reply.framing, count);
-    back_body(left, up, back, output, &mut spans);
+    }
+    back_body(left, up, back, output);
     Ok(Forwarded::Passed)
 }
 
@@ -153,7 +119,7 @@ fn pass_linked<I: Source, O: Sink, U: Upstream>(
         up,
         &mut rooms.back,
     ) {
-        Ok(reply) => give_back(alloc, &reply, &mut rooms.back, output, up),
+        Ok(reply) => give_back(&reply, &mut rooms.back, output, up),
         Err(stop) => match stop {
             Stop::Cut => Ok(Forwarded::Cut),
             Stop::ReadFault => Err(SessionFault::ReadFault(0)),
