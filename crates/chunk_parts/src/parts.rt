@@ -156,7 +156,7 @@ fn any_trailer(bytes: &[u8]) -> Part
 }
 
 /// What stands next. Room for a trailer's headers is taken of the stack.
-pub fn part_at(at: At, bytes: &[u8]) -> Part
+pub fn next_part(at: At, bytes: &[u8]) -> Part
     requires sane { IsAt at }
     requires short { length bytes.now ≤ 16384 }
     ensures { IsPart at bytes.now result }
@@ -166,23 +166,6 @@ pub fn part_at(at: At, bytes: &[u8]) -> Part
         At::Data(count) => data_part(bytes, count),
         At::LineEnd => end_part(bytes),
         At::Trailer => any_trailer(bytes),
-        At::Done => unreachable!(),
-    }
-}
-
-/// What stands next. The spans have room for as many headers as the bytes can have.
-pub fn next_part(at: At, bytes: &[u8], spans: &mut [HeaderSpan]) -> Part
-    requires sane { IsAt at }
-    requires short { length bytes.now ≤ 16384 }
-    requires room { length bytes.now < 3 * length spans.old }
-    ensures part { IsPart at bytes.now result }
-    ensures kept { length spans.new ≡ length spans.old }
-{
-    match at {
-        At::Line => line_part(bytes),
-        At::Data(count) => data_part(bytes, count),
-        At::LineEnd => end_part(bytes),
-        At::Trailer => trailer_part(bytes, spans),
         At::Done => unreachable!(),
     }
 }

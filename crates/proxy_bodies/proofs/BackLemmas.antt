@@ -16,8 +16,8 @@ use Rattle.proxy_bodies.specs.declared.backs.BackEnd.{BackEnd}
 use Rattle.proxy_bodies.specs.declared.backs.BackEnd.TheVariants.{Spent, ReceiveFault, WriteFault, Bad}
 use Rattle.proxy_bodies.specs.declared.backs.Remainder.{Remainder}
 use Rattle.proxy_bodies.specs.declared.backs.Remainder.TheVariants.{Bytes, Parts}
-use Rattle.proxy_bodies.specs.Bodies.{IsWholeBody}
-use Rattle.proxy_bodies.specs.Backs.{StopsBack, StopsSized, IsBackPart, IsBackEnd, IsBehind, EndsBehind, Leads, body_limit}
+use Rattle.proxy_bodies.specs.Bodies.{body_limit, IsWholeBody}
+use Rattle.proxy_bodies.specs.Backs.{StopsBack, StopsSized, IsBackPart, IsBackEnd, IsBehind, EndsBehind, Leads}
 
 -- no bytes are a front of any body
 pub none_back : (f : Framing) → IsBackPart f []

@@ -11,11 +11,7 @@ use Rattle.proxy_bodies.specs.declared.backs.Remainder.{Remainder}
 use Rattle.proxy_bodies.specs.declared.backs.Remainder.TheVariants.{Bytes, Parts}
 use Rattle.proxy_bodies.specs.declared.backs.BackEnd.{BackEnd}
 use Rattle.proxy_bodies.specs.declared.backs.BackEnd.TheVariants.{Spent, ReceiveFault, WriteFault, Bad}
-use Rattle.proxy_bodies.specs.Bodies.{IsWholeBody}
-
--- the most bytes of a body that are passed back
-abbrev pub body_limit : ℕ
-body_limit = 9223372036854775807
+use Rattle.proxy_bodies.specs.Bodies.{body_limit, IsWholeBody}
 
 -- the body was passed back: `tail` came and was not written. Bytes that are no chunk count as the upstream's early end
 abbrev pub IsBackWhole : Framing → Option Told → List ℕ → List ℕ → Type 0

@@ -1,5 +1,5 @@
 -- Bodies of requests that are sent on: whole, or why not.
-use Rattle.std.specs.Prelude.{◌≡◌, ◌<◌, ◌≤◌, ◌⊎◌, ℕ, List, [], ◌++◌, length, Option}
+use Rattle.std.specs.Prelude.{◌≡◌, ◌<◌, ◌≤◌, ◌⊎◌, ◌+◌, ℕ, List, [], ◌++◌, length, Option}
 use Rattle.hub_devices.specs.Streams.{IsEnd}
 use Rattle.chunk_parts.specs.Chunks.{Chunked as ChunkedBody, print_chunked, IsChunked, BreaksChunks, BeginsChunked, HasNoChunked}
 use Rattle.chunk_parts.specs.declared.parts.At.{At}
@@ -8,6 +8,10 @@ use Rattle.proxy_wire.specs.declared.framing.Framing.{Framing}
 use Rattle.proxy_wire.specs.declared.framing.Framing.TheVariants.{Length, Chunked, ToEnd}
 use Rattle.proxy_bodies.specs.declared.sends.BodyEnd.{BodyEnd}
 use Rattle.proxy_bodies.specs.declared.sends.BodyEnd.TheVariants.{Cut, ReadFault, SendFault, Memory, Bad}
+
+-- the most bytes of a body that are passed back, and the most turns in which its chunks go on
+abbrev pub body_limit : ℕ
+body_limit = 9223372036854775807
 
 -- a whole body
 abbrev pub IsWholeBody : Framing → List ℕ → Type 0
@@ -34,12 +38,18 @@ IsBadBody Chunked body kept =
     BeginsChunked body × (front : List ℕ) × (more : List ℕ) × (kept ≡ front ++ more) × BreaksChunks (body ++ front)
 IsBadBody ToEnd body kept = ⊥
 
+-- so many chunks of a body went on that no more do
+abbrev pub IsLongBody : Framing → List ℕ → List ℕ → Type 0
+IsLongBody (Length n) body kept = ⊥
+IsLongBody Chunked body kept = BeginsChunked body × (body_limit ≤ length body + length (body ++ kept))
+IsLongBody ToEnd body kept = ⊥
+
 -- `body` went on, then `part` of what is kept, and no more
 abbrev pub StopsBody : Option (List ℕ) → List ℕ → Framing → List ℕ → List ℕ → BodyEnd → Type 0
 StopsBody left kept f body part Cut = (part ≡ []) × IsOpenBody f body kept × IsEnd left
 StopsBody left kept f body part ReadFault = (part ≡ []) × IsOpenBody f body kept
 StopsBody left kept f body part SendFault = (more : List ℕ) × (kept ≡ part ++ more) × IsBodyFront f (body ++ part)
-StopsBody left kept f body part Memory = part ≡ []
+StopsBody left kept f body part Memory = (part ≡ []) × IsLongBody f body kept
 StopsBody left kept f body part Bad = (part ≡ []) × IsBadBody f body kept
 
 -- a front of the head's text and the body
@@ -51,7 +61,7 @@ abbrev pub StopsRequest : Option (List ℕ) → List ℕ → List ℕ → Framin
 StopsRequest left kept text f body given Cut = (given ≡ text ++ body) × IsOpenBody f body kept × IsEnd left
 StopsRequest left kept text f body given ReadFault = (given ≡ text ++ body) × IsOpenBody f body kept
 StopsRequest left kept text f body given SendFault = (more : List ℕ) × (text ++ (body ++ kept) ≡ given ++ more) × IsFrontOf text f given
-StopsRequest left kept text f body given Memory = Unit {0}
+StopsRequest left kept text f body given Memory = (given ≡ text ++ body) × IsLongBody f body kept
 StopsRequest left kept text f body given Bad = (given ≡ text ++ body) × IsBadBody f body kept
 
 -- no byte is there, and why

@@ -33,7 +33,7 @@ pub stop_sent : (q : Going) (old new : Place) (bytes given : List ℕ) (e : Body
 stop_sent q old new bytes given body.Cut s read send = (record { still = s.1; text = s.0; none = refl }, s.2)
 stop_sent q old new bytes given body.ReadFault s read send = (record { still = s.1; text = s.0; none = refl }, read refl)
 stop_sent q old new bytes given body.SendFault s read send = (record { more = s.0; front = s.1; of = s.2 }, send refl)
-stop_sent q old new bytes given body.Memory s read send = tt
+stop_sent q old new bytes given body.Memory s read send = inr (s.0, s.1, refl)
 stop_sent q old new bytes given body.Bad s read send = (s.0, s.1, refl)
 
 -- a whole body is a front of one
@@ -54,7 +54,7 @@ refused_reply q told links links' kept bytes given got reply.Fault sent none fau
   },
   fault refl,
 )
-refused_reply q told links links' kept bytes given got reply.Memory sent none fault = tt
+refused_reply q told links links' kept bytes given got reply.Memory sent none fault = inl sent
 
 -- a refusal was written
 pub ends_refused : (q : Going) (old new : Place) (r : Refusal) (bytes given got : List ℕ) (result : Result Forwarded SessionFault)

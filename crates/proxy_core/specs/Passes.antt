@@ -14,7 +14,7 @@ use Rattle.proxy_wire.specs.Heads.{reply_passed}
 use Rattle.proxy_wire.specs.Replies.{BeginsReply, NoReply}
 use Rattle.proxy_bodies.specs.declared.sends.BodyEnd.{BodyEnd}
 use Rattle.proxy_bodies.specs.declared.sends.BodyEnd.TheVariants as body
-use Rattle.proxy_bodies.specs.Bodies.{IsWholeBody, IsFrontOf, IsOpenBody, IsBadBody}
+use Rattle.proxy_bodies.specs.Bodies.{IsWholeBody, IsFrontOf, IsOpenBody, IsBadBody, IsLongBody}
 use Rattle.proxy_bodies.specs.Backs.{IsBackPart, IsBackEnd}
 use Rattle.proxy_core.specs.declared.exchange.Stop.{Stop}
 use Rattle.proxy_core.specs.declared.exchange.Stop.TheVariants as stop
@@ -81,7 +81,8 @@ IsRefused q kept told links links' body given got refusal.BadUpstream = IsSent q
 IsRefused q kept told links links' body given got refusal.Link = IsFront q kept body given × Rises links links'
 IsRefused q kept told links links' body given got refusal.BadChunk = (given ≡ q.text ++ body) × IsBadBody q.framing body kept × (got ≡ [])
 IsRefused q kept told links links' body given got refusal.Coding = ⊥
-IsRefused q kept told links links' body given got refusal.Memory = Unit {0}
+IsRefused q kept told links links' body given got refusal.Memory =
+    IsSent q body given ⊎ ((given ≡ q.text ++ body) × IsLongBody q.framing body kept × (got ≡ []))
 IsRefused q kept told links links' body given got refusal.BadHead = ⊥
 IsRefused q kept told links links' body given got refusal.TooLarge = ⊥
 IsRefused q kept told links links' body given got refusal.BadPath = ⊥

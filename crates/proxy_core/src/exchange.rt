@@ -78,7 +78,7 @@ pub(crate) fn exchange<I: Source, U: Upstream>(
     ensures reads { I.faults input.old ≤ I.faults input.new }
     ensures links { U.faults up.old ≤ U.faults up.new }
 {
-    match send_request(alloc, text, framing, input, kept, window, up) {
+    match send_request(text, framing, input, kept, window, up) {
         Ok(()) => {}
         Err(e) => return Err(stop_of(e)),
     }

@@ -1,7 +1,7 @@
 use Rattle.std.proofs.Common.{◌≤◌, ◌+◌, ◌++◌, List, ℕ, [], Err, length, sym, ap, ◌∙◌, arith, length-append}
 use Rattle.std.proofs.lemmas.List.{append-nil}
 use Rattle.hub_devices.proofs.StreamLemmas.{Appends_none, Appends_then}
-use Rattle.proxy_bodies.specs.Backs.{body_limit}
+use Rattle.proxy_bodies.specs.Bodies.{body_limit}
 use Rattle.upstreams.proofs.MoveLemmas.{Moves_none, Moves_more, Moves_open}
 use Rattle.proxy_bodies.proofs.PieceLemmas.{joined}
 use Rattle.proxy_bodies.proofs.PartLemmas.{leads_none, leads_on}

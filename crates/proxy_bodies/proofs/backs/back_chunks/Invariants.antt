@@ -1,7 +1,8 @@
 use Rattle.std.proofs.Common.{◌≡◌, ◌≤◌, ◌+◌, ℕ, List, [], ◌++◌, length}
 use Rattle.hub_devices.specs.Streams.{Appends}
 use Rattle.upstreams.specs.Upstream.{Moves}
-use Rattle.proxy_bodies.specs.Backs.{Leads, body_limit}
+use Rattle.proxy_bodies.specs.Bodies.{body_limit}
+use Rattle.proxy_bodies.specs.Backs.{Leads}
 use Rattle.proxy_bodies.proofs.backs.back_chunks.Given as goal
 
 abbrev pub invariant-parts : goal.invariant-parts
