@@ -6,7 +6,9 @@ ghost use Rattle.row_table.specs.Shown.{shown, front};
 
 use hub_kit::text::Text;
 use keeper::keeper::Row;
+use simdutf8::basic::from_utf8;
 use sqlite::Error;
+use sqlite::types::{Type, ValueRef};
 use std::alloc::Global;
 
 fn kind_of(row: &sqlite::Row) -> Result<u8, Error>
@@ -19,21 +21,28 @@ fn kind_of(row: &sqlite::Row) -> Result<u8, Error>
     }
 }
 
-fn text_of(row: &sqlite::Row, at: usize) -> Result<Text, Error>
+/// The text at a place. One of 64 bytes and more is tested as UTF-8 by whole blocks.
+fn text_of(alloc: Global, row: &sqlite::Row, at: usize) -> Result<Text, Error>
     ensures { IfOk result (λ text. column row.now at ≡ Words text) }
 {
-    let text: String = row.get(at)?;
-    Ok(Text::from_string(text))
+    let value = row.get_ref(at)?;
+    let ValueRef::Text(bytes) = value else {
+        return Err(Error::InvalidColumnType(at, Type::of(value)));
+    };
+    let Ok(text) = from_utf8(bytes) else {
+        return Err(Error::Utf8Error(at));
+    };
+    Ok(Text::from_str(alloc, text)?)
 }
 
 /// The row that shows as this one. Refuses a kind above 255, and values of other types.
-fn row_of(row: &sqlite::Row) -> Result<Row, Error>
+fn row_of(alloc: Global, row: &sqlite::Row) -> Result<Row, Error>
     ensures { IfOk result (λ kept. shown kept ≡ front row.now) }
 {
     Ok(Row {
         kind: kind_of(row)?,
-        key: text_of(row, 1)?,
-        text: text_of(row, 2)?,
+        key: text_of(alloc, row, 1)?,
+        text: text_of(alloc, row, 2)?,
     })
 }
 
@@ -43,7 +52,7 @@ pub(crate) fn rows_of(alloc: Global, rows: Vec<sqlite::Row>) -> Result<Vec<Row>,
 {
     let mut all = Vec::with_capacity(alloc, rows.len())?;
     for row in rows {
-        all.push(row_of(&row)?)?;
+        all.push(row_of(alloc, &row)?)?;
     }
     Ok(all)
 }
