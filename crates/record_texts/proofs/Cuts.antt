@@ -1,5 +1,5 @@
 -- What stands at the front of a text, and what stands behind it.
-use Rattle.std.proofs.Common.{◌≡◌, ◌≢◌, Bor, ℕ, suc, ◌+◌, ◌*◌, ◌/◌, ◌%◌, ◌<◌, ◌^◌, Bool, true, false, cond, not, ◌==◌, ◌||◌, List, [], ◌∷◌, ◌++◌, length, take, drop, get_or, map, position, codes, Option, Some, None, Ok, decimal, refl, sym, ap, subst, ◌∙◌, arith, append_assoc, append-nil, length-append}
+use Rattle.std.proofs.Common.{◌≡◌, ◌≢◌, Bor, ℕ, suc, ◌+◌, ◌*◌, ◌/◌, ◌%◌, ◌<◌, Bool, true, false, cond, not, ◌==◌, ◌||◌, List, [], ◌∷◌, ◌++◌, length, take, drop, get_or, map, position, codes, Option, Some, None, Ok, decimal, refl, sym, ap, subst, ◌∙◌, arith, append_assoc, append-nil, length-append}
 use Rattle.std.specs.Option.{MatchOption, IfSome}
 use Rattle.std.specs.List.{position_or_len, AllByRecursion}
 use Rattle.std.proofs.lemmas.Bool.{or_parts, eqb-false, ltb-false}
@@ -9,14 +9,13 @@ use Rattle.json.specs.Print.{escape, quoted}
 use Rattle.json.specs.Run.{is_stop}
 use Rattle.json.proofs.Printed.Strings.{escape_byte_plain}
 use Rattle.serde_json.specs.Written.{comma_if, compact_text, items_text}
-use Rattle.hub_kit.specs.Moments.{greatest, moment_of}
 use Rattle.hub_kit.specs.Names.{name_read, IsName}
 use Rattle.scope_filters.specs.Scopes.{scope_read, scope_text}
 use Rattle.scope_filters.specs.declared.scope.RawScope.{RawScope}
 use Rattle.scope_filters.proofs.NameTexts.{name_only}
 use Rattle.scope_filters.proofs.ScopeTexts.{scope_only}
 use Rattle.key_texts.specs.KeyTexts.{IsScope}
-use Rattle.record_texts.specs.Fields.{lines, strings, IsMoment}
+use Rattle.record_texts.specs.Fields.{lines, strings}
 
 pub front_is : (s p : List ℕ) (r : Option (Bor (List ℕ))) → MatchOption r ((rest : List ℕ) → s ≢ p ++ rest) (λ x. s ≡ p ++ x.now) → IfSome r (λ rest. s ≡ p ++ rest.now)
 front_is s p None h = tt
@@ -66,13 +65,6 @@ pub number_cut : (text : List ℕ) (at number : ℕ) → decimal number ≡ take
 number_cut text at number front = sym (take-append-drop at text) ∙ ap (λ s. s ++ drop at text) (sym front)
 
 -- ---- what a text was read as
-
-moment_if : (fits : Bool) (number moment : ℕ) → cond fits (Some number) None ≡ Some moment → number ≡ moment
-moment_if true number moment h = cc
-moment_if false number moment h = cc
-
-pub moment_is : (number moment : ℕ) → moment_of number ≡ Some moment → number ≡ moment
-moment_is number moment h = moment_if _ number moment h
 
 pub name_is : (bytes name : List ℕ) → name_read bytes ≡ Ok name → (bytes ≡ name) × IsName name
 name_is bytes name h = let same = name_only bytes name h in (same, subst (λ b. name_read b ≡ Ok name) same h)

@@ -1,5 +1,5 @@
-//! What is written for a value, cut off the front of a text. Each knows the value as it is written where nothing needs an escape, and gives up
-//! on all else, so that who asks has to read the text another way then.
+//! What is written for a value, cut off the front of a text. Each knows the value as it is written where nothing needs an escape, and gives
+//! up on all else, so that who asks has to read the text another way then.
 ghost use Rattle.std.specs.Prelude.{◌≡◌, ◌+◌, ◌<◌, ◌++◌, length, get_or, position, IfSome};
 ghost use Rattle.std.specs.Option.{option_copied};
 ghost use Rattle.json.specs.Run as run;

@@ -1,5 +1,5 @@
-//! Users, tokens and servers, of which a store has the most rows, read by the form in which their texts are written, in one pass that makes no tree of
-//! the JSON and writes nothing to compare. `of_row` reads the rows that this gives up on.
+//! Users, tokens and servers, of which a store has the most rows, read by the form in which their texts are written, in one pass that makes
+//! no tree of the JSON and writes nothing to compare. `of_row` reads the rows that this gives up on.
 ghost use Rattle.std.specs.Prelude.{◌≡◌, [], ◌∷◌, ◌++◌, Some, codes, decimal, IfSome};
 ghost use Rattle.std.specs.List.{AllByRecursion};
 ghost use Rattle.std.specs.Option.{option_copied};
@@ -208,7 +208,10 @@ fn last_scopes(alloc: Global, text: &[u8]) -> Option<List<RawScope>>
     ensures { IfSome result (λ scopes. (text.now ≡ compact_text (lines scope_text scopes) ++ codes "}") × AllByRecursion IsScope scopes) }
 {
     let mut rest = after(text, b"[")?;
-    let mut scopes = Vec::new(alloc);
+    // room for one, which most tokens have: a list that grows takes room for four
+    let Ok(mut scopes) = Vec::with_capacity(alloc, 1) else {
+        return None;
+    };
     let mut later = false;
     'scopes: while rest != b"]}".as_slice() {
         let Some((scope, behind)) = cut_scope(rest, later) else {
