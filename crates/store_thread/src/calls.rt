@@ -9,19 +9,24 @@ use std::alloc::{AllocError, Global};
 
 /// A call on a store.
 #[derive(Drop)]
-pub(crate) enum Call {
-    Choose(Option<Text>),
+pub enum Call {
+    /// To take the store at a place, and to read its rows where it was taken.
+    Open(Text),
+    /// To stay with its own store.
+    Stay,
     Load,
     Commit(Batch),
 }
 
 /// What a store answered.
 #[derive(Drop)]
-pub(crate) struct Answer {
-    /// The rows of a load; none of any other call.
-    pub(crate) rows: Result<Vec<Row>, KeeperError>,
+pub struct Answer {
+    /// Whether the call was done; of a load its rows say it.
+    pub done: Result<(), KeeperError>,
+    /// The rows that were read, where any were to be read.
+    pub rows: Option<Result<Vec<Row>, KeeperError>>,
     /// Why it hasn't taken its place, if it hasn't.
-    pub(crate) refusal: Option<FileError>,
+    pub refusal: Option<FileError>,
 }
 
 fn copy_item(alloc: Global, item: &Item) -> Result<Item, AllocError>
@@ -41,8 +46,10 @@ fn copy_item(alloc: Global, item: &Item) -> Result<Item, AllocError>
 }
 
 /// A batch of the same items.
-pub(crate) fn copy_batch(alloc: Global, batch: &Batch) -> Result<Batch, AllocError> {
-    let mut items = Vec::with_capacity(alloc, batch.as_slice().len())?;
+pub(crate) fn copy_batch(alloc: Global, batch: &Batch) -> Result<Batch, AllocError>
+    ensures { IfOk result (λ copied. copied ≡ batch.now) }
+{
+    let mut items = Vec::new(alloc);
     for item in batch.as_slice() {
         items.push(copy_item(alloc, item)?)?;
     }

@@ -1,123 +1,77 @@
 //! A store that another thread has.
-ghost use Rattle.std.specs.Prelude.{◌≡◌, ◌≤◌, IsTrue, IfErr, false, ⊤};
+ghost use Rattle.std.specs.Prelude.{◌≡◌, ◌≤◌, IsTrue, IfErr, is_some};
 ghost use Rattle.hub_devices.specs.FailingCalls.{one_more};
 ghost use Rattle.hub_devices.specs.Faults.{Rises};
-ghost use Rattle.keeper.specs.Rows.{no_rows};
+ghost use Rattle.store_thread.specs.Far.{TakesPlace};
+ghost use Rattle.store_thread.specs.Told.{told_in, rows_in};
 
-use crate::calls::{Answer, Call, copy_batch};
-use crossbeam_channel::{Receiver, Sender};
+use crate::caller::Caller;
+use crate::ends::FarEnd;
 use hub_kit::text::Text;
 use hub_store::command::ProgramStore;
 use hub_store::file_places::FileError;
 use keeper::keeper::{Batch, Keeper, KeeperError, Row};
-use std::alloc::{AllocError, Global};
+use std::alloc::Global;
 use std::sync::Wait;
 
-/// A store whose calls another thread answers. It tells no rows.
+/// A store whose calls another thread answers. It tells the rows that the answers told: from the choice of a place on, once its rows were
+/// read, which is done at the choice, until that store tells none any more or a call stays without an answer.
 #[derive(Drop)]
 pub struct FarStore<W: Wait + Copy> {
-    wait: W,
     alloc: Global,
-    calls: Sender<Call, Global>,
-    answers: Receiver<Answer, Global>,
+    caller: Caller<W>,
     faults: u64,
-    refusal: Option<FileError>,
 }
 
 impl<W: Wait + Copy> FarStore<W> {
-    pub(crate) fn new(
-        wait: W,
-        alloc: Global,
-        calls: Sender<Call, Global>,
-        answers: Receiver<Answer, Global>,
-    ) -> FarStore<W> {
+    pub(crate) fn new(alloc: Global, end: FarEnd<W>) -> FarStore<W>
+        ensures { (result.caller ≡ end) × (result.faults ≡ 0) }
+    {
         FarStore {
-            wait,
             alloc,
-            calls,
-            answers,
+            caller: Caller::new(end),
             faults: 0,
-            refusal: None,
         }
     }
+}
 
-    /// Counts a fault. The count stands still at the greatest `u64`.
-    fn count_fault(&mut self)
-        ensures counted { self.new.faults ≡ one_more self.old.faults }
-        ensures kept { self.old.faults ≤ self.new.faults }
-    {
-        self.faults = self.faults.saturating_add(1);
-    }
-
-    /// Hands a call over and waits for its answer. The other thread is there until this store goes, unless it had no memory to begin.
-    fn answer_to(&self, call: Call) -> Result<Answer, AllocError> {
-        let Ok(()) = self.calls.send(&self.wait, call) else {
-            return Err(AllocError);
-        };
-        match self.answers.recv(&self.wait) {
-            Ok(answer) => Ok(answer),
-            Err(_) => Err(AllocError),
-        }
-    }
-
-    /// The rows that a call gives.
-    fn ask(&mut self, call: Call) -> Result<Vec<Row>, KeeperError>
-        ensures kept { self.old.faults ≤ self.new.faults }
-        ensures cause { IfErr result (λ e. e ≡ KeeperError.Failed → Rises self.old.faults self.new.faults) }
-    {
-        let Ok(answer) = self.answer_to(call) else {
-            return Err(KeeperError::Memory);
-        };
-        let Answer { rows, refusal } = answer;
-        self.refusal = refusal;
-        match rows {
-            Ok(rows) => Ok(rows),
-            Err(KeeperError::Memory) => Err(KeeperError::Memory),
-            Err(KeeperError::Failed) => {
-                self.count_fault();
-                Err(KeeperError::Failed)
-            }
-        }
+/// Counts a fault where the store failed. The count stands still at the greatest `u64`.
+fn count<T>(faults: &mut u64, said: &Result<T, KeeperError>)
+    ensures kept { faults.old ≤ faults.new }
+    ensures cause { IfErr said.now (λ e. e ≡ KeeperError.Failed → Rises faults.old faults.new) }
+{
+    if let Err(KeeperError::Failed) = said {
+        *faults = faults.saturating_add(1);
     }
 }
 
 impl<W: Wait + Copy> Keeper for FarStore<W> {
-    ghost Tells = { λ _. IsTrue false };
+    ghost Tells = { λ s. IsTrue (is_some (told_in s.caller)) };
 
-    ghost is_told = { λ _. false };
+    ghost is_told = { λ s. is_some (told_in s.caller) };
 
-    ghost rows = { λ _. no_rows };
+    ghost rows = { λ s. rows_in s.caller };
 
     ghost faults = { λ s. s.faults };
 
-    ghost Chooses = { λ _ _ _. ⊤ };
+    ghost Chooses = { λ s place s'. TakesPlace s.caller place s'.caller };
 
     fn choose(&mut self, place: Option<&Text>) -> Result<(), KeeperError> {
-        let place = match place {
-            Some(place) => match place.copy(self.alloc) {
-                Ok(place) => Some(place),
-                Err(_) => return Err(KeeperError::Memory),
-            },
-            None => None,
-        };
-        match self.ask(Call::Choose(place)) {
-            Ok(_) => Ok(()),
-            Err(error) => Err(error),
-        }
+        let said = self.caller.choose(self.alloc, place);
+        count(&mut self.faults, &said);
+        said
     }
 
     fn load(&mut self) -> Result<Vec<Row>, KeeperError> {
-        self.ask(Call::Load)
+        let said = self.caller.load();
+        count(&mut self.faults, &said);
+        said
     }
 
     fn commit(&mut self, batch: &Batch) -> Result<(), KeeperError> {
-        let Ok(batch) = copy_batch(self.alloc, batch) else {
-            return Err(KeeperError::Memory);
-        };
-        match self.ask(Call::Commit(batch)) {
-            Ok(_) => Ok(()),
-            Err(error) => Err(error),
-        }
+        let said = self.caller.commit(self.alloc, batch);
+        count(&mut self.faults, &said);
+        said
     }
 
     ghost decides = { λ _. (λ told. told, λ told. told) };
@@ -125,7 +79,7 @@ impl<W: Wait + Copy> Keeper for FarStore<W> {
 
 impl<W: Wait + Copy> ProgramStore for FarStore<W> {
     fn refusal(&self) -> Option<FileError> {
-        self.refusal
+        self.caller.refusal()
     }
 
     // the other thread closes the store once this one is gone

@@ -1,9 +1,13 @@
 //! The program's store in a thread of its own, for a hub whose workers are many threads.
-//! `FarStore` carries it: it is a `Keeper` that hands each call to the thread that has the store, waits for the answer, and counts each
-//! fault that the store had. It tells no rows, since no clause follows what goes through a channel.
+//! `FarStore` carries it: it is a `Keeper` that puts each call into a mailbox, waits until the thread that has the store has answered it
+//! there, and tells the rows of that store as its answers tell them. `rows_are_the_stores` says so of what the mailbox keeps.
 //! The command `serve` stands above it.
 #![tactic(auto)]
 
+mod caller;
 pub mod calls;
+mod ends;
 pub mod far_store;
+pub mod laws;
+pub mod mailbox;
 pub mod store_thread;

@@ -1,0 +1,4 @@
+pub mod Told
+pub mod Mailbox
+pub mod Far
+pub mod Runs

@@ -1,0 +1,82 @@
+-- The mailbox between a far store and the thread that has the store.
+use Rattle.std.specs.Prelude.{◌≡◌, ℕ, Bool, true, false, List, [], ◌∷◌, ◌++◌, Option, Some, None}
+use mathlib.Core.Option.{some}
+use lib.ListN.{get_elem?}
+use Rattle.store_thread.specs.declared.calls.Answer.{Answer}
+use Rattle.store_thread.specs.declared.calls.Call.{Call}
+use Rattle.store_thread.specs.declared.mailbox.Exchange.{Exchange}
+use Rattle.store_thread.specs.declared.mailbox.Parcel.{Parcel}
+use Rattle.store_thread.specs.declared.mailbox.Parcel.TheVariants.{Question, Reply}
+use Rattle.store_thread.specs.declared.mailbox.Talk.{Talk}
+use Rattle.store_thread.specs.declared.mailbox.View.{View}
+use Rattle.store_thread.specs.Told.{known_of, IsFaithful}
+
+abbrev pub no_talk : Talk
+no_talk = record { seen = []; asked = None }
+
+-- both ends in one
+abbrev pub first_view : View
+first_view = record { asks = true; answers = true; talk = no_talk }
+
+abbrev pub exchange : Call → Answer → Bool → Exchange
+exchange call answer told = record { call = call; done = answer.done; rows = answer.rows; told = told }
+
+-- a call was asked; it was answered; it was taken back
+abbrev pub with_call : Call → Talk → Talk
+with_call call talk = record talk { asked = Some call }
+
+abbrev pub with_answer : Call → Answer → Bool → Talk → Talk
+with_answer call answer told talk = record { seen = talk.seen ++ exchange call answer told ∷ []; asked = None }
+
+abbrev pub without_call : Talk → Talk
+without_call talk = record talk { asked = None }
+
+-- what lies in the mailbox, between what the end that asks knows and what the one that answers knows
+abbrev pub Between : List Parcel → Talk → Talk → Type 0
+Between [] far near = far ≡ near
+Between (Question call ∷ []) far near = (near.asked ≡ None) × (far ≡ with_call call near)
+Between (Reply answer ∷ []) far near =
+    (call : Call) × (told : Bool) × (far.asked ≡ Some call) × (near ≡ with_answer call answer told far) × IsFaithful (known_of far.seen) (exchange call answer told)
+Between (p ∷ q ∷ ps) far near = ⊥
+
+-- one end at most asks and one at most answers, and each knows what was said
+abbrev pub Fits : ℕ → ℕ → Talk → Talk → ℕ → View → Type 0
+Fits far near f n seat v = (v.asks ≡ true → (seat ≡ far) × (v.talk ≡ f)) × (v.answers ≡ true → (seat ≡ near) × (v.talk ≡ n))
+
+abbrev pub Mailed : List Parcel → List View → Type 0
+Mailed parcels views =
+    (far : ℕ) × (near : ℕ) × (f : Talk) × (n : Talk) × Between parcels f n × ((seat : ℕ) (v : View) → get_elem? views seat ≡ some v → Fits far near f n seat v)
+
+-- what each step tells an end: of what it knew, the parcel, and what it knows then
+abbrev pub Put : View → Parcel → View → Type 0
+Put v (Question call) w = w ≡ record v { talk = with_call call v.talk }
+Put v (Reply answer) w = ⊥
+
+abbrev pub Gave : Bool → View → Parcel → View → Type 0
+Gave told v (Question call) w = ⊥
+Gave told v (Reply answer) w =
+    (w.asks ≡ v.asks) × (w.answers ≡ v.answers) × ((call : Call) → v.talk.asked ≡ Some call → w.talk ≡ with_answer call answer told v.talk)
+
+-- an answer that nobody had heard was taken back
+abbrev pub IsTakenBack : Talk → Talk → Type 0
+IsTakenBack before after = (call : Call) × (answer : Answer) × (told : Bool) × (before ≡ with_answer call answer told after) × (after.asked ≡ Some call)
+
+-- the one that answers finds its own answer where nobody heard it
+abbrev pub Took : View → Parcel → View → Type 0
+Took v (Question call) w = (v.talk.asked ≡ None) × (w ≡ record v { talk = with_call call v.talk })
+Took v (Reply answer) w = (w.asks ≡ v.asks) × (w.answers ≡ v.answers) × IsTakenBack v.talk w.talk
+
+-- the one that asks finds its own call where nobody took it, and has taken it back then
+abbrev pub Heard : View → Parcel → View → Type 0
+Heard v (Question call) w = w ≡ record v { talk = without_call v.talk }
+Heard v (Reply answer) w =
+    (call : Call) × (told : Bool) × (v.talk.asked ≡ Some call) × (w ≡ record v { talk = with_answer call answer told v.talk })
+    × IsFaithful (known_of v.talk.seen) (exchange call answer told)
+
+-- what a call that was asked came to: it was answered, faithfully; or it wasn't, and nothing was said, or it is still to be answered
+abbrev pub IsAnswered : Talk → Call → Answer → Talk → Type 0
+IsAnswered before call answer after =
+    (told : Bool) × (before.asked ≡ None) × (after ≡ with_answer call answer told before) × IsFaithful (known_of before.seen) (exchange call answer told)
+
+abbrev pub IsUnanswered : Talk → Talk → Type 0
+IsUnanswered before after = (after.seen ≡ before.seen) × (after.asked ≡ None → before.asked ≡ None)
