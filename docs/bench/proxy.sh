@@ -1,17 +1,19 @@
 #!/bin/sh
 # What the proxy costs beside nginx and haproxy, over one upstream: processor time of a request and requests a second, at bodies of 0, 1 KiB,
 # 100 KiB and 10 MiB, with 1, 100 and 100,000 routes; and what 100,000 additions by the interface take.
-# usage: docs/bench/proxy.sh PROGRAM [SECONDS]
+# usage: docs/bench/proxy.sh PROGRAM [SECONDS [ROUNDS]]
 # PROGRAM is the hub as `./run` links it (crates/hub/out/hub). It needs nginx, haproxy and wrk (Debian: nginx-light haproxy wrk), takes some
-# three minutes at 3 seconds a measure, stands outside the gate, and writes into a new folder under /tmp alone.
+# four minutes at 2 seconds a measure and 5 rounds, stands outside the gate, and writes into a new folder under /tmp alone.
+# nginx is measured with one worker, and with one for each processor, as Debian sets it up. All are asked in turn; each figure is the median of
+# the rounds. The proxy's workers have been used once before, since a worker that is used for the first time takes its memory then.
 set -eu
 program=$(realpath "$1")
-exec python3 - "$program" "${2:-3}" <<'PYTHON'
-import json, os, re, shutil, socket, subprocess, sys, tempfile, time
+exec python3 - "$program" "${2:-2}" "${3:-5}" <<'PYTHON'
+import json, os, re, shutil, socket, statistics, subprocess, sys, tempfile, time
 
-program, seconds = sys.argv[1], sys.argv[2]
+program, seconds, rounds = sys.argv[1], sys.argv[2], int(sys.argv[3])
 place = tempfile.mkdtemp(prefix="proxy_bench.")
-SOURCE, NGINX, HAPROXY, PROXY, API = 18500, 18501, 18502, 18503, 18504
+SOURCE, NGINX, HAPROXY, PROXY, API, WIDE = 18500, 18501, 18502, 18503, 18504, 18505
 SECRET = "bench-secret-of-the-proxy"
 BODIES = {"0": 0, "1 KiB": 1024, "100 KiB": 102400, "10 MiB": 10485760}
 running = []
@@ -31,10 +33,10 @@ def start(words, port, wanted=None):
     sys.exit(f"{words[0]} doesn't listen")
 
 
-def nginx(name, server):
+def nginx(name, server, workers=1):
     temporary = "".join(f"{kind}_temp_path {place}/tmp; " for kind in ("client_body", "proxy", "fastcgi", "uwsgi", "scgi"))
     open(f"{place}/{name}.conf", "w").write(
-        f"worker_processes 1; daemon off; pid {place}/{name}.pid; error_log {place}/{name}.err; worker_rlimit_nofile 65536;"
+        f"worker_processes {workers}; daemon off; pid {place}/{name}.pid; error_log {place}/{name}.err; worker_rlimit_nofile 65536;"
         f"events {{ worker_connections 8192; }} http {{ access_log off; {temporary} {server} }}")
     return ["nginx", "-c", f"{place}/{name}.conf"]
 
@@ -63,7 +65,7 @@ def spent(pid):
 
 
 def load(process, port, path, connections):
-    """Requests a second, and the processor time of each in microseconds."""
+    """The processor time of a request in microseconds, and requests a second."""
     before = spent(process.pid)
     said = subprocess.run(
         ["wrk", "-t2", f"-c{connections}", f"-d{seconds}s", "-H", "Connection: close", f"http://127.0.0.1:{port}{path}"],
@@ -71,8 +73,21 @@ def load(process, port, path, connections):
     count = int(re.search(r"(\d+) requests in", said)[1])
     rate = float(re.search(r"Requests/sec:\s*([\d.]+)", said)[1])
     failed = re.search(r"Non-2xx.*: (\d+)", said)
-    took = 1e6 * (spent(process.pid) - before) / max(count, 1)
-    return f"{rate:9.0f}/s {took:9.1f} us" + (f" {failed[1]} REFUSED" if failed else "")
+    if failed:
+        sys.exit(f"{failed[1]} requests were refused at port {port}")
+    return 1e6 * (spent(process.pid) - before) / max(count, 1), rate
+
+
+def in_turn(everyone, ports, size, routes):
+    """Asks all of them in turn, and prints the median of each."""
+    seen = {who: [] for who in everyone}
+    for _ in range(rounds):
+        for who, process in everyone.items():
+            seen[who].append(load(process, ports[who], f"/user/u0/{size}", 16))
+    for who, all_of in seen.items():
+        took, rate = (statistics.median(column) for column in zip(*all_of))
+        spread = f"{min(all_of)[0]:.1f} to {max(all_of)[0]:.1f}"
+        print(f"{routes:6} routes, body {size:8} {who:16} {took:9.1f} us ({spread}) {rate:9.0f}/s", flush=True)
 
 
 def api(method, path, body=""):
@@ -104,8 +119,10 @@ def main():
         open(f"{place}/www/user/u0/{size}", "wb").write(b"x" * size)
     open(place + "/secret", "w").write(SECRET + "\n")
     start(nginx("source", f"open_file_cache max=100; sendfile on; tcp_nopush on; server {{ listen 127.0.0.1:{SOURCE} backlog=4096; root {place}/www; }}"), SOURCE)
+    passes = f"backlog=4096; location / {{ proxy_pass http://127.0.0.1:{SOURCE}; }} }}"
     others = {
-        "nginx": start(nginx("nginx", f"server {{ listen 127.0.0.1:{NGINX} backlog=4096; location / {{ proxy_pass http://127.0.0.1:{SOURCE}; }} }}"), NGINX),
+        "nginx, 1 worker": start(nginx("nginx", f"server {{ listen 127.0.0.1:{NGINX} {passes}"), NGINX),
+        "nginx, as set up": start(nginx("wide", f"server {{ listen 127.0.0.1:{WIDE} {passes}", "auto"), WIDE),
     }
     open(place + "/haproxy.cfg", "w").write(
         f"global\n nbthread 1\n maxconn 8192\ndefaults\n mode http\n option httpclose\n timeout connect 10s\n timeout client 30s\n timeout server 30s\n"
@@ -113,7 +130,7 @@ def main():
     others["haproxy"] = start(["haproxy", "-f", place + "/haproxy.cfg"], HAPROXY)
     ours = start([program, "proxy", "--listen", f"127.0.0.1:{PROXY}", "--api", f"127.0.0.1:{API}", "--secret-file", place + "/secret"], PROXY, "ready\n")
     everyone = {**others, "ours": ours}
-    ports = {"nginx": NGINX, "haproxy": HAPROXY, "ours": PROXY}
+    ports = dict(zip(everyone, (NGINX, WIDE, HAPROXY, PROXY)))
     have = 0
     for routes in (1, 100, 100000):
         held, began, before = memory(ours.pid), time.monotonic(), spent(ours.pid)
@@ -123,10 +140,10 @@ def main():
         print(f"{more} additions: {1e6 * took / more:.0f} us each on the clock, {1e6 * work / more:.1f} us of processor time, "
               f"{1024 * (memory(ours.pid) - held) / more:.0f} bytes each", flush=True)
         have = routes
-        for name, size in BODIES.items():
-            for who, process in everyone.items():
-                if routes == 1 or who == "ours":
-                    print(f"{routes:6} routes, body {name:8} {who:8} {load(process, ports[who], f'/user/u0/{size}', 16)}", flush=True)
+        if routes == 1:
+            load(ours, PROXY, "/user/u0/0", 16)
+        for size in BODIES.values():
+            in_turn(everyone if routes == 1 else {"ours": ours}, ports, size, routes)
 
 
 try:
