@@ -7,7 +7,7 @@ use Rattle.hub_devices.specs.declared.calls.Spawning.{Spawning}
 use Rattle.hub_devices.specs.declared.calls.Routing.{Routing}
 use Rattle.hub_devices.specs.declared.calls.Told.{Told}
 use Rattle.hub_core.specs.Visits.{Entry}
-use Rattle.hub_core.specs.Views.{View, view_of}
+use Rattle.hub_core.specs.Views.{Faults, View, view_of}
 use Rattle.hub_core.specs.declared.kit.HubKit.{HubKit}
 use Rattle.hub_core.specs.declared.start.Start.{Start}
 use Rattle.hub_run.specs.Connections.{ConnectionEnds}
@@ -30,6 +30,24 @@ pub record Session : Type 0 where
 -- it ended as connections do for a book that began with `start`
 abbrev pub EndsOver : Start → Session → Type 0
 EndsOver start s = ConnectionEnds start s.before s.left s.held s.after s.left_after s.held_after s.ended
+
+-- what the devices of a worker tell: the moments and the draws to come, the calls of the spawner and of the route link, and the faults
+pub record DevicesTold : Type 0 where
+  pub clock : Option (ℕ → ℕ)
+  pub draws : Option (List (List ℕ))
+  pub spawner : Option (List (Spawning × Told))
+  pub routes : Option (List (Routing × Told))
+  pub faults : Faults
+
+abbrev pub devices_in : View → DevicesTold
+devices_in x = record { clock = x.clock; draws = x.draws; spawner = x.spawner; routes = x.routes; faults = x.faults }
+
+-- those of its worker, before it and after it
+abbrev pub devices_before : Session → DevicesTold
+devices_before s = devices_in s.before
+
+abbrev pub devices_after : Session → DevicesTold
+devices_after s = devices_in s.after
 
 -- what the pass's own entries grew by, each with its place
 abbrev pub gained : Session → List (ℕ × Entry)
@@ -59,6 +77,17 @@ pub record AreServed (start : Start) (p : PassState Entry Start) (entries : List
   pub whole : placed 0 entries ≡ with_gains p.mine workers
 
 -- ---- as plain values
+
+-- what the devices of a kit tell
+abbrev pub devices_of : {S P C R : Type 0} → (C → Option (ℕ → ℕ)) → (R → Option (List (List ℕ))) → (S → Option (List (Spawning × Told)))
+    → (P → Option (List (Routing × Told))) → (R → ℕ) → (S → ℕ) → (P → ℕ) → HubKit S P C R → DevicesTold
+devices_of to_come draws spawned linked draw_faults spawn_faults route_faults kit = record {
+  clock = to_come kit.clock;
+  draws = draws kit.random;
+  spawner = spawned kit.spawner;
+  routes = linked kit.routes;
+  faults = record { random = draw_faults kit.random; spawner = spawn_faults kit.spawner; routes = route_faults kit.routes };
+}
 
 -- how a connection ended, by the pass and the kit before and after it, and by the bytes to come and those that were written
 abbrev pub HasEnded : {S P C R : Type 0} → (C → Option (ℕ → ℕ)) → (R → Option (List (List ℕ))) → (S → Option (List (Spawning × Told))) → (P → Option (List (Routing × Told)))

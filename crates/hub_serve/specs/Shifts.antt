@@ -15,6 +15,18 @@ abbrev pub count_of : {X : Type 0} → List (List X) → ℕ
 count_of [] = 0
 count_of (xs ∷ rest) = length xs + count_of rest
 
+-- these came one after the other, by what was k before the first and is k' behind the last: each had what the one before it had left
+abbrev pub Spans : {X K : Type 0} → (before after : X → K) → K → List X → K → Type 0
+Spans before after k [] k' = k ≡ k'
+Spans before after k (x ∷ xs) k' = (k ≡ before x) × Spans before after (after x) xs k'
+
+-- each worker had what stands at its own place of the first list, and left what stands there in the second; what no worker had is as it was
+abbrev pub AreOf : {X K : Type 0} → (before after : X → K) → List K → List (List X) → List K → Type 0
+AreOf before after ks [] ks' = ks ≡ ks'
+AreOf before after [] (xs ∷ xss) ks' = ⊥
+AreOf before after (k ∷ ks) (xs ∷ xss) [] = ⊥
+AreOf before after (k ∷ ks) (xs ∷ xss) (k' ∷ ks') = Spans before after k xs k' × AreOf before after ks xss ks'
+
 -- the pass that is split off this one
 abbrev pub split_from : {E A : Type 0} → PassState E A → PassState E A
 split_from p = fresh p.of p.base p.seen p.faults
@@ -24,15 +36,18 @@ module _ {P Q I O : Type 0} where
   abbrev pub shifts_of : Tally P Q I O → List (List (Connection P Q I O))
   shifts_of tally = map entries_of (entries_of tally.shifts)
 
-  -- these came behind that one, each where the one before it had left the pass and the kit, which are q and k in the end
-  abbrev pub Follow : Connection P Q I O → List (Connection P Q I O) → P → Q → Type 0
-  Follow c [] q k = (c.after.pass.value ≡ q) × (c.after.kit.value ≡ k)
-  Follow c (d ∷ ds) q k = (c.after.pass.value ≡ d.before.pass.value) × (c.after.kit.value ≡ d.before.kit.value) × Follow d ds q k
+  -- its worker's pass and kit, before it and after it
+  abbrev pub pass_before : Connection P Q I O → P
+  pass_before c = c.before.pass.value
 
-  -- all of a worker that began with the pass p, and has the pass q and the kit k in the end
-  abbrev pub Leads : P → List (Connection P Q I O) → P → Q → Type 0
-  Leads p [] q k = p ≡ q
-  Leads p (c ∷ cs) q k = (p ≡ c.before.pass.value) × Follow c cs q k
+  abbrev pub pass_after : Connection P Q I O → P
+  pass_after c = c.after.pass.value
+
+  abbrev pub kit_before : Connection P Q I O → Q
+  kit_before c = c.before.kit.value
+
+  abbrev pub kit_after : Connection P Q I O → Q
+  kit_after c = c.after.kit.value
 
   -- these came behind that one, each where the one before it had left the pass and the kit
   abbrev pub GoOn : Connection P Q I O → List (Connection P Q I O) → Type 0
@@ -51,10 +66,11 @@ module _ {P Q I O : Type 0} where
       × ends c.before.pass.value c.before.kit.value (left c.before.input.value) (held c.before.output.value)
       c.after.pass.value c.after.kit.value (left c.after.input.value) (held c.after.output.value) c.ended
 
-  -- a worker that began with the pass p served these, and has the pass q and the kit k in the end
+  -- a worker that began with the pass p and the kit j served these, and has the pass q and the kit k in the end
   abbrev pub IsShift : (I → O → Type 0) → (P → Q → Option (List ℕ) → Option (List ℕ) → P → Q → Option (List ℕ) → Option (List ℕ) → Result Served SessionFault → Type 0)
-      → (I → Option (List ℕ)) → (O → Option (List ℕ)) → P → List (Connection P Q I O) → P → Q → Type 0
-  IsShift are_sides ends left held p cs q k = Leads p cs q k × All (IsServed are_sides ends left held) cs
+      → (I → Option (List ℕ)) → (O → Option (List ℕ)) → P → Q → List (Connection P Q I O) → P → Q → Type 0
+  IsShift are_sides ends left held p j cs q k =
+      Spans pass_before pass_after p cs q × Spans kit_before kit_after j cs k × All (IsServed are_sides ends left held) cs
 
   -- a worker that began with the pass p served these
   abbrev pub IsWhole : (I → O → Type 0) → (P → Q → Option (List ℕ) → Option (List ℕ) → P → Q → Option (List ℕ) → Option (List ℕ) → Result Served SessionFault → Type 0)

@@ -3,7 +3,7 @@ ghost use Rattle.std.specs.Prelude.{◌≡◌, ◌==◌, ◌≤◌, ◌<◌, tru
 ghost use mathlib.Core.List.{IsPrefix};
 ghost use Rattle.hub_serve.specs.Ends.{IsFault};
 ghost use Rattle.hub_serve.specs.Given.{Gave};
-ghost use Rattle.hub_serve.specs.Shifts.{IsWhole, all_own, count_of, shifts_of, split_from};
+ghost use Rattle.hub_serve.specs.Shifts.{AreOf, IsWhole, all_own, count_of, kit_after, kit_before, shifts_of, split_from};
 
 use crate::doors::{Doors, Doorway, Front};
 use crate::serving::ServeFault;
@@ -17,7 +17,7 @@ use std::sync::Wait;
 use std::sync::ledger::Blank;
 use std::thread::Threads;
 
-/// Serves, where the type N stands for this call. The listener comes back.
+/// Serves, where the type N stands for this call. The listener and the kits come back.
 #[tactic(auto, using(crate::proofs::Givens::Gave_none))]
 pub(crate) fn serve_as<
     'a,
@@ -33,14 +33,14 @@ pub(crate) fn serve_as<
     desk: &Desk<B>,
     pass: &mut Pass<B>,
     front: Front<'a, L>,
-    kits: &mut [Q],
+    kits: &mut Vec<Q>,
     connections: u64,
     tally: &mut Tally<Pass<B>, Q, L::In, L::Out>,
 ) -> (Result<(), ServeFault>, Front<'a, L>)
     requires of { pass.old.of ≡ desk.now }
-    requires kits { 0 < length kits.old }
+    requires kits { 0 < length kits.old.items }
     requires name { blank.name ≡ N.name }
-    requires parts { (blank.parts ≡ N.parts) × (N.parts ≡ length kits.old) }
+    requires parts { (blank.parts ≡ N.parts) × (N.parts ≡ length kits.old.items) }
     requires door { front.listener.ghost_name ≡ N.door }
     requires given { L.given front.listener.now ≡ N.given }
     requires faults { L.faults front.listener.now ≡ N.faults }
@@ -53,6 +53,7 @@ pub(crate) fn serve_as<
     ensures mine { pass.new.mine ≡ all_own (split_from pass.old) pass.old.mine (shifts_of tally.new) }
     ensures shifts { All (λ cs. IsWhole L.are_sides Q.ends L.In.left L.Out.held (split_from pass.old) cs) (shifts_of tally.new) }
     ensures total { count_of (shifts_of tally.new) ≡ tally.new.count }
+    ensures kits { AreOf kit_before kit_after kits.old.items (shifts_of tally.new) kits.new.items }
     ensures begins { IsPrefix pass.old.seen pass.new.seen }
     ensures counted { pass.old.faults ≤ pass.new.faults }
     ensures same_reference { result.1.listener.ghost_name ≡ front.entry.listener.ghost_name }
@@ -79,7 +80,7 @@ pub(crate) fn serve_as<
         count,
     );
     let (front, left, mut taken) = doors.end();
-    *tally = join_all(desk, &first, pass, workers, &mut taken, &mut all);
+    *tally = join_all(desk, &first, pass, workers, kits, &mut taken, &mut all);
     (ended(left, tally.count()), front)
 }
 

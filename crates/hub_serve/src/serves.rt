@@ -38,7 +38,8 @@ impl<K: Keeper, T: Trail<Entry = Change>, S: Spawner, P: RouteLink, C: Clock, R:
         ensures of { pass.new.of ≡ pass.old.of }
         ensures before { (pass.old ≡ result.before.pass.value) × (self.old ≡ result.before.kit.value) }
         ensures after { (result.after.pass.value ≡ pass.new) × (result.after.kit.value ≡ self.new) }
-        ensures served { IsServed L.are_sides (HasEnded C.to_come R.left S.calls P.calls R.faults S.faults P.faults) L.In.left L.Out.held result }
+        ensures served { IsServed L.are_sides (HasEnded C.to_come R.left S.calls P.calls R.faults S.faults P.faults)
+            L.In.left L.Out.held result }
     {
         let mut input = input;
         let mut output = output;

@@ -5,7 +5,7 @@ ghost use Rattle.hub_core.specs.Visits.{entries_of};
 ghost use Rattle.hub_serve.specs.Ends.{IsFault};
 ghost use Rattle.hub_serve.specs.Given.{Gave};
 ghost use Rattle.hub_serve.specs.Sessions.{AreServed, sessions_of};
-ghost use Rattle.hub_serve.specs.Shifts.{shifts_of};
+ghost use Rattle.hub_serve.specs.Shifts.{AreOf, kit_after, kit_before, shifts_of};
 
 use crate::crew::serve_as;
 use crate::doors::Front;
@@ -56,7 +56,7 @@ pub fn serve<
     desk: Desk<Book<K, T>>,
     pass: Pass<Book<K, T>>,
     doors: &mut L,
-    kits: &mut [HubKit<S, P, C, R>],
+    kits: &mut Vec<HubKit<S, P, C, R>>,
     connections: u64,
 ) -> (
     Book<K, T>,
@@ -65,7 +65,7 @@ pub fn serve<
 )
     requires of { pass.of ≡ desk }
     requires alone { pass.alone ≡ true }
-    requires kits { 0 < length kits.old }
+    requires kits { 0 < length kits.old.items }
     ensures begins { IsPrefix pass.seen (entries_of result.0) }
     ensures base { pass.base ≡ Some result.0.start }
     ensures counted { pass.faults ≤ result.0.faults }
@@ -76,6 +76,7 @@ pub fn serve<
     ensures untouched { result.2 ≡ Err ServeFault.Memory → doors.new ≡ doors.old }
     ensures served { AreServed result.0.start pass (entries_of result.0) result.1.count
         (sessions_of C.to_come R.left S.calls P.calls R.faults S.faults P.faults L.In.left L.Out.held result.1) }
+    ensures kits { AreOf kit_before kit_after kits.old.items (shifts_of result.1) kits.new.items }
     ensures sides { All (λ cs. All (λ c. L.are_sides c.before.input.value c.before.output.value) cs) (shifts_of result.1) }
 {
     let mut pass = pass;
