@@ -1,5 +1,5 @@
 -- What is known at the end of the serving.
-use Rattle.std.proofs.Common.{◌≡◌, ◌≤◌, ◌==◌, ◌∙◌, ◌↔◌, inl, inr, ℕ, Bool, IsTrue, true, false, not, List, [], map, All, Option, Some, Result, Ok, Err, IfOk, IfErr, is_ok, refl, sym, ap, subst, arith}
+use Rattle.std.proofs.Common.{◌≡◌, ◌≤◌, ◌==◌, ◌∙◌, ◌↔◌, inl, inr, ℕ, Bool, IsTrue, true, false, not, List, [], ◌∷◌, map, All, Option, Some, Result, Ok, Err, IfOk, IfErr, is_ok, refl, sym, ap, subst, arith}
 use Rattle.std.proofs.lemmas.List.Elements.{All-map, All-nil, All-weaker}
 use mathlib.Core.List.{IsPrefix}
 use Rattle.atomic_table.specs.Seated.{TableId}
@@ -21,8 +21,8 @@ use Rattle.hub_run.specs.Turns.{Faults, View}
 use Rattle.hub_adopt.specs.Adopting.{Looks, TakesBack}
 use Rattle.hub_serve.specs.Ends.{IsFault}
 use Rattle.hub_serve.specs.Given.{Gave}
-use Rattle.hub_serve.specs.Sessions.{AreServed, EndsOver as EndsSession, GoFrom, Session, session_of, sessions_of}
-use Rattle.hub_serve.specs.Shifts.{shifts_of}
+use Rattle.hub_serve.specs.Sessions.{AreServed, DevicesTold, EndsOver as EndsSession, GoFrom, Session, devices_after, devices_before, devices_of, session_of, sessions_of}
+use Rattle.hub_serve.specs.Shifts.{AreOf, Spans, kit_after, kit_before, shifts_of}
 use Rattle.hub_serve.specs.declared.serving.ServeFault.{ServeFault}
 use Rattle.hub_serve.specs.declared.serving.ServeFault.TheVariants as fault
 use Rattle.hub_serve.specs.declared.tally.Connection.{Connection}
@@ -39,14 +39,14 @@ use Rattle.hub_main.proofs.Passes.{last_state}
 use Rattle.hub_serving.specs.Hall.{DoorsTold, Hall, IsQuiet, IsUnserved, SidesTell, at_view, view_in}
 use Rattle.service_doors.specs.Tending.{ServicesTold}
 use Rattle.hub_serving.specs.Ends.{End, IsWritten, served_line, stream_told}
-use Rattle.hub_serving.specs.Served.{AreGiven, Attends, EndsBy, EndsDesk, EndsOver, EndsReady, EndsSynced, HasServed, IsUntouched, Serves, Syncs, served_by}
+use Rattle.hub_serving.specs.Served.{AreGiven, AreServedBy, Attends, EndsBy, EndsDesk, EndsOver, EndsReady, EndsSynced, HasServed, IsUntouched, Serves, Syncs, served_by}
 use Rattle.hub_serving.specs.declared.end.Ended.{Ended}
 use Rattle.hub_serving.specs.declared.end.NotServed.{NotServed}
 use Rattle.hub_serving.specs.declared.end.NotServed.TheVariants.{Because}
 use Rattle.hub_serving.specs.declared.plan.Plan.{Plan}
 
 pub still : (h : Hall) → IsQuiet h h
-still h = record { output = refl; doors = refl; clock = refl; kit = refl; services = refl }
+still h = record { output = refl; doors = refl; clock = refl; kit = refl; kits = refl; services = refl }
 
 pub calm : (h : Hall) → IsUnserved h h
 calm h = record { output = refl; doors = refl; clock = refl; kit = refl }
@@ -79,12 +79,12 @@ told_doors given faults = record { given = given; faults = faults }
 
 -- a hub that served, and one that found no memory
 module _ {O D : Type 0} (held : O → Option (List ℕ)) (write_faults : O → ℕ) (given : D → Option ℕ) (door_faults : D → ℕ) (o o' : O) (d d' : D)
-    (clock : Option (ℕ → ℕ)) (kit : KitTold) (s s' : ServicesTold) where
+    (clock : Option (ℕ → ℕ)) (kit : KitTold) (kits kits' : List DevicesTold) (s s' : ServicesTold) where
   abbrev before : Hall
-  before = record { output = stream_told held write_faults o; doors = doors_told given door_faults d; clock = clock; kit = kit; services = s }
+  before = record { output = stream_told held write_faults o; doors = doors_told given door_faults d; clock = clock; kit = kit; kits = kits; services = s }
 
   abbrev after : Hall
-  after = record { output = stream_told held write_faults o'; doors = doors_told given door_faults d'; clock = clock; kit = kit; services = s' }
+  after = record { output = stream_told held write_faults o'; doors = doors_told given door_faults d'; clock = clock; kit = kit; kits = kits'; services = s' }
 
   pub serves : (connections tally count : ℕ) (served : Result Unit ServeFault) (end : End) → count ≡ tally
       → Gave (given d) tally (given d') → tally ≤ connections → is_ok served ≡ (tally == connections)
@@ -119,10 +119,10 @@ module _ {O D : Type 0} (held : O → Option (List ℕ)) (write_faults : O → �
 
 -- what is said of a tally's sessions, by the number that was counted of it
 pub as_counted : (Sides : Option (List ℕ) → Option (List ℕ) → Type 0) (start : Start) (pass : PassState Entry Start) (entries : List Entry) (number told : ℕ)
-    (workers : List (List Session)) → told ≡ number → AreServed start pass entries number workers → AreGiven Sides workers
-    → (of : List (List Session)) × AreServed start pass entries told of × AreGiven Sides of
-as_counted Sides start pass entries number told workers same are given =
-    (workers, subst (λ (n : ℕ). AreServed start pass entries n workers) (sym same) are, given)
+    (workers : List (List Session)) (kits kits' : List DevicesTold) → told ≡ number → AreServed start pass entries number workers → AreGiven Sides workers
+    → AreOf devices_before devices_after kits workers kits' → AreServedBy Sides start pass entries told kits kits'
+as_counted Sides start pass entries number told workers kits kits' same are given devices =
+    (workers, subst (λ (n : ℕ). AreServed start pass entries n workers) (sym same) are, given, devices)
 
 module _ {O D : Type 0} (held : O → Option (List ℕ)) (write_faults : O → ℕ) (door_faults : D → ℕ) (o o' : O) (d d' : D) where
   -- the sessions are as many as the end tells
@@ -160,13 +160,44 @@ module _ {S P C R I O : Type 0} (to_come : C → Option (ℕ → ℕ)) (draws : 
   given_sides tally each = All-map (λ ss. All IsGiven ss) (λ cs. map session cs) (shifts_of tally)
       (All-weaker (λ cs. All IsSided cs) (λ cs. All IsGiven (map session cs)) of_shift (shifts_of tally) each)
 
+-- ---- the devices of the sessions
+
+-- what is said of kits and of those who had them, by what they tell
+module _ {X K Y L : Type 0} (before after : X → K) (first last : Y → L) (tell : K → L) (turn : X → Y) (begins : (x : X) → first (turn x) ≡ tell (before x))
+    (ends : (x : X) → last (turn x) ≡ tell (after x)) where
+  tell_span : (k : K) (xs : List X) (k' : K) → Spans before after k xs k' → Spans first last (tell k) (map turn xs) (tell k')
+  tell_span k [] k' h = ap tell h
+  tell_span k (x ∷ xs) k' h = (
+    ap tell h.0 ∙ sym (begins x),
+    subst (λ l. Spans first last l (map turn xs) (tell k')) (sym (ends x)) (tell_span (after x) xs k' h.1),
+  )
+
+  tell_kits : (ks : List K) (xss : List (List X)) (ks' : List K) → AreOf before after ks xss ks'
+      → AreOf first last (map tell ks) (map (λ xs. map turn xs) xss) (map tell ks')
+  tell_kits ks [] ks' h = ap (λ l. map tell l) h
+  tell_kits [] (xs ∷ xss) ks' h = absurd h
+  tell_kits (k ∷ ks) (xs ∷ xss) [] h = absurd h
+  tell_kits (k ∷ ks) (xs ∷ xss) (k' ∷ ks') h = (tell_span k xs k' h.0, tell_kits ks xss ks' h.1)
+
+module _ {S P C R I O : Type 0} (to_come : C → Option (ℕ → ℕ)) (draws : R → Option (List (List ℕ))) (spawned : S → Option (List (Spawning × Told)))
+    (linked : P → Option (List (Routing × Told))) (draw_faults : R → ℕ) (spawn_faults : S → ℕ) (route_faults : P → ℕ)
+    (left : I → Option (List ℕ)) (held : O → Option (List ℕ)) where
+  pub given_devices : (tally : Tally (PassState Entry Start) (HubKit S P C R) I O) (kits kits' : List (HubKit S P C R))
+      → AreOf kit_before kit_after kits (shifts_of tally) kits'
+      → AreOf devices_before devices_after (map (devices_of to_come draws spawned linked draw_faults spawn_faults route_faults) kits)
+      (sessions_of to_come draws spawned linked draw_faults spawn_faults route_faults left held tally)
+      (map (devices_of to_come draws spawned linked draw_faults spawn_faults route_faults) kits')
+  given_devices tally kits kits' are = tell_kits kit_before kit_after devices_before devices_after
+      (devices_of to_come draws spawned linked draw_faults spawn_faults route_faults)
+      (session_of to_come draws spawned linked draw_faults spawn_faults route_faults left held) (λ c. refl) (λ c. refl) kits (shifts_of tally) kits' are
+
 -- ---- no session
 
 -- the desk of a pass that is alone was closed: its book has what the pass had made
 pub none_served : (Sides : Option (List ℕ) → Option (List ℕ) → Type 0) (start : Start) (pass : PassState Entry Start) (entries : List Entry) → pass.alone ≡ true
     → (pass.alone ≡ true → entries ≡ pass.seen) → (pass.alone ≡ true → pass.mine ≡ placed 0 pass.seen)
-    → (workers : List (List Session)) × AreServed start pass entries 0 workers × AreGiven Sides workers
-none_served Sides start pass entries alone whole own = (
+    → (kits : List DevicesTold) → AreServedBy Sides start pass entries 0 kits kits
+none_served Sides start pass entries alone whole own kits = (
   [],
   record {
     count = refl;
@@ -175,6 +206,7 @@ none_served Sides start pass entries alone whole own = (
     whole = ap (λ (e : List Entry). placed 0 e) (whole alone) ∙ sym (own alone);
   },
   All-nil (λ (ss : List Session). All (λ s. Sides s.left s.held) ss),
+  refl,
 )
 
 same_start : (base : Option Start) (found start : Start) → base ≡ Some found → base ≡ Some start → found ≡ start
@@ -232,10 +264,9 @@ module _ {K : Type 0} (Tells : K → Type 0) (rows : K → Rows) (faults : K →
   pub ready : (start : Start) (pass : PassState Entry Start) (plan : Plan) (h h' : Hall) (k' : K) (end : End) (book : Standing) (number : ℕ)
       → Serves plan.connections h h' end → Attends plan.managed h h' end → IsPrefix pass.seen (entries_of book)
       → pass.base ≡ Some book.start → pass.base ≡ Some start → number ≡ served_by end
-      → (workers : List (List Session)) × AreServed book.start pass (entries_of book) number workers × AreGiven Sides workers
-      → Reached book.start (entries_of book) book.hub → (Tells k' → Keeps (rows k') book.hub.tables)
+      → AreServedBy Sides book.start pass (entries_of book) number h.kits h'.kits → Reached book.start (entries_of book) book.hub → (Tells k' → Keeps (rows k') book.hub.tables)
       → EndsReady Tells rows faults Sides start pass plan h h' k' end
-  ready start pass plan h h' k' end book number serves services begins found given counted (workers, are, sides) reached kept = record {
+  ready start pass plan h h' k' end book number serves services begins found given counted (workers, are, sides, devices) reached kept = record {
     serves = serves;
     services = services;
     entries = entries_of book;
@@ -244,6 +275,7 @@ module _ {K : Type 0} (Tells : K → Type 0) (rows : K → Rows) (faults : K →
     are = subst (λ (s : Start). AreServed s pass (entries_of book) (served_by end) workers) (same_start pass.base book.start start found given)
         (subst (λ (n : ℕ). AreServed book.start pass (entries_of book) n workers) counted are);
     given = sides;
+    devices = devices;
     kept = kept_at start pass.base (entries_of book) k' book found given refl reached kept;
   }
 
@@ -255,7 +287,7 @@ module _ {K : Type 0} (Tells : K → Type 0) (rows : K → Rows) (faults : K →
       → EndsReady Tells rows faults Sides start pass plan h h k' (Err (Because Memory))
   unattended start pass plan h k' book alone begins whole own found given reached kept =
       ready start pass plan h h k' (Err (Because Memory)) book 0 (refl, calm h) (inr (refl, refl)) begins found given refl
-      (none_served Sides book.start pass (entries_of book) alone whole own) reached kept
+      (none_served Sides book.start pass (entries_of book) alone whole own h.kits) reached kept
 
   -- the routes were brought into step, or their link failed, and then connections were served
   pub by_synced : (start : Start) (pass : PassState Entry Start) (synced : View) (answer : Result Synced SyncFault) (wanting : Bool) (plan : Plan) (h h' : Hall)
@@ -295,16 +327,17 @@ module _ {K : Type 0} (Tells : K → Type 0) (rows : K → Rows) (faults : K →
   -- the pass looked, and memory was wanting
   pub looked : (start : Start) (base : Option Start) (pass : PassState Entry Start) (plan : Plan) (h h' : Hall) (x y : View) (k' : K) (book : Standing)
       → Looks x y → x.pass.alone ≡ true → x.pass.seen ≡ [] → kit_in x ≡ h.kit → kit_in y ≡ h'.kit → x.clock ≡ h.clock → y.clock ≡ h'.clock
-      → h'.output ≡ h.output → h'.doors ≡ h.doors → h'.services ≡ h.services → base ≡ Some book.start → base ≡ Some start → entries_of book ≡ y.pass.seen
+      → h'.output ≡ h.output → h'.doors ≡ h.doors → h'.kits ≡ h.kits → h'.services ≡ h.services → base ≡ Some book.start → base ≡ Some start → entries_of book ≡ y.pass.seen
       → Reached book.start (entries_of book) book.hub → (Tells k' → Keeps (rows k') book.hub.tables)
       → EndsDesk Tells rows faults Sides start pass plan h h' k' (Err (Because Memory))
-  looked start base pass plan h h' x y k' book looks alone new before after early late output doors services found given seen reached kept = inl (record {
+  looked start base pass plan h h' x y k' book looks alone new before after early late output doors kits services found given seen reached kept = inl (record {
     wanting = refl;
     quiet = record {
       output = output;
       doors = doors;
       clock = sym late ∙ looks.clock ∙ early;
       kit = sym after ∙ looked_kit x y looks ∙ before;
+      kits = kits;
       services = services;
     };
     kept = kept_at start base [] k' book found given (seen ∙ looked_seen x y looks alone ∙ new) reached kept;

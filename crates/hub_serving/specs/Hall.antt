@@ -1,5 +1,5 @@
 -- What a hub that serves has outside, where it is told.
-use Rattle.std.specs.Prelude.{◌≡◌, ℕ, List, Option}
+use Rattle.std.specs.Prelude.{◌≡◌, ℕ, List, map, Option}
 use Rattle.desk.specs.Passes.{PassState}
 use Rattle.hub_devices.specs.declared.calls.Spawning.{Spawning}
 use Rattle.hub_devices.specs.declared.calls.Routing.{Routing}
@@ -9,6 +9,7 @@ use Rattle.hub_core.specs.declared.start.Start.{Start}
 use Rattle.hub_run.specs.Turns.{View}
 use Rattle.hub_core.specs.declared.kit.HubKit.{HubKit}
 use Rattle.hub_main.specs.Told.{StreamTold, KitTold, kit_told}
+use Rattle.hub_serve.specs.Sessions.{DevicesTold, devices_of}
 use Rattle.services_run.specs.Calls.{RunCall}
 use Rattle.service_doors.specs.Tending.{ServicesTold, services_told}
 use Rattle.service_doors.specs.declared.kit.ServiceKit.{ServiceKit}
@@ -23,25 +24,29 @@ abbrev pub SidesTell : {I O : Type 0} → (I → O → Type 0) → (I → Option
 SidesTell {I} {O} are_sides to_come written left held = (i : I) × (o : O) × are_sides i o × (to_come i ≡ left) × (written o ≡ held)
 
 -- the output, the listener, the devices by which the hub is opened and takes its servers back (the moments to come, and what the others
--- tell), and those of its services
+-- tell), those of its workers, and those of its services
 pub record Hall : Type 0 where
   pub output : StreamTold
   pub doors : DoorsTold
   pub clock : Option (ℕ → ℕ)
   pub kit : KitTold
+  pub kits : List DevicesTold
   pub services : ServicesTold
 
 -- what such devices tell
 abbrev pub hall : {O D S P C R V : Type 0} → (O → Option (List ℕ)) → (O → ℕ) → (D → Option ℕ) → (D → ℕ) → (C → Option (ℕ → ℕ))
     → (R → Option (List (List ℕ))) → (S → Option (List (Spawning × Told))) → (P → Option (List (Routing × Told)))
-    → (R → ℕ) → (S → ℕ) → (P → ℕ) → (V → Option (List RunCall)) → (V → ℕ) → O → D → HubKit S P C R → ServiceKit V P C → Hall
-hall held write_faults given door_faults to_come left spawned routed draw_faults spawn_faults route_faults ran run_faults output doors kit services = record {
-  output = record { bytes = held output; faults = write_faults output };
-  doors = record { given = given doors; faults = door_faults doors };
-  clock = to_come kit.clock;
-  kit = kit_told left spawned routed draw_faults spawn_faults route_faults kit;
-  services = services_told ran routed to_come run_faults route_faults services;
-}
+    → (R → ℕ) → (S → ℕ) → (P → ℕ) → (V → Option (List RunCall)) → (V → ℕ)
+    → O → D → HubKit S P C R → List (HubKit S P C R) → ServiceKit V P C → Hall
+hall held write_faults given door_faults to_come left spawned routed draw_faults spawn_faults route_faults ran run_faults
+    output doors kit kits services = record {
+      output = record { bytes = held output; faults = write_faults output };
+      doors = record { given = given doors; faults = door_faults doors };
+      clock = to_come kit.clock;
+      kit = kit_told left spawned routed draw_faults spawn_faults route_faults kit;
+      kits = map (devices_of to_come left spawned routed draw_faults spawn_faults route_faults) kits;
+      services = services_told ran routed to_come run_faults route_faults services;
+    }
 
 -- nothing was written or accepted, no moment was asked, and no device was called
 pub record IsQuiet (h h' : Hall) : Type 0 where
@@ -49,9 +54,10 @@ pub record IsQuiet (h h' : Hall) : Type 0 where
   pub doors : h'.doors ≡ h.doors
   pub clock : h'.clock ≡ h.clock
   pub kit : h'.kit ≡ h.kit
+  pub kits : h'.kits ≡ h.kits
   pub services : h'.services ≡ h.services
 
--- the same of all but the services
+-- the same of all but the workers' devices and the services
 pub record IsUnserved (h h' : Hall) : Type 0 where
   pub output : h'.output ≡ h.output
   pub doors : h'.doors ≡ h.doors

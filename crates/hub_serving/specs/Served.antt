@@ -20,7 +20,8 @@ use Rattle.hub_sync.specs.declared.calls.Synced.{Synced}
 use Rattle.hub_sync.specs.declared.calls.SyncFault.{SyncFault}
 use Rattle.hub_sync.specs.declared.calls.SyncFault.TheVariants as sync
 use Rattle.hub_serve.specs.Given.{Gave}
-use Rattle.hub_serve.specs.Sessions.{AreServed, Session}
+use Rattle.hub_serve.specs.Sessions.{AreServed, DevicesTold, Session, devices_after, devices_before}
+use Rattle.hub_serve.specs.Shifts.{AreOf}
 use Rattle.hub_main.specs.Served.{HasKept}
 use Rattle.hub_main.specs.declared.cause.Cause.TheVariants.{Memory}
 use Rattle.hub_serving.specs.Hall.{Hall, IsQuiet, IsUnserved, at_view, view_in}
@@ -77,6 +78,13 @@ Attends managed h h' end =
 abbrev pub AreGiven : (Option (List ℕ) → Option (List ℕ) → Type 0) → List (List Session) → Type 0
 AreGiven Sides workers = All (λ ss. All (λ s. Sides s.left s.held) ss) workers
 
+-- so many connections were served over a book, each on its own two sides, by workers who had the first of these devices and left the second
+abbrev pub AreServedBy : (Option (List ℕ) → Option (List ℕ) → Type 0) → Start → PassState Entry Start → List Entry → ℕ
+    → (kits kits' : List DevicesTold) → Type 0
+AreServedBy Sides start pass entries number kits kits' =
+    (workers : List (List Session)) × AreServed start pass entries number workers × AreGiven Sides workers
+    × AreOf devices_before devices_after kits workers kits'
+
 -- how many connections were served
 abbrev pub served_by : End → ℕ
 served_by (Ok end) = end.count
@@ -84,8 +92,9 @@ served_by (Err why) = 0
 
 -- with such sides of connections
 module _ {K : Type 0} (Tells : K → Type 0) (rows : K → Rows) (faults : K → ℕ) (Sides : Option (List ℕ) → Option (List ℕ) → Type 0) where
-  -- Connections were served, as many as are told, by workers whose passes were split off this one, and the services tended. The history is what
-  -- the pass had made of it and what these connections gained, and no more; and the store has exactly the rows of the state that it left
+  -- Connections were served, as many as are told, by workers whose passes were split off this one and whose devices were handed in for them,
+  -- and the services tended. The history is what the pass had made of it and what these connections gained, and no more; and the store has
+  -- exactly the rows of the state that it left
   pub record EndsReady (start : Start) (pass : PassState Entry Start) (plan : Plan) (h h' : Hall) (k' : K) (end : End) : Type 0 where
     pub serves : Serves plan.connections h h' end
     pub services : Attends plan.managed h h' end
@@ -94,6 +103,7 @@ module _ {K : Type 0} (Tells : K → Type 0) (rows : K → Rows) (faults : K →
     pub workers : List (List Session)
     pub are : AreServed start pass entries (served_by end) workers
     pub given : AreGiven Sides workers
+    pub devices : AreOf devices_before devices_after h.kits workers h'.kits
     pub kept : HasKept Tells rows faults start entries k'
 
   -- the routes were brought into step, as far as the link didn't fail, and then connections were served; or memory was wanting for that

@@ -38,9 +38,14 @@ fn run_over<W: ServeWorld, T: Trail<Entry = Change> + Send, R: Threads + Wait + 
     requires scopes { MakeTable plan.now.hub.custom_scopes }
     requires apart { are_distinct plan.now.managed ≡ true }
     requires kits { 0 < length outside.old.kits.items }
-    ensures ends { spec.EndsChosen W.Store.Tells W.Store.rows W.Store.faults (SidesTell W.Doors.are_sides W.Doors.In.left W.Doors.Out.held) plan.now now
-        (hall W.Out.held W.Out.faults W.Doors.given W.Doors.faults W.Time.to_come W.Draws.left W.Starts.calls W.Paths.calls W.Draws.faults W.Starts.faults W.Paths.faults W.Runs.calls W.Runs.faults outside.old.output outside.old.doors outside.old.kit outside.old.services)
-        (hall W.Out.held W.Out.faults W.Doors.given W.Doors.faults W.Time.to_come W.Draws.left W.Starts.calls W.Paths.calls W.Draws.faults W.Starts.faults W.Paths.faults W.Runs.calls W.Runs.faults outside.new.output outside.new.doors outside.new.kit outside.new.services) store result.1 result.0 }
+    ensures ends { spec.EndsChosen W.Store.Tells W.Store.rows W.Store.faults
+        (SidesTell W.Doors.are_sides W.Doors.In.left W.Doors.Out.held) plan.now now
+        (hall W.Out.held W.Out.faults W.Doors.given W.Doors.faults W.Time.to_come W.Draws.left W.Starts.calls W.Paths.calls W.Draws.faults
+        W.Starts.faults W.Paths.faults W.Runs.calls W.Runs.faults
+        outside.old.output outside.old.doors outside.old.kit outside.old.kits.items outside.old.services)
+        (hall W.Out.held W.Out.faults W.Doors.given W.Doors.faults W.Time.to_come W.Draws.left W.Starts.calls W.Paths.calls W.Draws.faults
+        W.Starts.faults W.Paths.faults W.Runs.calls W.Runs.faults
+        outside.new.output outside.new.doors outside.new.kit outside.new.kits.items outside.new.services) store result.1 result.0 }
     ensures counted { W.Store.faults store ≤ W.Store.faults result.1 }
     ensures writes { W.Out.faults outside.old.output ≤ W.Out.faults outside.new.output }
 {
@@ -63,9 +68,14 @@ fn run_at<W: ServeWorld, R: Threads + Wait + Sync>(
     requires scopes { MakeTable plan.now.hub.custom_scopes }
     requires apart { are_distinct plan.now.managed ≡ true }
     requires kits { 0 < length outside.old.kits.items }
-    ensures ends { spec.EndsChosen W.Store.Tells W.Store.rows W.Store.faults (SidesTell W.Doors.are_sides W.Doors.In.left W.Doors.Out.held) plan.now now
-        (hall W.Out.held W.Out.faults W.Doors.given W.Doors.faults W.Time.to_come W.Draws.left W.Starts.calls W.Paths.calls W.Draws.faults W.Starts.faults W.Paths.faults W.Runs.calls W.Runs.faults outside.old.output outside.old.doors outside.old.kit outside.old.services)
-        (hall W.Out.held W.Out.faults W.Doors.given W.Doors.faults W.Time.to_come W.Draws.left W.Starts.calls W.Paths.calls W.Draws.faults W.Starts.faults W.Paths.faults W.Runs.calls W.Runs.faults outside.new.output outside.new.doors outside.new.kit outside.new.services) store result.1 result.0 }
+    ensures ends { spec.EndsChosen W.Store.Tells W.Store.rows W.Store.faults
+        (SidesTell W.Doors.are_sides W.Doors.In.left W.Doors.Out.held) plan.now now
+        (hall W.Out.held W.Out.faults W.Doors.given W.Doors.faults W.Time.to_come W.Draws.left W.Starts.calls W.Paths.calls W.Draws.faults
+        W.Starts.faults W.Paths.faults W.Runs.calls W.Runs.faults
+        outside.old.output outside.old.doors outside.old.kit outside.old.kits.items outside.old.services)
+        (hall W.Out.held W.Out.faults W.Doors.given W.Doors.faults W.Time.to_come W.Draws.left W.Starts.calls W.Paths.calls W.Draws.faults
+        W.Starts.faults W.Paths.faults W.Runs.calls W.Runs.faults
+        outside.new.output outside.new.doors outside.new.kit outside.new.kits.items outside.new.services) store result.1 result.0 }
     ensures counted { W.Store.faults store ≤ W.Store.faults result.1 }
     ensures writes { W.Out.faults outside.old.output ≤ W.Out.faults outside.new.output }
 {
@@ -88,9 +98,14 @@ fn run_planned<W: ServeWorld, R: Threads + Wait + Sync>(
     requires scopes { MakeTable plan.now.hub.custom_scopes }
     requires apart { are_distinct plan.now.managed ≡ true }
     requires kits { 0 < length outside.old.kits.items }
-    ensures ends { spec.EndsPlanned W.Store.Tells W.Store.rows W.Store.faults (SidesTell W.Doors.are_sides W.Doors.In.left W.Doors.Out.held) W.Store.Chooses plan.now
-        (hall W.Out.held W.Out.faults W.Doors.given W.Doors.faults W.Time.to_come W.Draws.left W.Starts.calls W.Paths.calls W.Draws.faults W.Starts.faults W.Paths.faults W.Runs.calls W.Runs.faults outside.old.output outside.old.doors outside.old.kit outside.old.services)
-        (hall W.Out.held W.Out.faults W.Doors.given W.Doors.faults W.Time.to_come W.Draws.left W.Starts.calls W.Paths.calls W.Draws.faults W.Starts.faults W.Paths.faults W.Runs.calls W.Runs.faults outside.new.output outside.new.doors outside.new.kit outside.new.services) store result.1 result.0 }
+    ensures ends { spec.EndsPlanned W.Store.Tells W.Store.rows W.Store.faults
+        (SidesTell W.Doors.are_sides W.Doors.In.left W.Doors.Out.held) W.Store.Chooses plan.now
+        (hall W.Out.held W.Out.faults W.Doors.given W.Doors.faults W.Time.to_come W.Draws.left W.Starts.calls W.Paths.calls W.Draws.faults
+        W.Starts.faults W.Paths.faults W.Runs.calls W.Runs.faults
+        outside.old.output outside.old.doors outside.old.kit outside.old.kits.items outside.old.services)
+        (hall W.Out.held W.Out.faults W.Doors.given W.Doors.faults W.Time.to_come W.Draws.left W.Starts.calls W.Paths.calls W.Draws.faults
+        W.Starts.faults W.Paths.faults W.Runs.calls W.Runs.faults
+        outside.new.output outside.new.doors outside.new.kit outside.new.kits.items outside.new.services) store result.1 result.0 }
     ensures counted { W.Store.faults store ≤ W.Store.faults result.1 }
     ensures writes { W.Out.faults outside.old.output ≤ W.Out.faults outside.new.output }
 {
@@ -124,9 +139,15 @@ pub fn run<F: Files, W: ServeWorld, R: Threads + Wait + Sync>(
     requires store { IsSome outside.old.store }
     requires kits { 0 < length outside.old.kits.items }
     ensures store { IsSome outside.new.store }
-    ensures ends { (k k' : W.Store) → outside.old.store ≡ Some k → outside.new.store ≡ Some k' → spec.RunEnds W.Store.Tells W.Store.rows W.Store.faults (SidesTell W.Doors.are_sides W.Doors.In.left W.Doors.Out.held) W.Store.Chooses plan.now
-        (hall W.Out.held W.Out.faults W.Doors.given W.Doors.faults W.Time.to_come W.Draws.left W.Starts.calls W.Paths.calls W.Draws.faults W.Starts.faults W.Paths.faults W.Runs.calls W.Runs.faults outside.old.output outside.old.doors outside.old.kit outside.old.services)
-        (hall W.Out.held W.Out.faults W.Doors.given W.Doors.faults W.Time.to_come W.Draws.left W.Starts.calls W.Paths.calls W.Draws.faults W.Starts.faults W.Paths.faults W.Runs.calls W.Runs.faults outside.new.output outside.new.doors outside.new.kit outside.new.services) k k' outside.new.end result }
+    ensures ends { (k k' : W.Store) → outside.old.store ≡ Some k → outside.new.store ≡ Some k'
+        → spec.RunEnds W.Store.Tells W.Store.rows W.Store.faults
+        (SidesTell W.Doors.are_sides W.Doors.In.left W.Doors.Out.held) W.Store.Chooses plan.now
+        (hall W.Out.held W.Out.faults W.Doors.given W.Doors.faults W.Time.to_come W.Draws.left W.Starts.calls W.Paths.calls W.Draws.faults
+        W.Starts.faults W.Paths.faults W.Runs.calls W.Runs.faults
+        outside.old.output outside.old.doors outside.old.kit outside.old.kits.items outside.old.services)
+        (hall W.Out.held W.Out.faults W.Doors.given W.Doors.faults W.Time.to_come W.Draws.left W.Starts.calls W.Paths.calls W.Draws.faults
+        W.Starts.faults W.Paths.faults W.Runs.calls W.Runs.faults
+        outside.new.output outside.new.doors outside.new.kit outside.new.kits.items outside.new.services) k k' outside.new.end result }
     ensures counted { (k k' : W.Store) → outside.old.store ≡ Some k → outside.new.store ≡ Some k' → W.Store.faults k ≤ W.Store.faults k' }
     ensures writes { W.Out.faults outside.old.output ≤ W.Out.faults outside.new.output }
 {

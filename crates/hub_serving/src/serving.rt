@@ -1,17 +1,16 @@
 //! What is done over the book of `serve`.
-ghost use Rattle.std.specs.Prelude.{◌≡◌, ◌==◌, ◌≤◌, ◌<◌, ◌^◌, ◌↔◌, List, [], true, IsTrue, Some, Err, IfSome, IsSome, IfErr, is_ok, length, map};
+ghost use Rattle.std.specs.Prelude.{◌≡◌, ◌==◌, ◌≤◌, ◌<◌, ◌^◌, ◌↔◌, [], true, IsTrue, Some, Err, IfSome, IsSome, IfErr, is_ok, length, map};
 ghost use mathlib.Core.List.{IsPrefix};
 ghost use Rattle.hub_config.specs.Managed.{are_distinct};
 ghost use Rattle.hub_core.specs.Visits.{entries_of};
 ghost use Rattle.hub_core.specs.declared.start.Start.{Start};
 ghost use Rattle.hub_serve.specs.Ends.{IsFault};
 ghost use Rattle.hub_serve.specs.Given.{Gave};
-ghost use Rattle.hub_serve.specs.Sessions.{AreServed, Session};
+ghost use Rattle.hub_serve.specs.Sessions.{devices_of};
 ghost use Rattle.service_doors.specs.Tending.{Tends, services_told};
 ghost use Rattle.services_run.specs.New.{ArePlaced};
 ghost use Rattle.hub_serving.specs.Services.{service_of};
 ghost use Rattle.hub_serving.specs.Hall.{SidesTell, hall, view_in};
-ghost use Rattle.hub_serving.specs.Served.{AreGiven};
 ghost use Rattle.hub_serving.specs.Served as spec;
 
 use crate::end::{End, NotServed};
@@ -48,9 +47,14 @@ pub(crate) fn serve_book<W: ServeWorld, T: Trail<Entry = Change> + Send, R: Thre
     requires new { entries_of book ≡ [] }
     requires kits { 0 < length outside.old.kits.items }
     requires apart { are_distinct plan.now.managed ≡ true }
-    ensures ends { spec.EndsOver W.Store.Tells W.Store.rows W.Store.faults (SidesTell W.Doors.are_sides W.Doors.In.left W.Doors.Out.held) book.start book.faults plan.now
-        (hall W.Out.held W.Out.faults W.Doors.given W.Doors.faults W.Time.to_come W.Draws.left W.Starts.calls W.Paths.calls W.Draws.faults W.Starts.faults W.Paths.faults W.Runs.calls W.Runs.faults outside.old.output outside.old.doors outside.old.kit outside.old.services)
-        (hall W.Out.held W.Out.faults W.Doors.given W.Doors.faults W.Time.to_come W.Draws.left W.Starts.calls W.Paths.calls W.Draws.faults W.Starts.faults W.Paths.faults W.Runs.calls W.Runs.faults outside.new.output outside.new.doors outside.new.kit outside.new.services) result.1 result.0 }
+    ensures ends { spec.EndsOver W.Store.Tells W.Store.rows W.Store.faults
+        (SidesTell W.Doors.are_sides W.Doors.In.left W.Doors.Out.held) book.start book.faults plan.now
+        (hall W.Out.held W.Out.faults W.Doors.given W.Doors.faults W.Time.to_come W.Draws.left W.Starts.calls W.Paths.calls W.Draws.faults
+        W.Starts.faults W.Paths.faults W.Runs.calls W.Runs.faults
+        outside.old.output outside.old.doors outside.old.kit outside.old.kits.items outside.old.services)
+        (hall W.Out.held W.Out.faults W.Doors.given W.Doors.faults W.Time.to_come W.Draws.left W.Starts.calls W.Paths.calls W.Draws.faults
+        W.Starts.faults W.Paths.faults W.Runs.calls W.Runs.faults
+        outside.new.output outside.new.doors outside.new.kit outside.new.kits.items outside.new.services) result.1 result.0 }
     ensures counted { book.faults ≤ W.Store.faults result.1 }
     ensures writes { W.Out.faults outside.old.output ≤ W.Out.faults outside.new.output }
     ensures had { W.Store.Tells result.1 → IsTrue book.start.has_rows }
@@ -79,9 +83,14 @@ fn serve_desk<W: ServeWorld, T: Trail<Entry = Change> + Send, R: Threads + Wait 
     requires new { pass.seen ≡ [] }
     requires kits { 0 < length outside.old.kits.items }
     requires apart { are_distinct plan.now.managed ≡ true }
-    ensures ends { (start : Start) → pass.base ≡ Some start → spec.EndsDesk W.Store.Tells W.Store.rows W.Store.faults (SidesTell W.Doors.are_sides W.Doors.In.left W.Doors.Out.held) start pass plan.now
-        (hall W.Out.held W.Out.faults W.Doors.given W.Doors.faults W.Time.to_come W.Draws.left W.Starts.calls W.Paths.calls W.Draws.faults W.Starts.faults W.Paths.faults W.Runs.calls W.Runs.faults outside.old.output outside.old.doors outside.old.kit outside.old.services)
-        (hall W.Out.held W.Out.faults W.Doors.given W.Doors.faults W.Time.to_come W.Draws.left W.Starts.calls W.Paths.calls W.Draws.faults W.Starts.faults W.Paths.faults W.Runs.calls W.Runs.faults outside.new.output outside.new.doors outside.new.kit outside.new.services) result.1 result.0 }
+    ensures ends { (start : Start) → pass.base ≡ Some start → spec.EndsDesk W.Store.Tells W.Store.rows W.Store.faults
+        (SidesTell W.Doors.are_sides W.Doors.In.left W.Doors.Out.held) start pass plan.now
+        (hall W.Out.held W.Out.faults W.Doors.given W.Doors.faults W.Time.to_come W.Draws.left W.Starts.calls W.Paths.calls W.Draws.faults
+        W.Starts.faults W.Paths.faults W.Runs.calls W.Runs.faults
+        outside.old.output outside.old.doors outside.old.kit outside.old.kits.items outside.old.services)
+        (hall W.Out.held W.Out.faults W.Doors.given W.Doors.faults W.Time.to_come W.Draws.left W.Starts.calls W.Paths.calls W.Draws.faults
+        W.Starts.faults W.Paths.faults W.Runs.calls W.Runs.faults
+        outside.new.output outside.new.doors outside.new.kit outside.new.kits.items outside.new.services) result.1 result.0 }
     ensures counted { pass.faults ≤ W.Store.faults result.1 }
     ensures writes { W.Out.faults outside.old.output ≤ W.Out.faults outside.new.output }
     ensures had { (start : Start) → pass.base ≡ Some start → W.Store.Tells result.1 → IsTrue start.has_rows }
@@ -121,9 +130,14 @@ fn serve_synced<W: ServeWorld, T: Trail<Entry = Change> + Send, R: Threads + Wai
     requires alone { pass.alone ≡ true }
     requires kits { 0 < length outside.old.kits.items }
     requires apart { are_distinct plan.now.managed ≡ true }
-    ensures ends { (start : Start) → pass.base ≡ Some start → spec.EndsSynced W.Store.Tells W.Store.rows W.Store.faults (SidesTell W.Doors.are_sides W.Doors.In.left W.Doors.Out.held) start pass plan.now
-        (hall W.Out.held W.Out.faults W.Doors.given W.Doors.faults W.Time.to_come W.Draws.left W.Starts.calls W.Paths.calls W.Draws.faults W.Starts.faults W.Paths.faults W.Runs.calls W.Runs.faults outside.old.output outside.old.doors outside.old.kit outside.old.services)
-        (hall W.Out.held W.Out.faults W.Doors.given W.Doors.faults W.Time.to_come W.Draws.left W.Starts.calls W.Paths.calls W.Draws.faults W.Starts.faults W.Paths.faults W.Runs.calls W.Runs.faults outside.new.output outside.new.doors outside.new.kit outside.new.services) result.1 result.0 }
+    ensures ends { (start : Start) → pass.base ≡ Some start → spec.EndsSynced W.Store.Tells W.Store.rows W.Store.faults
+        (SidesTell W.Doors.are_sides W.Doors.In.left W.Doors.Out.held) start pass plan.now
+        (hall W.Out.held W.Out.faults W.Doors.given W.Doors.faults W.Time.to_come W.Draws.left W.Starts.calls W.Paths.calls W.Draws.faults
+        W.Starts.faults W.Paths.faults W.Runs.calls W.Runs.faults
+        outside.old.output outside.old.doors outside.old.kit outside.old.kits.items outside.old.services)
+        (hall W.Out.held W.Out.faults W.Doors.given W.Doors.faults W.Time.to_come W.Draws.left W.Starts.calls W.Paths.calls W.Draws.faults
+        W.Starts.faults W.Paths.faults W.Runs.calls W.Runs.faults
+        outside.new.output outside.new.doors outside.new.kit outside.new.kits.items outside.new.services) result.1 result.0 }
     ensures counted { pass.faults ≤ W.Store.faults result.1 }
     ensures writes { W.Out.faults outside.old.output ≤ W.Out.faults outside.new.output }
     ensures had { (start : Start) → pass.base ≡ Some start → W.Store.Tells result.1 → IsTrue start.has_rows }
@@ -151,9 +165,14 @@ fn serve_ready<W: ServeWorld, T: Trail<Entry = Change> + Send, R: Threads + Wait
     requires alone { pass.alone ≡ true }
     requires kits { 0 < length outside.old.kits.items }
     requires apart { are_distinct plan.now.managed ≡ true }
-    ensures ends { (start : Start) → pass.base ≡ Some start → spec.EndsReady W.Store.Tells W.Store.rows W.Store.faults (SidesTell W.Doors.are_sides W.Doors.In.left W.Doors.Out.held) start pass plan.now
-        (hall W.Out.held W.Out.faults W.Doors.given W.Doors.faults W.Time.to_come W.Draws.left W.Starts.calls W.Paths.calls W.Draws.faults W.Starts.faults W.Paths.faults W.Runs.calls W.Runs.faults outside.old.output outside.old.doors outside.old.kit outside.old.services)
-        (hall W.Out.held W.Out.faults W.Doors.given W.Doors.faults W.Time.to_come W.Draws.left W.Starts.calls W.Paths.calls W.Draws.faults W.Starts.faults W.Paths.faults W.Runs.calls W.Runs.faults outside.new.output outside.new.doors outside.new.kit outside.new.services) result.1 result.0 }
+    ensures ends { (start : Start) → pass.base ≡ Some start → spec.EndsReady W.Store.Tells W.Store.rows W.Store.faults
+        (SidesTell W.Doors.are_sides W.Doors.In.left W.Doors.Out.held) start pass plan.now
+        (hall W.Out.held W.Out.faults W.Doors.given W.Doors.faults W.Time.to_come W.Draws.left W.Starts.calls W.Paths.calls W.Draws.faults
+        W.Starts.faults W.Paths.faults W.Runs.calls W.Runs.faults
+        outside.old.output outside.old.doors outside.old.kit outside.old.kits.items outside.old.services)
+        (hall W.Out.held W.Out.faults W.Doors.given W.Doors.faults W.Time.to_come W.Draws.left W.Starts.calls W.Paths.calls W.Draws.faults
+        W.Starts.faults W.Paths.faults W.Runs.calls W.Runs.faults
+        outside.new.output outside.new.doors outside.new.kit outside.new.kits.items outside.new.services) result.1 result.0 }
     ensures counted { pass.faults ≤ W.Store.faults result.1 }
     ensures writes { W.Out.faults outside.old.output ≤ W.Out.faults outside.new.output }
     ensures had { (start : Start) → pass.base ≡ Some start → W.Store.Tells result.1 → IsTrue start.has_rows }
@@ -183,9 +202,14 @@ fn serve_attended<W: ServeWorld, T: Trail<Entry = Change> + Send, R: Threads + W
     requires kits { 0 < length outside.old.kits.items }
     requires services { ArePlaced (map service_of plan.now.managed) services.places × (services.last ≡ 0) }
     requires few { length plan.now.managed < 2 ^ 32 }
-    ensures ends { (start : Start) → pass.base ≡ Some start → spec.EndsReady W.Store.Tells W.Store.rows W.Store.faults (SidesTell W.Doors.are_sides W.Doors.In.left W.Doors.Out.held) start pass plan.now
-        (hall W.Out.held W.Out.faults W.Doors.given W.Doors.faults W.Time.to_come W.Draws.left W.Starts.calls W.Paths.calls W.Draws.faults W.Starts.faults W.Paths.faults W.Runs.calls W.Runs.faults outside.old.output outside.old.doors outside.old.kit outside.old.services)
-        (hall W.Out.held W.Out.faults W.Doors.given W.Doors.faults W.Time.to_come W.Draws.left W.Starts.calls W.Paths.calls W.Draws.faults W.Starts.faults W.Paths.faults W.Runs.calls W.Runs.faults outside.new.output outside.new.doors outside.new.kit outside.new.services) result.1 result.0 }
+    ensures ends { (start : Start) → pass.base ≡ Some start → spec.EndsReady W.Store.Tells W.Store.rows W.Store.faults
+        (SidesTell W.Doors.are_sides W.Doors.In.left W.Doors.Out.held) start pass plan.now
+        (hall W.Out.held W.Out.faults W.Doors.given W.Doors.faults W.Time.to_come W.Draws.left W.Starts.calls W.Paths.calls W.Draws.faults
+        W.Starts.faults W.Paths.faults W.Runs.calls W.Runs.faults
+        outside.old.output outside.old.doors outside.old.kit outside.old.kits.items outside.old.services)
+        (hall W.Out.held W.Out.faults W.Doors.given W.Doors.faults W.Time.to_come W.Draws.left W.Starts.calls W.Paths.calls W.Draws.faults
+        W.Starts.faults W.Paths.faults W.Runs.calls W.Runs.faults
+        outside.new.output outside.new.doors outside.new.kit outside.new.kits.items outside.new.services) result.1 result.0 }
     ensures counted { pass.faults ≤ W.Store.faults result.1 }
     ensures writes { W.Out.faults outside.old.output ≤ W.Out.faults outside.new.output }
     ensures had { (start : Start) → pass.base ≡ Some start → W.Store.Tells result.1 → IsTrue start.has_rows }
@@ -198,7 +222,7 @@ fn serve_attended<W: ServeWorld, T: Trail<Entry = Change> + Send, R: Threads + W
         &mut outside.doors,
         &mut outside.services,
         services,
-        outside.kits.as_mut_slice(),
+        &mut outside.kits,
         plan.connections,
     );
     let mut services = services;
@@ -217,12 +241,12 @@ fn serve_services<W: ServeWorld, T: Trail<Entry = Change> + Send, R: Threads + W
     doors: &mut W::Doors,
     kit: &mut ServiceKit<W::Runs, W::Paths, W::Time>,
     services: Services,
-    kits: &mut [HubKit<W::Starts, W::Paths, W::Time, W::Draws>],
+    kits: &mut Vec<HubKit<W::Starts, W::Paths, W::Time, W::Draws>>,
     connections: u64,
 ) -> (Book<W::Store, T>, u64, Result<(), ServeFault>, Services)
     requires of { pass.of ≡ desk }
     requires alone { pass.alone ≡ true }
-    requires kits { 0 < length kits.old }
+    requires kits { 0 < length kits.old.items }
     ensures begins { IsPrefix pass.seen (entries_of result.0) }
     ensures base { pass.base ≡ Some result.0.start }
     ensures counted { pass.faults ≤ result.0.faults }
@@ -230,8 +254,12 @@ fn serve_services<W: ServeWorld, T: Trail<Entry = Change> + Send, R: Threads + W
     ensures most { result.1 ≤ connections }
     ensures all { is_ok result.2 ≡ (result.1 == connections) }
     ensures fault { IfErr result.2 (IsFault result.1 (W.Doors.faults doors.old) (W.Doors.faults doors.new)) }
-    ensures served { (workers : List (List Session)) × AreServed result.0.start pass (entries_of result.0) result.1 workers
-        × AreGiven (SidesTell W.Doors.are_sides W.Doors.In.left W.Doors.Out.held) workers }
+    ensures served { spec.AreServedBy (SidesTell W.Doors.are_sides W.Doors.In.left W.Doors.Out.held)
+        result.0.start pass (entries_of result.0) result.1
+        (map (devices_of W.Time.to_come W.Draws.left W.Starts.calls W.Paths.calls W.Draws.faults W.Starts.faults W.Paths.faults)
+        kits.old.items)
+        (map (devices_of W.Time.to_come W.Draws.left W.Starts.calls W.Paths.calls W.Draws.faults W.Starts.faults W.Paths.faults)
+        kits.new.items) }
     ensures untouched { result.2 ≡ Err ServeFault.Memory → (W.Doors.given doors.new ≡ W.Doors.given doors.old) × (W.Doors.faults doors.new ≡ W.Doors.faults doors.old) }
     ensures tended { ∥ Tends services (services_told W.Runs.calls W.Paths.calls W.Time.to_come W.Runs.faults W.Paths.faults kit.old) (W.Doors.given doors.old)
         result.3 (services_told W.Runs.calls W.Paths.calls W.Time.to_come W.Runs.faults W.Paths.faults kit.new) (W.Doors.given doors.new) ∥₁ }
@@ -271,7 +299,7 @@ fn serve_tended<
     pass: Pass<Book<W::Store, T>>,
     front: Front<'a, W::Doors, W::Runs, W::Paths, W::Time>,
     services: Services,
-    kits: &mut [HubKit<W::Starts, W::Paths, W::Time, W::Draws>],
+    kits: &mut Vec<HubKit<W::Starts, W::Paths, W::Time, W::Draws>>,
     connections: u64,
     left: &mut Option<(Book<W::Store, T>, Services)>,
 ) -> (
@@ -281,7 +309,7 @@ fn serve_tended<
 )
     requires of { pass.of ≡ desk }
     requires alone { pass.alone ≡ true }
-    requires kits { 0 < length kits.old }
+    requires kits { 0 < length kits.old.items }
     requires doors { front.doors.ghost_name ≡ N.doors }
     requires kit { front.kit.ghost_name ≡ N.kit }
     requires book { services ≡ N.book }
@@ -296,8 +324,12 @@ fn serve_tended<
     ensures most { result.0 ≤ connections }
     ensures all { is_ok result.1 ≡ (result.0 == connections) }
     ensures fault { IfErr result.1 (IsFault result.0 N.faults (W.Doors.faults result.2.doors.now)) }
-    ensures served { IfSome left.new (λ l. (workers : List (List Session)) × AreServed l.0.start pass (entries_of l.0) result.0 workers
-        × AreGiven (SidesTell W.Doors.are_sides W.Doors.In.left W.Doors.Out.held) workers) }
+    ensures served { IfSome left.new (λ l. spec.AreServedBy (SidesTell W.Doors.are_sides W.Doors.In.left W.Doors.Out.held)
+        l.0.start pass (entries_of l.0) result.0
+        (map (devices_of W.Time.to_come W.Draws.left W.Starts.calls W.Paths.calls W.Draws.faults W.Starts.faults W.Paths.faults)
+        kits.old.items)
+        (map (devices_of W.Time.to_come W.Draws.left W.Starts.calls W.Paths.calls W.Draws.faults W.Starts.faults W.Paths.faults)
+        kits.new.items)) }
     ensures untouched { result.1 ≡ Err ServeFault.Memory → (W.Doors.given result.2.doors.now ≡ N.given) × (W.Doors.faults result.2.doors.now ≡ N.faults) }
     ensures same_doors { result.2.doors.ghost_name ≡ front.entry.doors.ghost_name }
     ensures same_kit { result.2.kit.ghost_name ≡ front.entry.kit.ghost_name }

@@ -183,11 +183,12 @@ fn is_served<W: Threads + Wait + Abort + Sync>(rt: &W, alloc: Global, serving: &
         fails_at: serving.fails_at,
         faults: 0,
     };
-    let mut kits = [
+    let kits = vec![in alloc;
         kit(rt, alloc, &scene, 1),
         kit(rt, alloc, &scene, 2),
         kit(rt, alloc, &scene, 3),
     ];
+    let mut kits = kits.expect(rt, "there is memory");
     let (desk, pass) = open(rt, alloc);
     let (book, tally, end) = serve(
         rt,
@@ -202,6 +203,7 @@ fn is_served<W: Threads + Wait + Abort + Sync>(rt: &W, alloc: Global, serving: &
     let length = book.length();
     drop(book);
     (served == serving.served)
+        & (kits.len() == 3)
         & (end == serving.end)
         & (length == serving.length)
         & scene.ends_at(rt, serving.stage)

@@ -10,5 +10,5 @@ returns-in-Ok-clause-ends g c = λ start base.
 pub returns-in-Err-clause-ends : goal.returns-in-Err-clause-ends
 returns-in-Err-clause-ends g c = λ start base.
     looked _ _ _ _ start _ c.args.pass c.args.plan.now _ _ _ _ _ c.close.result c.in-Err.ensures.memory c.requires.alone c.requires.new
-    refl refl refl refl refl refl refl c.close.ensures.base (c.in-Err.ensures.base ∙ base)
+    refl refl refl refl refl refl refl refl c.close.ensures.base (c.in-Err.ensures.base ∙ base)
     (c.close.ensures.whole (c.in-Err.ensures.alone ∙ c.requires.alone)) c.into_parts-store.ensures.reached c.into_parts-store.ensures.rows

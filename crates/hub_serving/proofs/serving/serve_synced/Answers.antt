@@ -11,7 +11,7 @@ returns-then-is_wanting-clause-ends g c = λ start base.
     let before : Hall =
     hall g.W.Out.Sink.held g.W.Out.Sink.faults g.W.Doors.Listener.given g.W.Doors.Listener.faults g.W.Time.Clock.to_come g.W.Draws.Random.left
     g.W.Starts.Spawner.calls g.W.Paths.RouteLink.calls g.W.Draws.Random.faults g.W.Starts.Spawner.faults g.W.Paths.RouteLink.faults
-    g.W.Runs.Running.calls g.W.Runs.Running.faults o.output o.doors k o.services in
+    g.W.Runs.Running.calls g.W.Runs.Running.faults o.output o.doors k o.kits.items o.services in
     let synced : View =
     record {
       pass = c.sync_routes-answer.new.pass;
@@ -39,7 +39,7 @@ returns-clause-ends g c = λ start base.
     let before : Hall =
     hall g.W.Out.Sink.held g.W.Out.Sink.faults g.W.Doors.Listener.given g.W.Doors.Listener.faults g.W.Time.Clock.to_come g.W.Draws.Random.left
     g.W.Starts.Spawner.calls g.W.Paths.RouteLink.calls g.W.Draws.Random.faults g.W.Starts.Spawner.faults g.W.Paths.RouteLink.faults
-    g.W.Runs.Running.calls g.W.Runs.Running.faults o.output o.doors k o.services in
+    g.W.Runs.Running.calls g.W.Runs.Running.faults o.output o.doors k o.kits.items o.services in
     let synced : View =
     record {
       pass = c.sync_routes-answer.new.pass;
