@@ -51,6 +51,11 @@ pub name_is_text : (bs : List ℕ) → IsServerName bs → IsUtf8 bs
 name_is_text bs h =
     IsUtf8-from_ascii bs (IsAscii-from_all bs (All-weaker IsNameByte (λ b. b < 128) (λ b good. grind (arith, nat_tests)) bs (bytes_of bs h)))
 
+-- bytes of which none is bad
+pub good_is_text : (bs : List ℕ) → first_bad bs ≡ None → IsUtf8 bs
+good_is_text bs h =
+    IsUtf8-from_ascii bs (IsAscii-from_all bs (All-weaker IsNameByte (λ b. b < 128) (λ b good. grind (arith, nat_tests)) bs (bytes_of_first bs h)))
+
 server_reads : (bs : List ℕ) → IsServerName bs → server_read bs ≡ Ok bs
 server_reads [] h = refl
 server_reads (b ∷ bs) h = h

@@ -52,7 +52,7 @@ impl UserName {
         ensures value { result.now ≡ self.now }
         ensures name { spec.IsName self.now }
     {
-        as_text(&self.text)
+        self.text.as_str()
     }
 }
 
@@ -89,7 +89,7 @@ impl GroupName {
         ensures value { result.now ≡ self.now }
         ensures name { spec.IsName self.now }
     {
-        as_text(&self.text)
+        self.text.as_str()
     }
 }
 
@@ -126,7 +126,7 @@ impl ServiceName {
         ensures value { result.now ≡ self.now }
         ensures name { spec.IsName self.now }
     {
-        as_text(&self.text)
+        self.text.as_str()
     }
 }
 
@@ -163,7 +163,7 @@ impl RoleName {
         ensures value { result.now ≡ self.now }
         ensures name { spec.IsName self.now }
     {
-        as_text(&self.text)
+        self.text.as_str()
     }
 }
 
@@ -200,7 +200,7 @@ impl ServerName {
         ensures value { result.now ≡ self.now }
         ensures name { spec.IsServerName self.now }
     {
-        as_text(&self.text)
+        self.text.as_str()
     }
 }
 
@@ -252,6 +252,7 @@ pub fn read_role(bytes: &[u8]) -> Result<RoleName, NameError>
 }
 
 /// Reads the name of a server, which is empty or has the grammar of a user's.
+#[tactic(auto, using(crate::proofs::NameTexts::name_is_text))]
 pub fn read_server(bytes: &[u8]) -> Result<ServerName, NameError>
     ensures { result ≡ server_read bytes.now }
 {
@@ -321,18 +322,8 @@ pub fn key_text(alloc: Global, key: &ServerKey) -> Result<Text, AllocError>
     Ok(text)
 }
 
-/// A name as text: it is ASCII.
-fn as_text(name: &ShortText) -> &str
-    requires { spec.IsServerName name.now }
-    ensures { result.now ≡ name.now }
-{
-    match std::str::from_utf8(name.as_bytes()) {
-        Ok(text) => text,
-        Err(_) => "",
-    }
-}
-
 /// Reads a text of this grammar, which all kinds of names have.
+#[tactic(auto, using(crate::proofs::NameTexts::good_is_text))]
 fn read_name(bytes: &[u8]) -> Result<ShortText, NameError>
     ensures { result ≡ name_read bytes.now }
 {

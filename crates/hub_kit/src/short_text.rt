@@ -1,5 +1,5 @@
 //! A short text that lies in the value itself, so that copies of names and keys take no memory.
-ghost use Rattle.std.specs.Prelude.{◌≡◌, ℕ, ◌≤◌, List, length, Some, nat_eq, refl};
+ghost use Rattle.std.specs.Prelude.{◌≡◌, ℕ, ◌≤◌, List, length, Some, IsUtf8, nat_eq, refl};
 ghost use Rattle.std.specs.Ordering.{nat_cmp};
 ghost use Rattle.std.specs.Cmp.{partial_equiv_from_equiv};
 ghost use Rattle.std.specs.Cmp.Lexicographic.{pointwise, slice_cmp, nat_list_eq_equiv, nat_list_cmp_total, texts_po, texts_ties};
@@ -8,7 +8,7 @@ ghost use Rattle.hub_kit.specs.Padded.{padded};
 use std::cmp::Ordering;
 use std::marker::Model;
 
-/// At most 64 bytes. The cells behind them are zero, so that equal texts are equal values.
+/// UTF-8 text of at most 64 bytes. The cells behind them are zero, so that equal texts are equal values.
 #[derive(Clone, Copy)]
 pub struct ShortText {
     cells: [u8; 64],
@@ -16,7 +16,7 @@ pub struct ShortText {
 }
 
 impl Model for ShortText {
-    ghost use Rattle.std.specs.Prelude.{ℕ, List, length, take};
+    ghost use Rattle.std.specs.Prelude.{ℕ, List, IsUtf8, length, take};
     ghost use Rattle.hub_kit.specs.Padded.{IsPadded, padded};
     ghost use Rattle.hub_kit.specs.PaddedBack.{cells_back, len_back};
 
@@ -24,18 +24,19 @@ impl Model for ShortText {
 
     ghost view = { λ a. take a.len a.cells };
 
-    ghost invariant = { λ a. IsPadded a.cells a.len };
+    ghost invariant = { λ a. IsPadded a.cells a.len × IsUtf8 (take a.len a.cells) };
 
     ghost inverse = { λ v. record { cells = padded v; len = length v } };
 
-    ghost inverse_ok = { λ a h i. record { cells = cells_back a.cells a.len h i; len = len_back a.cells a.len h i } };
+    ghost inverse_ok = { λ a h i. record { cells = cells_back a.cells a.len h.0 i; len = len_back a.cells a.len h.0 i } };
 }
 
 impl ShortText {
-    /// The bytes, which have to fit.
+    /// The bytes, which have to be text that fits.
     #[tactic(auto, using(crate::proofs::Cells::padded_ok))]
     pub fn from_slice(bytes: &[u8]) -> ShortText
-        requires { length bytes.now ≤ 64 }
+        requires fits { length bytes.now ≤ 64 }
+        requires text { IsUtf8 bytes.now }
         ensures { result ≡ bytes.now }
     {
         ShortText {
@@ -50,6 +51,14 @@ impl ShortText {
         ensures fits { length self.now ≤ 64 }
     {
         &self.cells[..self.len]
+    }
+
+    /// The text, without a test of its bytes.
+    pub fn as_str(&self) -> &str
+        ensures { result.now ≡ self.now }
+    {
+        // The bytes of such a text are UTF-8, by its invariant.
+        unsafe { std::str::from_utf8_unchecked(&self.cells[..self.len]) }
     }
 }
 
@@ -72,7 +81,7 @@ impl PartialEq for ShortText {
     ghost laws = { partial_equiv_from_equiv nat_list_eq_equiv };
 
     fn eq(&self, other: &Self) -> bool {
-        self.as_bytes() == other.as_bytes()
+        self.as_str() == other.as_str()
     }
 }
 
@@ -100,6 +109,6 @@ impl Ord for ShortText {
     ghost matches_eq = { texts_ties };
 
     fn cmp(&self, other: &Self) -> Ordering {
-        self.as_bytes().cmp(other.as_bytes())
+        self.as_str().cmp(other.as_str())
     }
 }

@@ -64,10 +64,7 @@ impl CustomName {
         ensures value { result.now ≡ self.now }
         ensures name { IsTrue (is_custom_name self.now) }
     {
-        match str::from_utf8(self.text.as_bytes()) {
-            Ok(text) => text,
-            Err(_) => unreachable!(),
-        }
+        self.text.as_str()
     }
 }
 
