@@ -1,5 +1,5 @@
 //! Rows that stand under a key of their own, put in the same way for every kind of rows.
-ghost use Rattle.std.specs.Prelude.{◌≡◌, OnOk, OnErr, IfOk, false};
+ghost use Rattle.std.specs.Prelude.{◌≡◌, Some, OnOk, OnErr, IfOk, false};
 ghost use Rattle.std.specs.FinMap as map;
 ghost use Rattle.std.specs.BTreeMap.{IsOrdered};
 ghost use Rattle.keyed_rows.specs.Rows.{map_of};
@@ -27,7 +27,7 @@ pub trait Keyed<K: CopyKey>: Drop {
         ensures { result.now ≡ key_of self.now };
 }
 
-/// Sets the row of the value's key. A kept row is replaced in its place, which takes no memory. Without a room the kind has no limit.
+/// Sets the row of the value's key. At a kept key it needs no memory. Without a room the kind has no limit.
 pub fn put<K: CopyKey, R: Keyed<K>>(
     alloc: Global,
     rows: &mut BTreeMap<K, R>,
@@ -39,13 +39,20 @@ pub fn put<K: CopyKey, R: Keyed<K>>(
     ensures err { OnErr result (map_of K.Ord.cmp rows.new ≡ map_of K.Ord.cmp rows.old) }
     ensures ordered { IsOrdered K.Ord.cmp rows.new }
 {
+    let Some(room) = room else {
+        return match set(alloc, rows, value) {
+            Ok(()) => Ok(()),
+            Err(_) => Err(PutError::Memory),
+        };
+    };
     match replace(rows, value) {
         Some(value) => put_new(alloc, rows, value, room),
         None => Ok(()),
     }
 }
 
-/// Sets the row of the value's key, whatever the number of rows. A kept row is replaced in its place, which takes no memory.
+/// Sets the row of the value's key by one search, whatever the number of rows. Where there is no memory for the key, it still takes the
+/// place of a kept row.
 pub fn set<K: CopyKey, R: Keyed<K>>(
     alloc: Global,
     rows: &mut BTreeMap<K, R>,
@@ -56,9 +63,12 @@ pub fn set<K: CopyKey, R: Keyed<K>>(
     ensures memory { OnErr result (map.contains_key (map_of K.Ord.cmp rows.old) (R.key_of value) ≡ false) }
     ensures ordered { IsOrdered K.Ord.cmp rows.new }
 {
-    match put(alloc, rows, value, None) {
-        Ok(()) => Ok(()),
-        Err(_) => Err(AllocError),
+    match value.key().copy_key(alloc) {
+        Ok(key) => crate::insert_row(rows, key, value),
+        Err(_) => match replace(rows, value) {
+            None => Ok(()),
+            Some(_) => Err(AllocError),
+        },
     }
 }
 
@@ -67,10 +77,10 @@ fn put_new<K: CopyKey, R: Keyed<K>>(
     alloc: Global,
     rows: &mut BTreeMap<K, R>,
     value: R,
-    room: Option<Room>,
+    room: Room,
 ) -> Result<(), PutError>
     requires { map.contains_key (map_of K.Ord.cmp rows.old) (R.key_of value) ≡ false }
-    ensures answer { IsAnswerIn room (map_of K.Ord.cmp rows.old) (R.key_of value) result }
+    ensures answer { IsAnswerIn (Some room) (map_of K.Ord.cmp rows.old) (R.key_of value) result }
     ensures ok { OnOk result (map_of K.Ord.cmp rows.new ≡ map.insert (map_of K.Ord.cmp rows.old) (R.key_of value) value) }
     ensures err { OnErr result (map_of K.Ord.cmp rows.new ≡ map_of K.Ord.cmp rows.old) }
     ensures ordered { IsOrdered K.Ord.cmp rows.new }
@@ -100,28 +110,23 @@ fn replace<K: CopyKey, R: Keyed<K>>(rows: &mut BTreeMap<K, R>, value: R) -> Opti
 }
 
 /// Refuses a row at a new key where the room is full.
-fn check_room<K: Key, R>(rows: &BTreeMap<K, R>, room: Option<Room>) -> Result<(), PutError>
-    ensures left { result ≡ room_left (map.len (map_of K.Ord.cmp rows.now)) room }
+fn check_room<K: Key, R>(rows: &BTreeMap<K, R>, room: Room) -> Result<(), PutError>
+    ensures left { result ≡ room_left (map.len (map_of K.Ord.cmp rows.now)) (Some room) }
     ensures ordered { IsOrdered K.Ord.cmp rows.now }
 {
     room_left(rows.len() as u64, room)
 }
 
-fn room_left(rows: u64, room: Option<Room>) -> Result<(), PutError>
-    ensures { result ≡ room_left rows room }
+fn room_left(rows: u64, room: Room) -> Result<(), PutError>
+    ensures { result ≡ room_left rows (Some room) }
 {
-    match room {
-        Some(room) => {
-            if room.limit as u64 <= rows.saturating_sub(room.leaving as u64) {
-                return Err(PutError::Full {
-                    kind: room.kind,
-                    limit: room.limit,
-                });
-            }
-            Ok(())
-        }
-        None => Ok(()),
+    if room.limit as u64 <= rows.saturating_sub(room.leaving as u64) {
+        return Err(PutError::Full {
+            kind: room.kind,
+            limit: room.limit,
+        });
     }
+    Ok(())
 }
 
 impl CopyKey for u64 {

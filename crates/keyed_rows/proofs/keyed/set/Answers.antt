@@ -1,5 +1,0 @@
-use Rattle.keyed_rows.proofs.Puts.{free_memory}
-use Rattle.keyed_rows.proofs.keyed.set.Goals as goal
-
-pub returns-in-Err-clause-memory : goal.returns-in-Err-clause-memory
-returns-in-Err-clause-memory g c = free_memory _ _ c.in-Err.field-0 c.in-Err.ensures.answer
