@@ -10,7 +10,7 @@ use hub_tables::tables::Tables;
 use keyed_rows::PutError;
 use std::alloc::AllocError;
 
-/// Does one change, whatever the limits. A removal, and a put at a kept key, take no memory.
+/// Does one change, whatever the limits. A removal, and a put at a kept key, need no memory.
 pub fn change(tables: &mut Tables, change: RowChange) -> Result<(), AllocError>
     requires { FitsRow tables.old change }
     ensures ok { OnOk result (tables.new ≡ row_done change tables.old) }

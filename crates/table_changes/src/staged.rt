@@ -11,7 +11,7 @@ use hub_rows::changes::RowChange;
 use hub_tables::tables::Tables;
 use std::alloc::{AllocError, Global};
 
-/// Does what takes no memory.
+/// Does what needs no memory.
 fn go_back(tables: &mut Tables, back: RowChange)
     requires { IsFree back tables.old }
     ensures { tables.new ≡ row_done back tables.old }
@@ -71,7 +71,7 @@ fn put_logged(
     }
 }
 
-/// Goes all the way back, without memory: the last step first.
+/// Goes all the way back, whether or not there is memory: the last step first.
 pub fn undo(tables: &mut Tables, mut log: Vec<RowChange>)
     requires { AreFree (reverse log.items) tables.old }
     ensures { tables.new ≡ rows_done (reverse log.items) tables.old }

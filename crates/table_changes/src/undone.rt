@@ -12,7 +12,7 @@ use hub_tables::tables::Tables;
 use std::alloc::{AllocError, Global};
 
 /// The change that undoes another: a put of a copy of the row that is kept under its key, or a removal where none is kept.
-/// After a put it may be done, and takes no memory.
+/// After a put it may be done, and needs no memory.
 pub fn way_back(tables: &Tables, alloc: Global, change: &RowChange) -> Result<RowChange, AllocError>
     ensures value { IfOk result (λ back. back ≡ spec.way_back tables.now change.now) }
     ensures undoes { IfOk result (λ back. row_done back (row_done change.now tables.now) ≡ tables.now) }
