@@ -3,3 +3,5 @@ pub mod OnLiterals
 pub mod ReadScopes
 pub mod Segments
 pub mod Texts
+pub mod Truths
+pub mod Turns

@@ -36,6 +36,13 @@ body_object (b ∷ bytes) = object_of (b ∷ bytes)
 unfoldable pub truth_at : List ℕ → Data → Option Bool
 truth_at key body = get key body >>= as_bool
 
+-- the truth value at a key of the object that a text is, and of the object of a body
+abbrev pub truth_in_text : List ℕ → List ℕ → Option Bool
+truth_in_text key text = object_in text >>= truth_at key
+
+abbrev pub truth_in : List ℕ → List ℕ → Option Bool
+truth_in key bytes = body_object bytes >>= truth_at key
+
 abbrev pub truth_of : Bool → Option Data → Option Bool
 truth_of default None = Some default
 truth_of default (Some value) = as_bool value
