@@ -11,7 +11,7 @@ use hub_kit::bytes::Bytes;
 use hub_kit::names::ServerKey;
 use hub_link::link::HubLink;
 use hub_link::replies::read_reply;
-use request_parts::body::{body_object, truth_at};
+use request_parts::truth::truth_in;
 use std::alloc::{AllocError, Global};
 
 /// How many bytes nearly all of these requests have at most.
@@ -64,10 +64,7 @@ fn access_said(value: Option<bool>) -> Access
 fn access_in(alloc: Global, body: &[u8]) -> Result<Option<bool>, AllocError>
     ensures { IfOk result (λ value. value ≡ spec.access_in body.now) }
 {
-    match body_object(alloc, body)? {
-        Some(object) => Ok(truth_at(&object, "access")),
-        None => Ok(None),
-    }
+    truth_in(alloc, body, "access")
 }
 
 /// What a reply with this status and this body says.
