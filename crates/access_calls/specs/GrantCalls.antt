@@ -1,5 +1,6 @@
 -- The calls of the authorization code grant (RFC 6749, section 4.1).
-use Rattle.std.specs.Prelude.{ℕ, ◌-◌, Bool, true, false, nat_le, List, [], ◌∷◌, ◌++◌, map, length, codes, Option, Some, None, Result, Ok, Err}
+use Rattle.std.specs.Prelude.{ℕ, ◌-◌, Bool, true, false, nat_le, List, [], ◌∷◌, ◌++◌, map, length, codes, Option, Some, None, Result, Ok}
+use Rattle.std.specs.Prelude.{Err}
 use Rattle.std.specs.FinMap.{contains_key, len}
 use Rattle.form_urlencoded.specs.Form.{append_pair}
 use Rattle.hub_kit.specs.Hashes.{draw_text}
@@ -124,7 +125,8 @@ abbrev pub trade_rows : OAuthCode → Token → (over : List ℕ) → List RowCh
 trade_rows code token over = Put (Row.OAuthCode code) ∷ token_rows token over
 
 abbrev pub put_traded : State → (over : List ℕ) → (text : List ℕ) → OAuthCode → Token → Answer
-put_traded t over text code token = rules (if_so (is_without_room t over) (Full 5 t.limits.tokens) ∷ []) (rows_then (trade_rows code token over) (bearer text))
+put_traded t over text code token = rules (if_so (is_without_room t over) (Full 5 t.limits.tokens) ∷ [])
+    (rows_then (trade_rows code token over) (bearer text))
 
 -- the owner's tokens that are over go with the same change
 abbrev pub traded : State → (now : ℕ) → (text : List ℕ) → OAuthCode × Token → Answer

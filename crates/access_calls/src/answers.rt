@@ -21,7 +21,8 @@ pub(crate) fn told(
     status: u16,
     body: Result<Body, AllocError>,
 ) -> Result<Answer, AllocError>
-    ensures { IfOk result (λ a. (made : List RowChange) (shown : json.Json) → IfOk rows (λ r. r.items ≡ made) → IfOk body (λ b. body_tokens b ≡ shown)
+    ensures { IfOk result (λ a. (made : List RowChange) (shown : json.Json) → IfOk rows (λ r. r.items ≡ made)
+        → IfOk body (λ b. body_tokens b ≡ shown)
         → answer_view a ≡ replies.rows_then made (replies.good status shown)) }
 {
     match rows {

@@ -43,7 +43,8 @@ if_unknown_holder s role = option_map UnknownHolder (unknown_holder s role)
 -- the same scopes in the same order, and the same holders
 abbrev pub same_role : Role → Role → Bool
 same_role a b =
-    same_names a.users b.users && same_names a.groups b.groups && same_names a.services b.services && pointwise scope.ghosts.eq a.scopes b.scopes
+    same_names a.users b.users && same_names a.groups b.groups && same_names a.services b.services && pointwise scope.ghosts.eq a.scopes
+    b.scopes
 
 -- a role that is equal to the kept one isn't put
 abbrev pub role_put : Role → Option Role → List RowChange

@@ -52,7 +52,8 @@ fn remove_client(
     tables: &Tables,
     service: &ServiceName,
 ) -> Result<(), AllocError>
-    ensures { OnOk result (changes.new.items ≡ changes.old.items ++ changes_of (is_client (client_of_service service.now)) (λ client. Remove (RowKey.OAuthClient client.id)) (values tables.now.clients)) }
+    ensures { OnOk result (changes.new.items ≡ changes.old.items ++ changes_of (is_client (client_of_service service.now))
+        (λ client. Remove (RowKey.OAuthClient client.id)) (values tables.now.clients)) }
 {
     let client = Client {
         id: client_of_service(alloc, service)?,

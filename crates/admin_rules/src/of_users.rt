@@ -3,7 +3,8 @@ ghost use Rattle.std.specs.Prelude.{◌≡◌, ◌++◌, [], IfOk, OnOk};
 ghost use Rattle.std.specs.FinMap.{values};
 ghost use Rattle.hub_rows.specs.declared.changes.RowChange.TheVariants.{Remove};
 ghost use Rattle.hub_rows.specs.declared.rows.RowKey.TheVariants as RowKey;
-ghost use Rattle.admin_rules.specs.Purges.{changes_of, has_member, without_member, is_held_by_user, without_user, is_code_of_user, is_called, clients_of_user, is_grant_of_user, user_rows};
+ghost use Rattle.admin_rules.specs.Purges.{changes_of, has_member, without_member, is_held_by_user, without_user, is_code_of_user};
+ghost use Rattle.admin_rules.specs.Purges.{is_called, clients_of_user, is_grant_of_user, user_rows};
 
 use crate::purges::{Purge, purge_rows, remove_servers, remove_shares, remove_tokens};
 use crate::rows::append;
@@ -58,7 +59,8 @@ fn remove_clients(
     tables: &Tables,
     user: &UserName,
 ) -> Result<(), AllocError>
-    ensures { OnOk result (changes.new.items ≡ changes.old.items ++ changes_of (is_called (clients_of_user user.now)) (λ client. Remove (RowKey.OAuthClient client.id)) (values tables.now.clients)) }
+    ensures { OnOk result (changes.new.items ≡ changes.old.items ++ changes_of (is_called (clients_of_user user.now))
+        (λ client. Remove (RowKey.OAuthClient client.id)) (values tables.now.clients)) }
 {
     let clients = Clients {
         beginning: clients_of_user(alloc, user)?,

@@ -82,7 +82,8 @@ pub(crate) fn remove_servers(
     tables: &Tables,
     user: &UserName,
 ) -> Result<(), AllocError>
-    ensures { OnOk result (changes.new.items ≡ changes.old.items ++ map (λ key. Remove (RowKey.ServerRow key)) (servers_of tables.now user.now)) }
+    ensures { OnOk result (changes.new.items ≡ changes.old.items ++ map (λ key. Remove (RowKey.ServerRow key))
+        (servers_of tables.now user.now)) }
 {
     let keys = tables.servers_of(alloc, user)?;
     for key in keys.as_slice() {
@@ -98,7 +99,8 @@ pub(crate) fn remove_shares(
     tables: &Tables,
     to: &Recipient,
 ) -> Result<(), AllocError>
-    ensures { OnOk result (changes.new.items ≡ changes.old.items ++ map (λ key. Remove (RowKey.Share key)) (shares_with tables.now to.now)) }
+    ensures { OnOk result (changes.new.items ≡ changes.old.items ++ map (λ key. Remove (RowKey.Share key))
+        (shares_with tables.now to.now)) }
 {
     let keys = tables.shares_with(alloc, to)?;
     for key in keys.as_slice() {

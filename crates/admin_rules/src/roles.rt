@@ -5,7 +5,8 @@ ghost use Rattle.hub_rows.specs.declared.changes.RowChange.TheVariants.{Put};
 ghost use Rattle.hub_rows.specs.declared.rows.Row.TheVariants as Row;
 ghost use Rattle.admin_rules.specs.declared.refusals.RuleRefusal.TheVariants.{FixedRole};
 ghost use Rattle.admin_rules.specs.Rules.{ArePlain, Checks, Says, first_unkept, if_so};
-ghost use Rattle.admin_rules.specs.Roles.{delete_role, if_unknown_holder, if_unknown_scope, is_fixed_role, put_role, same_role, unknown_holder};
+ghost use Rattle.admin_rules.specs.Roles.{delete_role, if_unknown_holder, if_unknown_scope, is_fixed_role, put_role, same_role};
+ghost use Rattle.admin_rules.specs.Roles.{unknown_holder};
 
 use crate::groups::unkept_user;
 use crate::refusals::{RuleRefusal, check_room};
@@ -40,7 +41,8 @@ pub fn put_role(alloc: Global, tables: &Tables, role: &Role) -> Result<Vec<RowCh
 
 /// Refuses a role that can't be put, whether or not there is room for one more.
 fn check_role(alloc: Global, tables: &Tables, role: &Role) -> Result<(), RuleRefusal>
-    ensures { Checks (option_or (if_so (is_fixed_role role.now.name) FixedRole) (option_or (if_unknown_scope tables.now.scopes role.now.scopes) (if_unknown_holder tables.now role.now))) result }
+    ensures { Checks (option_or (if_so (is_fixed_role role.now.name) FixedRole)
+        (option_or (if_unknown_scope tables.now.scopes role.now.scopes) (if_unknown_holder tables.now role.now))) result }
 {
     if is_fixed_role(&role.name) {
         return Err(RuleRefusal::FixedRole);

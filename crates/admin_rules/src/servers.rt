@@ -2,7 +2,8 @@
 ghost use Rattle.std.specs.Prelude.{◌≡◌, ◌++◌, IfOk, OnOk};
 ghost use Rattle.std.specs.FinMap.{get};
 ghost use Rattle.admin_rules.specs.Rules.{ArePlain, Checks, Says};
-ghost use Rattle.admin_rules.specs.Servers.{delete_server, if_unknown_server, newer, note_activity, server_activity, servers_activity, user_activity};
+ghost use Rattle.admin_rules.specs.Servers.{delete_server, if_unknown_server, newer, note_activity, server_activity, servers_activity};
+ghost use Rattle.admin_rules.specs.Servers.{user_activity};
 
 use crate::of_servers::server_rows;
 use crate::refusals::RuleRefusal;

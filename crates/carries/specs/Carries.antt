@@ -41,8 +41,8 @@ abbrev pub IsUnasked : List ℕ → List ℕ → Option Told → ℕ → ℕ →
 IsUnasked method text told links links' given got r =
     (kept : List ℕ) → IsRefused (upgrade_of method text) kept told links links' [] given got r
 
--- how a tunnel left its ends: the upstream's side that gives bytes and the one that takes them with their counts of faults, and whether that
--- one and the client's are shut
+-- how a tunnel left its ends: the upstream's side that gives bytes and the one that takes them with their counts of faults, and whether
+-- that one and the client's are shut
 pub record Sides : Type 0 where
   pub left : Option (List ℕ)
   pub held : Option (List ℕ)
@@ -75,10 +75,12 @@ pub record Tunnelled (old new : Place) (first text behind : List ℕ) (up down :
 abbrev pub Unopened : Place → Place → List ℕ → Result Forwarded SessionFault → Type 0
 Unopened old new text r =
     (IsWritten refusal.Link old.held new.held old.writes new.writes r × Rises old.links new.links)
-    ⊎ ((part more : List ℕ) × (text ≡ part ++ more) × Appends old.held part new.held × Rises old.writes new.writes × (r ≡ Err (WriteFault 0)))
+    ⊎ ((part more : List ℕ) × (text ≡ part ++ more) × Appends old.held part new.held × Rises old.writes new.writes
+    × (r ≡ Err (WriteFault 0)))
 
 -- what came of a reply that switches over
-abbrev pub OpenEnds : {R W : Type 0} → (R → W → Sides) → Place → Place → List ℕ → List ℕ → List ℕ → Result (Carried R W) SessionFault → Type 0
+abbrev pub OpenEnds : {R W : Type 0} → (R → W → Sides) → Place → Place → List ℕ → List ℕ → List ℕ → Result (Carried R W) SessionFault
+    → Type 0
 OpenEnds {R} {W} sides old new first text behind result =
     ((r : Result Forwarded SessionFault) × (result ≡ one_of r) × (new.left ≡ old.left) × Unopened old new text r)
     ⊎ ((up down : Pump) × (x : R) × (y : W) × (result ≡ Ok (Tunnel up down x y)) × Tunnelled old new first text behind up down (sides x y))

@@ -1,7 +1,8 @@
 -- Chunked bodies, and what stands in their place.
 use Rattle.std.specs.Prelude.{◌≡◌, ◌≤◌, ◌<◌, ◌⊎◌, ℕ, List, [], ◌∷◌, ◌++◌, length, All}
 use Rattle.std.specs.List.{flat_map}
-use Rattle.httparse.specs.Grammar.{ChunkLine, IsChunkLine, chunk_size, print_chunk_line, HasNoChunkLine, NeverHasChunkLine, Field, LineEnd, IsField, print_section, NeverHasSection, HasNoSection}
+use Rattle.httparse.specs.Grammar.{ChunkLine, IsChunkLine, chunk_size, print_chunk_line, HasNoChunkLine, NeverHasChunkLine, Field, LineEnd}
+use Rattle.httparse.specs.Grammar.{IsField, print_section, NeverHasSection, HasNoSection}
 
 -- a size line within the limit
 pub record IsSizeLine (line : ChunkLine) : Type 0 where

@@ -1,12 +1,15 @@
 -- Where a chunked body stands, and the parts that lead on.
-use Rattle.std.specs.Prelude.{Bool, true, false, ◌≡◌, ◌≤◌, ◌<◌, ◌⊎◌, ◌+◌, ◌-◌, ◌==◌, if◌then◌else◌, ℕ, List, [], ◌∷◌, ◌++◌, length, take, All}
+use Rattle.std.specs.Prelude.{Bool, true, false, ◌≡◌, ◌≤◌, ◌<◌, ◌⊎◌, ◌+◌, ◌-◌, ◌==◌, if◌then◌else◌, ℕ, List, [], ◌∷◌, ◌++◌, length, take}
+use Rattle.std.specs.Prelude.{All}
 use Rattle.std.specs.List.{flat_map}
-use Rattle.httparse.specs.Grammar.{ChunkLine, chunk_size, print_chunk_line, HasNoChunkLine, Field, LineEnd, IsField, print_section, HasNoSection}
+use Rattle.httparse.specs.Grammar.{ChunkLine, chunk_size, print_chunk_line, HasNoChunkLine, Field, LineEnd, IsField, print_section}
+use Rattle.httparse.specs.Grammar.{HasNoSection}
 use Rattle.chunk_parts.specs.declared.parts.At.{At}
 use Rattle.chunk_parts.specs.declared.parts.At.TheVariants as at
 use Rattle.chunk_parts.specs.declared.parts.Part.{Part}
 use Rattle.chunk_parts.specs.declared.parts.Part.TheVariants.{Whole, Open, Bad}
-use Rattle.chunk_parts.specs.Chunks.{IsSizeLine, Chunk, print_chunk, IsChunk, Chunked, print_chunked, IsChunked, NoLineEnd, NoLine, NoTrailer}
+use Rattle.chunk_parts.specs.Chunks.{IsSizeLine, Chunk, print_chunk, IsChunk, Chunked, print_chunked, IsChunked, NoLineEnd, NoLine}
+use Rattle.chunk_parts.specs.Chunks.{NoTrailer}
 
 -- something comes, and of data at least a byte
 abbrev pub IsAt : At → Type 0

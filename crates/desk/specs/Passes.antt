@@ -5,8 +5,9 @@ use Rattle.desk.specs.declared.turn.SeatView.{SeatView}
 use Rattle.desk.specs.OwnEntries.{placed}
 use Rattle.desk.specs.Seats.{only}
 
--- of which desk it is, the base of the book, the history that it has seen, its own entries with their places, how many of its visits met a failing keeper,
--- how many faults the book had told when it was last seen; of the first pass, how many it split off that it hasn't taken in again; and whether it is the only one
+-- of which desk it is, the base of the book, the history that it has seen, its own entries with their places, how many of its visits met a
+-- failing keeper, how many faults the book had told when it was last seen; of the first pass, how many it split off that it hasn't taken in
+-- again; and whether it is the only one
 pub record PassState (E A : Type 0) : Type 0 where
   pub of : TableId
   pub base : Option A
@@ -18,7 +19,16 @@ pub record PassState (E A : Type 0) : Type 0 where
   pub alone : Bool
 
 abbrev pub pass_state : {B E A : Type 0} → TableId → SeatView B E A → PassState E A
-pass_state t d = record { of = t; base = d.base; seen = d.seen; mine = d.mine; failed = d.failed; faults = d.faults; others = d.others; alone = only d.others }
+pass_state t d = record {
+  of = t;
+  base = d.base;
+  seen = d.seen;
+  mine = d.mine;
+  failed = d.failed;
+  faults = d.faults;
+  others = d.others;
+  alone = only d.others;
+}
 
 -- a pass that was split off: it has seen this list and this count of faults, and has made nothing
 abbrev pub fresh : {E A : Type 0} → TableId → Option A → List E → ℕ → PassState E A

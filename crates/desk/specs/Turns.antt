@@ -1,5 +1,6 @@
 -- The rule of the turn: what holds of the table between any two steps.
-use Rattle.std.specs.Prelude.{◌≡◌, ◌≢◌, ◌⊎◌, ℕ, ◌+◌, ◌*◌, ◌<◌, ◌≤◌, Bool, true, false, List, [], ◌∷◌, length, slice_index, if◌then◌else◌, Option, Some}
+use Rattle.std.specs.Prelude.{◌≡◌, ◌≢◌, ◌⊎◌, ℕ, ◌+◌, ◌*◌, ◌<◌, ◌≤◌, Bool, true, false, List, [], ◌∷◌, length, slice_index, if◌then◌else◌}
+use Rattle.std.specs.Prelude.{Option, Some}
 use mathlib.Core.Option.{some}
 use mathlib.Core.List.{IsPrefix}
 use lib.ListN.{get_elem?}
@@ -48,22 +49,34 @@ module _ {B E A : Type 0} where
 
   -- no place is kept by two seats
   abbrev pub AreApart : List (SeatView B E A) → Type 0
-  AreApart views = (i j : ℕ) (d e : SeatView B E A) → get_elem? views i ≡ some d → get_elem? views j ≡ some e → i ≢ j → (n : ℕ) → Keeps n d → Keeps n e → ⊥
+  AreApart views = (i j : ℕ) (d e : SeatView B E A) → get_elem? views i ≡ some d → get_elem? views j ≡ some e → i ≢ j → (n : ℕ) → Keeps n d
+      → Keeps n e → ⊥
 
 module _ {B E A : Type 0} (entries : B → List E) (base : B → A) (faults : B → ℕ) where
   -- the first seat of a table with this book
   abbrev pub first : B → SeatView B E A
-  first b = record { stage = Idle; base = Some (base b); seen = entries b; mine = placed 0 (entries b); failed = 0; faults = faults b; others = Some 0 }
+  first b = record {
+    stage = Idle;
+    base = Some (base b);
+    seen = entries b;
+    mine = placed 0 (entries b);
+    failed = 0;
+    faults = faults b;
+    others = Some 0;
+  }
 
   -- the book b has this base, this history and this count of faults
   abbrev pub Stands : A → List E → ℕ → B → Type 0
   Stands fixed history count b = (entries b ≡ history) × (base b ≡ fixed) × (faults b ≡ count)
 
-  -- what its stage says of a seat with this base and these own entries: the one that holds the turn knows the book, and what a seat has met stands in the history, apart from its own
+  -- what its stage says of a seat with this base and these own entries: the one that holds the turn knows the book, and what a seat has met
+  -- stands in the history, apart from its own
   abbrev pub IsAt : A → List E → ℕ → Bool → ℕ → ℕ → Option A → List (ℕ × E) → Stage B E → Type 0
   IsAt fixed history count held holder seat known mine Idle = known ≡ Some fixed
-  IsAt fixed history count held holder seat known mine (Held b) = (known ≡ Some fixed) × (held ≡ true) × (seat ≡ holder) × Stands fixed history count b
-  IsAt fixed history count held holder seat known mine (Met ys qs) = (known ≡ Some fixed) × IsPrefix ys history × StandIn ys qs × RisesFrom 0 qs × Apart mine qs
+  IsAt fixed history count held holder seat known mine (Held b) = (known ≡ Some fixed) × (held ≡ true) × (seat ≡ holder)
+      × Stands fixed history count b
+  IsAt fixed history count held holder seat known mine (Met ys qs) = (known ≡ Some fixed) × IsPrefix ys history × StandIn ys qs
+      × RisesFrom 0 qs × Apart mine qs
   IsAt fixed history count held holder seat known mine Spent = Unit {0}
 
   -- what is true of each seat
@@ -75,8 +88,8 @@ module _ {B E A : Type 0} (entries : B → List E) (base : B → A) (faults : B 
     pub at : IsAt fixed history count held holder seat d.base d.mine d.stage
 
   -- there is one base, one history, one count of faults, and maybe one seat that holds the turn; while nobody holds it the book is at home.
-  -- The seat that counts others is the first, and no more of them are there than it counts. Of the seats that are there one knows the whole history,
-  -- one the very count of faults, and each place is kept by one
+  -- The seat that counts others is the first, and no more of them are there than it counts. Of the seats that are there one knows the whole
+  -- history, one the very count of faults, and each place is kept by one
   pub record Turned (s : State (Option B) (SeatView B E A)) : Type 0 where
     pub base_is : A
     pub history : List E

@@ -102,7 +102,8 @@ impl<B: Booked> Desk<B> {
         requires of { pass.old.of ≡ self.now }
         requires job { J.acted job.old ≡ false }
         ensures job { J.acted job.new ≡ true }
-        ensures visit { (before : B) × (after : B) × J.does job.old before result job.new after × Visited B.entries B.base B.faults pass.old pass.new before after }
+        ensures visit { (before : B) × (after : B) × J.does job.old before result job.new after
+            × Visited B.entries B.base B.faults pass.old pass.new before after }
     {
         let shared = &self.table.shared;
         let mut book = steps::take(rt, shared, &self.sleepers, &mut pass.seat);
@@ -127,7 +128,14 @@ impl<B: Booked> Desk<B> {
     /// It waits for nobody.
     pub fn join(&self, pass: &mut Pass<B>, other: Pass<B>)
         requires { (pass.old.of ≡ self.now) × (other.of ≡ self.now) }
-        ensures both { pass.new ≡ record pass.old { seen = longer pass.old.seen other.seen; mine = merged pass.old.mine other.mine; failed = pass.old.failed + other.failed; faults = max pass.old.faults other.faults; others = one_less pass.old.others; alone = only (one_less pass.old.others) } }
+        ensures both { pass.new ≡ record pass.old {
+          seen = longer pass.old.seen other.seen;
+          mine = merged pass.old.mine other.mine;
+          failed = pass.old.failed + other.failed;
+          faults = max pass.old.faults other.faults;
+          others = one_less pass.old.others;
+          alone = only (one_less pass.old.others);
+        } }
         ensures agree { Agree pass.old.seen other.seen }
         ensures apart { Apart pass.old.mine other.mine }
         ensures begins { IsPrefix pass.old.seen pass.new.seen }

@@ -46,9 +46,11 @@ pub(crate) fn give<B: Booked>(
 )
     requires sized { (seat.old.table_id ≡ table.now.table_id) × IsSized table.now.table_id }
     requires held { seat.old.me.1 ≡ (0, None) ∷ [] }
-    requires appended { (before : B) × (seat.old.me.0.stage ≡ Held before) × IsPrefix (B.entries before) (B.entries book) × (B.base book ≡ B.base before) × (B.faults before ≤ B.faults book) }
+    requires appended { (before : B) × (seat.old.me.0.stage ≡ Held before) × IsPrefix (B.entries before) (B.entries book)
+        × (B.base book ≡ B.base before) × (B.faults before ≤ B.faults book) }
     ensures same { IsSame seat.old seat.new }
-    ensures after { (before : B) → seat.old.me.0.stage ≡ Held before → seat.new.me ≡ (after B.entries B.faults before book seat.old.me.0, []) }
+    ensures after { (before : B) → seat.old.me.0.stage ≡ Held before
+        → seat.new.me ≡ (after B.entries B.faults before book seat.old.me.0, []) }
     ensures ordered { IsOrdered seat.new.me.0 }
 {
     let word = 2 * book.length();

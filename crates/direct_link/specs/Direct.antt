@@ -9,7 +9,8 @@ use Rattle.hub_run.specs.Turns.{View}
 use Rattle.hub_run.specs.declared.served.Served.{Served}
 use Rattle.reply_texts.specs.ReplyText.{no_memory}
 
--- what is given of a connection that ended so and wrote that: a reply where it had no fault and wrote no 507, of a length that a `u64` counts
+-- what is given of a connection that ended so and wrote that: a reply where it had no fault and wrote no 507, of a length that a `u64`
+-- counts
 abbrev pub Replies : Result (List ℕ) LinkError → Result Served SessionFault → List ℕ → Type 0
 Replies (Ok reply) ended said = (served : Served) × (ended ≡ Ok served) × (reply ≡ said) × (said ≢ no_memory)
     × (length reply < 2 ^ 64)

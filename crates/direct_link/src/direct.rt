@@ -116,7 +116,8 @@ impl<
 
     ghost faults = { λ l. 0 };
 
-    ghost does = { λ before request given after. (after.pass.ghost_name ≡ before.pass.ghost_name) × (after.kit.ghost_name ≡ before.kit.ghost_name)
+    ghost does = { λ before request given after. (after.pass.ghost_name ≡ before.pass.ghost_name)
+        × (after.kit.ghost_name ≡ before.kit.ghost_name)
         × Direct (view_of C.to_come R.left S.calls P.calls R.faults S.faults P.faults before.pass.now before.kit.now) request given
         (view_of C.to_come R.left S.calls P.calls R.faults S.faults P.faults after.pass.now after.kit.now) };
 

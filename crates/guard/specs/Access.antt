@@ -1,5 +1,6 @@
 -- Whether a hub admits a token: what it is asked, and what its reply says.
-use Rattle.std.specs.Prelude.{◌≡◌, ◌⊎◌, ◌==◌, ℕ, Bool, true, false, List, [], ◌∷◌, ◌++◌, Option, Some, None, Result, Ok, Err, if◌then◌else◌, codes}
+use Rattle.std.specs.Prelude.{◌≡◌, ◌⊎◌, ◌==◌, ℕ, Bool, true, false, List, [], ◌∷◌, ◌++◌, Option, Some, None, Result, Ok, Err, if◌then◌else◌}
+use Rattle.std.specs.Prelude.{codes}
 use Rattle.hub_devices.specs.declared.link_error.LinkError.{LinkError}
 use Rattle.hub_devices.specs.declared.link_error.LinkError.TheVariants.{Failed, Memory}
 use Rattle.hub_kit.specs.declared.names.ServerKey.{ServerKey}

@@ -22,7 +22,8 @@ use Rattle.guard.specs.Denials.{IsDenied}
 use Rattle.guard.specs.Guards.{Judges, Unsent, Unread, Unframed}
 
 -- a request whose head was taken is carried, or refused with nothing sent
-abbrev pub CarryFollows : {R W : Type 0} → Verdict → (R → W → Sides) → Going → List ℕ → Place → Place → Result (Carried R W) SessionFault → Type 0
+abbrev pub CarryFollows : {R W : Type 0} → Verdict → (R → W → Sides) → Going → List ℕ → Place → Place → Result (Carried R W) SessionFault
+    → Type 0
 CarryFollows verdict.Pass sides q target old new result = CarryOn sides q target old new result
 CarryFollows (verdict.Deny d) sides q target old new result =
     Unsent old new × (r : Result Forwarded SessionFault) × (result ≡ one_of r) × IsDenied d old.held new.held old.writes new.writes r
@@ -31,7 +32,8 @@ CarryFollows verdict.Memory sides q target old new result =
     × IsWritten refusal.Memory old.held new.held old.writes new.writes r
 
 -- a head came, its token was asked about if it has one, and the answer decides
-pub record CarryJudged {R W : Type 0} (key : ServerKey) (target : List ℕ) (sides : R → W → Sides) (asks : List Exchange) (faults faults' : ℕ)
+pub record CarryJudged {R W : Type 0} (key : ServerKey) (target : List ℕ) (sides : R → W → Sides) (asks : List Exchange)
+    (faults faults' : ℕ)
     (old new : Place) (result : Result (Carried R W) SessionFault) : Type 0 where
   pub head : RequestHead
   pub is : IsServedHead head
@@ -44,7 +46,8 @@ pub record CarryJudged {R W : Type 0} (key : ServerKey) (target : List ℕ) (sid
   pub counted : old.reads ≤ reads
   pub framed : request_framing (head_of head).headers ≡ Ok framing
   pub judged : Judges key (token_of (head_of head).headers) asks faults faults' verdict
-  pub follows : CarryFollows verdict sides (going (head_of head) framing) target (record old { left = left; kept = kept; reads = reads }) new result
+  pub follows : CarryFollows verdict sides (going (head_of head) framing) target (record old { left = left; kept = kept; reads = reads })
+      new result
 
 -- how one request at a guard is carried
 abbrev pub GuardCarries : {R W : Type 0} → ServerKey → List ℕ → (R → W → Sides) → List Exchange → ℕ → ℕ → Place → Place

@@ -99,7 +99,8 @@ pub record Judged (key : ServerKey) (target : List ℕ) (asks : List Exchange) (
   pub counted : old.reads ≤ reads
   pub framed : request_framing (head_of head).headers ≡ Ok framing
   pub judged : Judges key (token_of (head_of head).headers) asks faults faults' verdict
-  pub follows : Follows verdict (record { upgrade = false; method = head.method; text = request_passed false head; framing = framing }) target
+  pub follows : Follows verdict (record { upgrade = false; method = head.method; text = request_passed false head; framing = framing })
+      target
       (record old { left = left; kept = kept; reads = reads }) new result
 
 -- how one request at a guard ends

@@ -95,7 +95,12 @@ pub fn follow<I: Source, O: Sink, U: Upstream>(
     requires minor { head.now.minor ≤ 1 }
     requires sized { framing ≢ Framing.ToEnd }
     ensures ends { (rest : List ℕ)
-        × Follows verdict (record { upgrade = false; method = head.now.method; text = heads.request_text false head.now; framing = framing })
+        × Follows verdict (record {
+          upgrade = false;
+          method = head.now.method;
+          text = heads.request_text false head.now;
+          framing = framing;
+        })
         target.now
         (record {
           left = I.left input.old;

@@ -1,5 +1,6 @@
 //! The two cookies of a guard, as a browser sends them (RFC 6265, section 4.2).
-ghost use Rattle.std.specs.Prelude.{◌≡◌, ◌==◌, ◌&&◌, ◌<◌, true, ◌∷◌, [], codes, length, take, drop, bytes_eq, position, MatchOption, IfSome};
+ghost use Rattle.std.specs.Prelude.{◌≡◌, ◌==◌, ◌&&◌, ◌<◌, true, ◌∷◌, [], codes, length, take, drop, bytes_eq, position, MatchOption};
+ghost use Rattle.std.specs.Prelude.{IfSome};
 ghost use Rattle.std.specs.List.{list_all};
 ghost use Rattle.std.specs.Option.{option_copied};
 ghost use Rattle.http_wire.specs.Fields.{is_named};

@@ -28,7 +28,8 @@ HasNoSecret files None faults faults' Memory = Unit {0}
 HasNoSecret files (Some name) faults faults' error = IsNoSecret files name faults faults' error
 
 -- nothing was done, since there is no secret
-pub record EndsWithout (files : Option (List (List ℕ × List ℕ))) (name : Option (List ℕ)) (faults faults' : ℕ) (h : Hall) (end : GuardEnd) (h' : Hall)
+pub record EndsWithout (files : Option (List (List ℕ × List ℕ))) (name : Option (List ℕ)) (faults faults' : ℕ) (h : Hall) (end : GuardEnd)
+    (h' : Hall)
     : Type 0 where
   pub error : SecretError
   pub none : HasNoSecret files name faults faults' error
@@ -36,10 +37,11 @@ pub record EndsWithout (files : Option (List (List ℕ × List ℕ))) (name : Op
   pub quiet : h' ≡ h
 
 -- connections were served, by the secret of the file where one is named
-pub record EndsServed (files : Option (List (List ℕ × List ℕ))) (name : Option (List ℕ)) (h : Hall) (end : GuardEnd) (h' : Hall) : Type 0 where
-  pub secret : Option (List ℕ)
-  pub has : HasSecret files name secret
-  pub over : IsOver h end h'
+pub record EndsServed (files : Option (List (List ℕ × List ℕ))) (name : Option (List ℕ)) (h : Hall) (end : GuardEnd) (h' : Hall) : Type 0
+  where
+    pub secret : Option (List ℕ)
+    pub has : HasSecret files name secret
+    pub over : IsOver h end h'
 
 -- the words are these; or they are refused, or memory was wanting to read them, and nothing was done
 abbrev pub RunEnds : Option GuardWords → Option (List (List ℕ × List ℕ)) → ℕ → ℕ → Hall → GuardEnd → Hall → Type 0

@@ -15,7 +15,8 @@ use Rattle.guard_login.specs.declared.door.Door.{Door}
 module _ {H : Type 0} (asked : H → Option (List (List ℕ × Option (List ℕ)))) (does : H → List ℕ → Result (List ℕ) LinkError → H → Type 0)
     (faults : H → ℕ) where
   -- one request was carried or refused by its token; `kept` was read behind it
-  pub record IsGuarded {X Y : Type 0} (key : ServerKey) (target : List ℕ) (sides : X → Y → Sides) (link link' : H) (old new : Place) : Type 0 where
+  pub record IsGuarded {X Y : Type 0} (key : ServerKey) (target : List ℕ) (sides : X → Y → Sides) (link link' : H) (old new : Place) : Type
+      0 where
     pub asks : List Exchange
     pub kept : List ℕ
     pub result : Result (Carried X Y) SessionFault
@@ -24,7 +25,8 @@ module _ {H : Type 0} (asked : H → Option (List (List ℕ × Option (List ℕ)
 
   module _ {R : Type 0} (left : R → Option (List (List ℕ))) (fails : R → ℕ) where
     -- one request was carried, refused, or took a step of a browser's sign-in; `kept` was read behind it
-    pub record IsSignedIn {X Y : Type 0} (door : Door) (sides : X → Y → Sides) (link link' : H) (random random' : R) (old new : Place) : Type 0 where
+    pub record IsSignedIn {X Y : Type 0} (door : Door) (sides : X → Y → Sides) (link link' : H) (random random' : R)
+        (old new : Place) : Type 0 where
       pub asks : List Exchange
       pub kept : List ℕ
       pub result : Result (Entered X Y) SessionFault

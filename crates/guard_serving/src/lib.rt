@@ -1,6 +1,6 @@
 //! The command `guard`: a listener's connections, each passed on to one server where a hub admits it.
-//! The contract of `run` carries it: by the words, and the secret in the file that they may name, it writes `ready`, takes connections until
-//! the listener fails, and tells how many they were and how it ended. The program stands above it.
+//! The contract of `run` carries it: by the words, and the secret in the file that they may name, it writes `ready`, takes connections
+//! until the listener fails, and tells how many they were and how it ended. The program stands above it.
 #![tactic(auto)]
 
 mod command;

@@ -1,6 +1,7 @@
 -- What a head says of the body behind it (RFC 9112, section 6) and of the revision that its sender has seen, and when
 -- that is refused.
-use Rattle.std.specs.Prelude.{ℕ, Bool, true, false, ◌^◌, ◌-◌, nat_le, if◌then◌else◌, List, [], ◌∷◌, Option, Some, None, Result, Ok, Err, codes}
+use Rattle.std.specs.Prelude.{ℕ, Bool, true, false, ◌^◌, ◌-◌, nat_le, if◌then◌else◌, List, [], ◌∷◌, Option, Some, None, Result, Ok, Err}
+use Rattle.std.specs.Prelude.{codes}
 use Rattle.std.specs.List.{list_any}
 use Rattle.http_wire.specs.declared.error.WireError.{WireError}
 use Rattle.http_wire.specs.declared.error.WireError.TheVariants.{BadHead, TooLarge, Coding}

@@ -43,9 +43,11 @@ pub fn adopt<
     ensures alone { pass.new.alone ≡ pass.old.alone }
     ensures counted { pass.old.faults ≤ pass.new.faults }
     ensures adopted { (start : Start) → pass.old.base ≡ Some start
-        → IfOk result (λ told. TakesBack start (view_of C.to_come R.left S.calls P.calls R.faults S.faults P.faults pass.old kit.old) told (view_of C.to_come R.left S.calls P.calls R.faults S.faults P.faults pass.new kit.new)) }
+        → IfOk result (λ told. TakesBack start (view_of C.to_come R.left S.calls P.calls R.faults S.faults P.faults pass.old kit.old) told
+        (view_of C.to_come R.left S.calls P.calls R.faults S.faults P.faults pass.new kit.new)) }
     // no call was made
-    ensures memory { IfErr result (λ e. Looks (view_of C.to_come R.left S.calls P.calls R.faults S.faults P.faults pass.old kit.old) (view_of C.to_come R.left S.calls P.calls R.faults S.faults P.faults pass.new kit.new)) }
+    ensures memory { IfErr result (λ e. Looks (view_of C.to_come R.left S.calls P.calls R.faults S.faults P.faults pass.old kit.old)
+        (view_of C.to_come R.left S.calls P.calls R.faults S.faults P.faults pass.new kit.new)) }
 {
     let mut search = Search::new(alloc);
     let servers = desk.visit(rt, pass, &mut search)?;

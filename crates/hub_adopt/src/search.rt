@@ -40,7 +40,8 @@ impl<K: Keeper, T: Trail<Entry = Change>> Job<Book<K, T>> for Search {
 
     ghost acted = { λ j. j.acted };
 
-    ghost does = { λ j b r j' b'. (b' ≡ b) × IfOk r (λ servers. AreFound b.start (entries_of b) servers.items × All (λ s. s.generation < 2 ^ 63) servers.items) };
+    ghost does = { λ j b r j' b'. (b' ≡ b)
+        × IfOk r (λ servers. AreFound b.start (entries_of b) servers.items × All (λ s. s.generation < 2 ^ 63) servers.items) };
 
     fn act(&mut self, book: &mut Book<K, T>) -> Result<Vec<LiveServer>, AllocError> {
         self.acted = true;

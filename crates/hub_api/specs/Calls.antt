@@ -10,7 +10,10 @@ use Rattle.hub_paths.specs.Paths.{path_of}
 use Rattle.hub_api.specs.declared.method.Method.{Method}
 use Rattle.hub_api.specs.declared.method.Method.TheVariants.{Get, Post, Put, Patch, Delete, Other}
 use Rattle.hub_paths.specs.declared.paths.Path.{Path}
-use Rattle.hub_paths.specs.declared.paths.Path.TheVariants.{Bare, Version, Info, Identity, Users, User, Activity, DefaultServer, NamedServer, Tokens, Token, Shared, GivenShares, DefaultShares, ServerShares, GivenCodes, DefaultCodes, ServerCodes, Groups, Group, Members, Services, Service, Roles, Role, Authorize, Trade, Proxy}
+use Rattle.hub_paths.specs.declared.paths.Path.TheVariants.{Bare, Version, Info, Identity, Users, User, Activity, DefaultServer}
+use Rattle.hub_paths.specs.declared.paths.Path.TheVariants.{NamedServer, Tokens, Token, Shared, GivenShares, DefaultShares, ServerShares}
+use Rattle.hub_paths.specs.declared.paths.Path.TheVariants.{GivenCodes, DefaultCodes, ServerCodes, Groups, Group, Members, Services}
+use Rattle.hub_paths.specs.declared.paths.Path.TheVariants.{Service, Roles, Role, Authorize, Trade, Proxy}
 use Rattle.hub_api.specs.declared.refusal.ApiRefusal.{ApiRefusal}
 use Rattle.hub_api.specs.declared.refusal.ApiRefusal.TheVariants.{NoPath, NoMethod}
 

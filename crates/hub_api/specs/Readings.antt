@@ -2,7 +2,12 @@
 use Rattle.std.specs.Prelude.{ℕ, Bool, List, [], codes, Option, Result, Ok}
 use Rattle.http_wire.specs.declared.request.Request.{Request}
 use Rattle.hub_machine.specs.declared.call.Call.{Call}
-use Rattle.hub_machine.specs.declared.call.Call.TheVariants.{GetIdentity, GetUsers, PostUsers, GetUser, PostUser, PatchUser, DeleteUser, PostActivity, PostServer, DeleteServer, GetTokens, PostToken, GetToken, DeleteToken, GetShares, AcceptCode, PostShare, PatchShare, DeleteShares, GetCodes, PostCode, DeleteCodes, GetGroups, GetGroup, PostGroup, DeleteGroup, JoinGroup, LeaveGroup, GetServices, GetService, PostService, DeleteService, GetRoles, GetRole, PutRole, DeleteRole, GetAuthorize, PostTrade}
+use Rattle.hub_machine.specs.declared.call.Call.TheVariants.{GetIdentity, GetUsers, PostUsers, GetUser, PostUser, PatchUser, DeleteUser}
+use Rattle.hub_machine.specs.declared.call.Call.TheVariants.{PostActivity, PostServer, DeleteServer, GetTokens, PostToken, GetToken}
+use Rattle.hub_machine.specs.declared.call.Call.TheVariants.{DeleteToken, GetShares, AcceptCode, PostShare, PatchShare, DeleteShares}
+use Rattle.hub_machine.specs.declared.call.Call.TheVariants.{GetCodes, PostCode, DeleteCodes, GetGroups, GetGroup, PostGroup, DeleteGroup}
+use Rattle.hub_machine.specs.declared.call.Call.TheVariants.{JoinGroup, LeaveGroup, GetServices, GetService, PostService, DeleteService}
+use Rattle.hub_machine.specs.declared.call.Call.TheVariants.{GetRoles, GetRole, PutRole, DeleteRole, GetAuthorize, PostTrade}
 use Rattle.hub_rows.specs.declared.keys.Recipient.{Recipient}
 use Rattle.oauth_flow.specs.declared.asks.AuthorizeAsk.{AuthorizeAsk}
 use Rattle.oauth_flow.specs.declared.asks.TradeAsk.{TradeAsk}
@@ -16,8 +21,10 @@ use Rattle.request_parts.specs.Queries.{decimal_of, query_value}
 use Rattle.hub_api.specs.Names.{name_at, read_at}
 use Rattle.hub_api.specs.Queries.{id_of, page_of, server_of}
 use Rattle.hub_paths.specs.declared.paths.Path.{Path}
-use Rattle.hub_paths.specs.declared.paths.Path.TheVariants.{User, Activity, DefaultServer, NamedServer, Tokens, Token, Shared, GivenShares, ServerShares, GivenCodes, ServerCodes, Group, Members, Service, Role}
-use Rattle.hub_api.specs.Bodies.{body_of, needed_truth, truth, names, some_names, distinct_names, moment, activity, scope_texts, scopes, note, seconds, life, needed_text, recipient}
+use Rattle.hub_paths.specs.declared.paths.Path.TheVariants.{User, Activity, DefaultServer, NamedServer, Tokens, Token, Shared, GivenShares}
+use Rattle.hub_paths.specs.declared.paths.Path.TheVariants.{ServerShares, GivenCodes, ServerCodes, Group, Members, Service, Role}
+use Rattle.hub_api.specs.Bodies.{body_of, needed_truth, truth, names, some_names, distinct_names, moment, activity, scope_texts, scopes}
+use Rattle.hub_api.specs.Bodies.{note, seconds, life, needed_text, recipient}
 use Rattle.hub_api.specs.declared.refusal.ApiRefusal.{ApiRefusal}
 
 -- GET /user

@@ -185,7 +185,8 @@ fn share_of(
     server: ServerKey,
     body: &Value,
 ) -> Result<(ServerKey, Option<Recipient>, List<RawScope>), ApiRefusal>
-    ensures { (q : Request) → spec.server_at Path.ServerShares q ≡ Ok server → body_of q ≡ Ok (view body.now) → Gives result (spec.share_at q) }
+    ensures { (q : Request) → spec.server_at Path.ServerShares q ≡ Ok server → body_of q ≡ Ok (view body.now)
+        → Gives result (spec.share_at q) }
 {
     let to = recipient(alloc, body)?;
     let texts = scope_texts(alloc, body)?;
@@ -227,7 +228,8 @@ fn post_code(alloc: Global, request: &Request) -> Result<Call, ApiRefusal>
 /// The call that asks for a code, by its server and its body. The body is read whole before its scopes are.
 #[tactic(auto, unfolding(crate::specs::Readings::post_code))]
 fn post_code_of(alloc: Global, server: ServerKey, body: &Value) -> Result<Call, ApiRefusal>
-    ensures { (q : Request) → spec.server_at Path.ServerCodes q ≡ Ok server → body_of q ≡ Ok (view body.now) → Gives result (spec.post_code q) }
+    ensures { (q : Request) → spec.server_at Path.ServerCodes q ≡ Ok server → body_of q ≡ Ok (view body.now)
+        → Gives result (spec.post_code q) }
 {
     let texts = scope_texts(alloc, body)?;
     let expires_in = life(body, "expires_in")?;

@@ -41,4 +41,5 @@ on_lease s server remove (Some held) = on_lease_of server held.0 held.1
 -- DELETE /users/{user}/server and /users/{user}/servers/{server}
 abbrev pub delete_server : Hub → ServerKey → (remove : Bool) → Answer
 delete_server s server remove =
-    rules (if_so (remove && is_default server.server) (Rule (codes "default server")) ∷ []) (on_lease s server remove (lease_of s.lives server))
+    rules (if_so (remove && is_default server.server) (Rule (codes "default server")) ∷ [])
+    (on_lease s server remove (lease_of s.lives server))

@@ -95,7 +95,8 @@ fn servers_at(
     hub: &Machine,
     keys: &[ServerKey],
 ) -> Result<Vec<ServerFacts>, AllocError>
-    ensures { IfOk result (λ servers. servers.items ≡ flat_map (λ key. facts_at hub.now.lives (map.get hub.now.tables.servers key)) keys.now) }
+    ensures { IfOk result (λ servers. servers.items ≡ flat_map (λ key. facts_at hub.now.lives (map.get hub.now.tables.servers key))
+        keys.now) }
 {
     let mut servers = Vec::new(alloc);
     for key in keys {

@@ -81,7 +81,8 @@ fn put_or_kept_group(
     group: &GroupName,
     put: Option<&Group>,
 ) -> Result<Body, AllocError>
-    ensures { IfOk result (λ body. body_tokens body ≡ with_put_group (may_of hub.now rights.now) hub.now group.now (option_copied put.entry)) }
+    ensures { IfOk result (λ body. body_tokens body ≡ with_put_group (may_of hub.now rights.now) hub.now group.now
+        (option_copied put.entry)) }
 {
     match put {
         Some(row) => group_body(alloc, hub, rights, row),
@@ -113,7 +114,8 @@ fn answer_of_group(
     rows: Result<Vec<RowChange>, RuleRefusal>,
 ) -> Result<Answer, AllocError>
     requires { IfOk rows (λ rows. PutsGroup group.now rows.items) }
-    ensures { IfOk result (λ a. (answer : rules.Answer) → rules.Says answer rows → answer_view a ≡ by_rules hub.now answer (λ after. good status (group_at (may_of hub.now rights.now) after group.now))) }
+    ensures { IfOk result (λ a. (answer : rules.Answer) → rules.Says answer rows
+        → answer_view a ≡ by_rules hub.now answer (λ after. good status (group_at (may_of hub.now rights.now) after group.now))) }
 {
     match rows {
         Ok(rows) => {

@@ -65,7 +65,8 @@ pub(crate) fn list_of<K: Shown, V>(
     path: &str,
 ) -> Result<Answer, AllocError>
     ensures { IfOk result (λ answer. answer_view answer ≡ spec.gives (spec.good 200 (paged_list path.now page
-        (over (K.shown (may_of hub.now rights.now) hub.now) (kept (λ name. may_of hub.now rights.now action (K.object_of name)) (map_of K.Ord.cmp rows.now)))))) }
+        (over (K.shown (may_of hub.now rights.now) hub.now)
+        (kept (λ name. may_of hub.now rights.now action (K.object_of name)) (map_of K.Ord.cmp rows.now)))))) }
 {
     let admitted = those_admitted(alloc, rights, action, hub.tables())?;
     let part = part_of(alloc, rows, &admitted, page)?;

@@ -35,7 +35,8 @@ fn refusal_said(alloc: Global, refusal: RuleRefusal) -> Result<Refusal, AllocErr
 
 /// The answer of a call that a rule refuses.
 pub fn refused(alloc: Global, refusal: RuleRefusal) -> Result<Answer, AllocError>
-    ensures { IfOk result (λ a. (answer : rules.Answer) → rules.Says answer (Err refusal) → (s : Hub) (reply : Hub → spec.Good) → answer_view a ≡ by_rules s answer reply) }
+    ensures { IfOk result (λ a. (answer : rules.Answer) → rules.Says answer (Err refusal) → (s : Hub) (reply : Hub → spec.Good)
+        → answer_view a ≡ by_rules s answer reply) }
 {
     Ok(Answer::Refuses(refusal_said(alloc, refusal)?))
 }
@@ -60,7 +61,8 @@ pub fn answered(
     body: Result<Body, AllocError>,
 ) -> Result<Answer, AllocError>
     ensures { IfOk result (λ a. (answer : rules.Answer) → answer ≡ Ok rows.items → (s : Hub) (shown : Hub → Json)
-        → IfOk body (λ b. body_tokens b ≡ shown (after_rows rows.items s)) → answer_view a ≡ by_rules s answer (λ after. spec.good status (shown after))) }
+        → IfOk body (λ b. body_tokens b ≡ shown (after_rows rows.items s))
+        → answer_view a ≡ by_rules s answer (λ after. spec.good status (shown after))) }
 {
     match body {
         Ok(body) => Ok(rows_then(rows, plain(status, body))),

@@ -279,7 +279,18 @@ fn server_token(
     secret: &Text,
     server: &ServerKey,
 ) -> Result<Token, AllocError>
-    ensures { IfOk result (λ token. token ≡ record { id = id; client = None; created = now; expires_at = None; hash = hash_text secret.now; issued_for = Some server.now; note = []; owner = Owner.User server.now.user; scopes = spec.server_scopes }) }
+    ensures { IfOk result (λ token. token
+        ≡ record {
+          id = id;
+          client = None;
+          created = now;
+          expires_at = None;
+          hash = hash_text secret.now;
+          issued_for = Some server.now;
+          note = [];
+          owner = Owner.User server.now.user;
+          scopes = spec.server_scopes;
+        }) }
 {
     let activity = RawScope::Plain {
         action: Action::UsersActivity,
@@ -338,7 +349,8 @@ fn lease(
 
 /// The client of OAuth that the server is, with the secret of its token.
 fn client(alloc: Global, secret: &Text, server: &ServerKey) -> Result<OAuthClient, AllocError>
-    ensures { IfOk result (λ client. client ≡ record { id = client_of server.now; hash = hash_text secret.now; redirect_uri = spec.callback_of server.now }) }
+    ensures { IfOk result (λ client. client
+        ≡ record { id = client_of server.now; hash = hash_text secret.now; redirect_uri = spec.callback_of server.now }) }
 {
     let mut redirect_uri = server_url(alloc, server)?;
     redirect_uri.push_str("oauth_callback")?;

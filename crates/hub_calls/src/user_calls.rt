@@ -43,7 +43,8 @@ pub fn get_version(alloc: Global) -> Result<Answer, AllocError>
 }
 
 fn add_version(alloc: Global, fields: &mut Vec<(Text, Body)>) -> Result<(), AllocError>
-    ensures { OnOk result (members fields.new.items ≡ members fields.old.items ++ json.member true (codes "version") (json.line (codes "5.0.0"))) }
+    ensures { OnOk result (members fields.new.items ≡ members fields.old.items ++ json.member true (codes "version")
+        (json.line (codes "5.0.0"))) }
 {
     add_member(alloc, fields, true, "version", line(alloc, "5.0.0")?)
 }
@@ -69,8 +70,10 @@ pub fn get_info(alloc: Global, hub: &Machine) -> Result<Answer, AllocError>
 
 /// Adds how many targets are leased, how many there are, and the version.
 fn add_info(alloc: Global, fields: &mut Vec<(Text, Body)>, hub: &Machine) -> Result<(), AllocError>
-    ensures { OnOk result (members fields.new.items ≡ members fields.old.items ++ json.member true (codes "leases") (json.whole (map.len hub.now.lives))
-        ++ json.member true (codes "pool") (json.whole (length hub.now.pool)) ++ json.member true (codes "version") (json.line (codes "5.0.0"))) }
+    ensures { OnOk result (members fields.new.items ≡ members fields.old.items ++ json.member true (codes "leases")
+        (json.whole (map.len hub.now.lives))
+        ++ json.member true (codes "pool") (json.whole (length hub.now.pool))
+        ++ json.member true (codes "version") (json.line (codes "5.0.0"))) }
 {
     let leases = hub.lives().len();
     add_member(alloc, fields, true, "leases", Body::Number(leases))?;
@@ -87,7 +90,8 @@ fn identity_of_user(
     server: &Option<ServerKey>,
     user: &UserName,
 ) -> Result<Body, AllocError>
-    ensures { IfOk result (λ body. body_tokens body ≡ spec.identity_of_user (may_of hub.now rights.now) hub.now token.now server.now (map.get hub.now.tables.users user.now)) }
+    ensures { IfOk result (λ body. body_tokens body ≡ spec.identity_of_user (may_of hub.now rights.now) hub.now token.now server.now
+        (map.get hub.now.tables.users user.now)) }
 {
     match hub.tables().user(user) {
         None => Ok(Body::Null),
@@ -107,7 +111,8 @@ fn identity_of_service(
     server: &Option<ServerKey>,
     service: &ServiceName,
 ) -> Result<Body, AllocError>
-    ensures { IfOk result (λ body. body_tokens body ≡ spec.identity_of_service (may_of hub.now rights.now) hub.now token.now server.now service.now) }
+    ensures { IfOk result (λ body. body_tokens body ≡ spec.identity_of_service (may_of hub.now rights.now) hub.now token.now server.now
+        service.now) }
 {
     let roles = hub.tables().roles_naming_service(alloc, service)?;
     service_identity(
@@ -213,7 +218,8 @@ fn put_or_kept(
     user: &UserName,
     put: Option<&User>,
 ) -> Result<Body, AllocError>
-    ensures { IfOk result (λ body. body_tokens body ≡ with_put_user (may_of hub.now rights.now) hub.now user.now (option_copied put.entry)) }
+    ensures { IfOk result (λ body. body_tokens body ≡ with_put_user (may_of hub.now rights.now) hub.now user.now
+        (option_copied put.entry)) }
 {
     match put {
         Some(row) => user_body(alloc, hub, rights, row),
@@ -245,7 +251,8 @@ fn answer_of_user(
     rows: Result<Vec<RowChange>, RuleRefusal>,
 ) -> Result<Answer, AllocError>
     requires { IfOk rows (λ rows. PutsUser user.now rows.items) }
-    ensures { IfOk result (λ a. (answer : rules.Answer) → rules.Says answer rows → answer_view a ≡ by_rules hub.now answer (λ after. good status (user_at (may_of hub.now rights.now) after user.now))) }
+    ensures { IfOk result (λ a. (answer : rules.Answer) → rules.Says answer rows
+        → answer_view a ≡ by_rules hub.now answer (λ after. good status (user_at (may_of hub.now rights.now) after user.now))) }
 {
     match rows {
         Ok(rows) => {

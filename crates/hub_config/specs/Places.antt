@@ -1,5 +1,6 @@
 -- The places and the limits of a configuration.
-use Rattle.std.specs.Prelude.{ℕ, Bool, ◌&&◌, nat_le, List, [], ◌∷◌, length, codes, Option, Some, None, unwrap_or, option_map, option_and_then, if◌then◌else◌}
+use Rattle.std.specs.Prelude.{ℕ, Bool, ◌&&◌, nat_le, List, [], ◌∷◌, length, codes, Option, Some, None, unwrap_or, option_map}
+use Rattle.std.specs.Prelude.{option_and_then, if◌then◌else◌}
 use Rattle.toml.specs.Data.{Data}
 use Rattle.server_life.specs.Pools.{are_distinct}
 use Rattle.hub_rows.specs.declared.limits.Limits.{Limits}

@@ -11,7 +11,8 @@ use Rattle.hub_machine.specs.State.{Hub}
 use Rattle.hub_machine.specs.Trails.{in_trail}
 use Rattle.hub_machine.specs.Replies.{Answer, refuses, gives, rules, if_so}
 use Rattle.hub_core.specs.Needs.{needs, needs_token, is_there}
-use Rattle.hub_calls.specs.UserCalls.{get_version, get_info, get_identity, get_users, post_users, get_user, post_user, patch_user, delete_user}
+use Rattle.hub_calls.specs.UserCalls.{get_version, get_info, get_identity, get_users, post_users, get_user, post_user, patch_user}
+use Rattle.hub_calls.specs.UserCalls.{delete_user}
 use Rattle.hub_calls.specs.ServerCalls.{post_activity}
 use Rattle.hub_calls.specs.Starts.{post_server}
 use Rattle.hub_calls.specs.Stops.{delete_server}
@@ -29,7 +30,13 @@ use Rattle.hub_machine.specs.declared.refusal.Refusal.{Refusal}
 use Rattle.hub_machine.specs.declared.refusal.Refusal.TheVariants.{SeenPast, NoValidToken, Needs, NotFound}
 use Rattle.hub_machine.specs.declared.call.Asked.{Asked}
 use Rattle.hub_machine.specs.declared.call.Call.{Call}
-use Rattle.hub_machine.specs.declared.call.Call.TheVariants.{GetVersion, GetInfo, GetIdentity, GetUsers, PostUsers, GetUser, PostUser, PatchUser, DeleteUser, PostActivity, PostServer, DeleteServer, GetTokens, PostToken, GetToken, DeleteToken, GetShares, AcceptCode, PostShare, PatchShare, DeleteShares, GetCodes, PostCode, DeleteCodes, GetGroups, GetGroup, PostGroup, DeleteGroup, JoinGroup, LeaveGroup, GetServices, GetService, PostService, DeleteService, GetRoles, GetRole, PutRole, DeleteRole, GetAuthorize, PostTrade, GetProxy, PostProxy}
+use Rattle.hub_machine.specs.declared.call.Call.TheVariants.{GetVersion, GetInfo, GetIdentity, GetUsers, PostUsers, GetUser, PostUser}
+use Rattle.hub_machine.specs.declared.call.Call.TheVariants.{PatchUser, DeleteUser, PostActivity, PostServer, DeleteServer, GetTokens}
+use Rattle.hub_machine.specs.declared.call.Call.TheVariants.{PostToken, GetToken, DeleteToken, GetShares, AcceptCode, PostShare, PatchShare}
+use Rattle.hub_machine.specs.declared.call.Call.TheVariants.{DeleteShares, GetCodes, PostCode, DeleteCodes, GetGroups, GetGroup, PostGroup}
+use Rattle.hub_machine.specs.declared.call.Call.TheVariants.{DeleteGroup, JoinGroup, LeaveGroup, GetServices, GetService, PostService}
+use Rattle.hub_machine.specs.declared.call.Call.TheVariants.{DeleteService, GetRoles, GetRole, PutRole, DeleteRole, GetAuthorize, PostTrade}
+use Rattle.hub_machine.specs.declared.call.Call.TheVariants.{GetProxy, PostProxy}
 
 -- what is decided over all scopes and objects, and not by looking into the tables (see Judged)
 pub record Judgement : Type 0 where

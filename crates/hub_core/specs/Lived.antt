@@ -30,12 +30,13 @@ pub record TakenAt (start : Start) (before after : List Entry) (faults faults' :
   pub length : made.length ≡ length after
 
 -- the outcome is refused in that state, and all is as before
-pub record RefusedAt (start : Start) (before after : List Entry) (faults faults' : ℕ) (g : ℕ) (event : LifeEvent) (e : LifeRefusal) : Type 0 where
-  pub state : Hub
-  pub reached : Reached start before state
-  pub refused : step_at state.lives g event ≡ Err e
-  pub noted : after ≡ before
-  pub unasked : faults' ≡ faults
+pub record RefusedAt (start : Start) (before after : List Entry) (faults faults' : ℕ) (g : ℕ) (event : LifeEvent) (e : LifeRefusal) : Type 0
+  where
+    pub state : Hub
+    pub reached : Reached start before state
+    pub refused : step_at state.lives g event ≡ Err e
+    pub noted : after ≡ before
+    pub unasked : faults' ≡ faults
 
 abbrev pub LivedAt : Start → (before after : List Entry) (faults faults' : ℕ) → ℕ → LifeEvent → Result Step LifeRefusal → Type 0
 LivedAt start before after faults faults' g event (Ok made) = TakenAt start before after faults faults' g event made

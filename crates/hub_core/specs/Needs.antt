@@ -21,7 +21,13 @@ use Rattle.admin_rules.specs.Roles.{is_fixed_role}
 use Rattle.hub_core.specs.declared.need.Need.{Need}
 use Rattle.hub_core.specs.declared.need.Need.TheVariants.{GoodToken, Held, On}
 use Rattle.hub_machine.specs.declared.call.Call.{Call}
-use Rattle.hub_machine.specs.declared.call.Call.TheVariants.{GetVersion, GetInfo, GetIdentity, GetUsers, PostUsers, GetUser, PostUser, PatchUser, DeleteUser, PostActivity, PostServer, DeleteServer, GetTokens, PostToken, GetToken, DeleteToken, GetShares, AcceptCode, PostShare, PatchShare, DeleteShares, GetCodes, PostCode, DeleteCodes, GetGroups, GetGroup, PostGroup, DeleteGroup, JoinGroup, LeaveGroup, GetServices, GetService, PostService, DeleteService, GetRoles, GetRole, PutRole, DeleteRole, GetAuthorize, PostTrade, GetProxy, PostProxy}
+use Rattle.hub_machine.specs.declared.call.Call.TheVariants.{GetVersion, GetInfo, GetIdentity, GetUsers, PostUsers, GetUser, PostUser}
+use Rattle.hub_machine.specs.declared.call.Call.TheVariants.{PatchUser, DeleteUser, PostActivity, PostServer, DeleteServer, GetTokens}
+use Rattle.hub_machine.specs.declared.call.Call.TheVariants.{PostToken, GetToken, DeleteToken, GetShares, AcceptCode, PostShare, PatchShare}
+use Rattle.hub_machine.specs.declared.call.Call.TheVariants.{DeleteShares, GetCodes, PostCode, DeleteCodes, GetGroups, GetGroup, PostGroup}
+use Rattle.hub_machine.specs.declared.call.Call.TheVariants.{DeleteGroup, JoinGroup, LeaveGroup, GetServices, GetService, PostService}
+use Rattle.hub_machine.specs.declared.call.Call.TheVariants.{DeleteService, GetRoles, GetRole, PutRole, DeleteRole, GetAuthorize, PostTrade}
+use Rattle.hub_machine.specs.declared.call.Call.TheVariants.{GetProxy, PostProxy}
 
 -- shares that a user received, those that a user gave, and those of a server
 abbrev pub needs_shares : SharesOf → Need

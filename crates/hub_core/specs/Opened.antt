@@ -7,7 +7,8 @@ use Rattle.hub_opening.specs.declared.config.HubConfig.{HubConfig}
 use Rattle.hub_core.specs.Visits.{Standing}
 
 -- The book stands in the state that the configuration makes of the rows that the keeper had, with no entry, no fewer faults than were
--- handed in, no change of rights, and a cache in which nothing is kept. Where the keeper tells its rows now, it told them when it was handed in.
+-- handed in, no change of rights, and a cache in which nothing is kept. Where the keeper tells its rows now, it told them when it was
+-- handed in.
 pub record HasOpened (c : HubConfig) (now : ℕ) (Tells : Type 0) (has : Rows) (faults : ℕ) (b : Standing) : Type 0 where
   pub set_up : IsSetUp c now (IsTrue b.start.has_rows) has b.start.machine
   pub was_told : IsTrue b.start.has_rows → Tells

@@ -25,7 +25,8 @@ pub record View : Type 0 where
   pub faults : Faults
 
 -- what is known of a pass and a kit of devices, by what these tell
-abbrev pub view_of : {S P C R : Type 0} → (C → Option (ℕ → ℕ)) → (R → Option (List (List ℕ))) → (S → Option (List (Spawning × Told))) → (P → Option (List (Routing × Told)))
+abbrev pub view_of : {S P C R : Type 0} → (C → Option (ℕ → ℕ)) → (R → Option (List (List ℕ))) → (S → Option (List (Spawning × Told)))
+    → (P → Option (List (Routing × Told)))
     → (R → ℕ) → (S → ℕ) → (P → ℕ) → PassState Entry Start → HubKit S P C R → View
 view_of to_come left spawned linked draw_faults spawn_faults route_faults pass kit = record {
   pass = pass;

@@ -98,16 +98,18 @@ Visited b now draw asked (Err e) b' = IsAsBefore b b'
 -- ---- the same at a place of the history
 
 -- the outcome is that of the answer in the state that the entries before it left
-pub record AnsweredAt (start : Start) (before after : List Entry) (now : ℕ) (draw : Option (List ℕ)) (asked : Asked) (o : Outcome) : Type 0 where
-  pub state : Hub
-  pub reached : Reached start before state
-  pub answer : Answer
-  pub answers : Answers state now draw asked answer
-  pub noted : after ≡ with_entry (change_of answer) before
-  pub outcome : outcome_view o ≡ outcome_of (length after) answer
+pub record AnsweredAt (start : Start) (before after : List Entry) (now : ℕ) (draw : Option (List ℕ)) (asked : Asked) (o : Outcome) : Type 0
+  where
+    pub state : Hub
+    pub reached : Reached start before state
+    pub answer : Answer
+    pub answers : Answers state now draw asked answer
+    pub noted : after ≡ with_entry (change_of answer) before
+    pub outcome : outcome_view o ≡ outcome_of (length after) answer
 
 -- the keeper refused the rows of the answer in that state: there is no entry, and its count of faults rose
-pub record FaultedAt (start : Start) (before after : List Entry) (faults faults' : ℕ) (now : ℕ) (draw : Option (List ℕ)) (asked : Asked) (o : Outcome) : Type 0 where
+pub record FaultedAt (start : Start) (before after : List Entry) (faults faults' : ℕ) (now : ℕ) (draw : Option (List ℕ)) (asked : Asked)
+    (o : Outcome) : Type 0 where
   pub state : Hub
   pub reached : Reached start before state
   pub answer : Answer
@@ -120,6 +122,8 @@ pub record FaultedAt (start : Start) (before after : List Entry) (faults faults'
   pub rises : Rises faults faults'
 
 -- of a keeper whose count of faults was `faults`, and is `faults'`
-abbrev pub VisitedAt : {E : Type 0} → Start → (before after : List Entry) (faults faults' : ℕ) → ℕ → Option (List ℕ) → Asked → Result Outcome E → Type 0
-VisitedAt start before after faults faults' now draw asked (Ok o) = AnsweredAt start before after now draw asked o ⊎ FaultedAt start before after faults faults' now draw asked o
+abbrev pub VisitedAt : {E : Type 0} → Start → (before after : List Entry) (faults faults' : ℕ) → ℕ → Option (List ℕ) → Asked
+    → Result Outcome E → Type 0
+VisitedAt start before after faults faults' now draw asked (Ok o) = AnsweredAt start before after now draw asked o
+    ⊎ FaultedAt start before after faults faults' now draw asked o
 VisitedAt start before after faults faults' now draw asked (Err e) = after ≡ before

@@ -71,7 +71,8 @@ impl<K: Keeper, T: Trail<Entry = Change>> Job<Book<K, T>> for Ask {
 
     ghost acted = { λ j. j.acted };
 
-    ghost does = { λ j b r j' b'. VisitedAt b.start (entries_of b) (entries_of b') b.faults b'.faults j.now j.draw j.asked r × IfOk r IsSoundOutcome };
+    ghost does = { λ j b r j' b'. VisitedAt b.start (entries_of b) (entries_of b') b.faults b'.faults j.now j.draw j.asked r
+        × IfOk r IsSoundOutcome };
 
     fn act(&mut self, book: &mut Book<K, T>) -> Result<Outcome, AllocError> {
         self.acted = true;

@@ -88,9 +88,18 @@ impl<K: Keeper, T: Trail<Entry = Change>> Model for Book<K, T> {
 
     ghost coded = { Prim.hlevel (codes, code) };
 
-    ghost view = { λ b. record { start = record { machine = b.start.value; has_rows = K.is_told b.found.value }; hub = b.machine; told = T.told b.trail; faults = K.faults b.keeper; rights = b.rights; stamp = b.stamp } };
+    ghost view = { λ b. record {
+      start = record { machine = b.start.value; has_rows = K.is_told b.found.value };
+      hub = b.machine;
+      told = T.told b.trail;
+      faults = K.faults b.keeper;
+      rights = b.rights;
+      stamp = b.stamp;
+    } };
 
-    ghost invariant = { λ b. Reached (record { machine = b.start.value; has_rows = K.is_told b.found.value }) (T.told b.trail) b.machine × IsStamped b.rights b.machine.tables b.stamp b.machine.length × (owed b.machine.lives ≤ T.spare b.trail) × (K.Tells b.keeper → Keeps (K.rows b.keeper) b.machine.tables) × (K.Tells b.keeper → IsTrue (K.is_told b.found.value)) };
+    ghost invariant = { λ b. Reached (record { machine = b.start.value; has_rows = K.is_told b.found.value }) (T.told b.trail) b.machine
+        × IsStamped b.rights b.machine.tables b.stamp b.machine.length × (owed b.machine.lives ≤ T.spare b.trail)
+        × (K.Tells b.keeper → Keeps (K.rows b.keeper) b.machine.tables) × (K.Tells b.keeper → IsTrue (K.is_told b.found.value)) };
 }
 
 /// Carries an answer out: its change, if it has one, and what is said at the length that it leaves.
@@ -104,12 +113,16 @@ fn carry<K: Keeper, T: Trail<Entry = Change>>(
 ) -> Result<Outcome, AllocError>
     requires may { MayBeDone machine.old (change_of (answer_view answer)) }
     requires room { stamp.old ≤ machine.old.length }
-    ensures carried { Carried (change_of (answer_view answer)) (outcome_of (long_after (change_of (answer_view answer)) machine.old.length) (answer_view answer)) result (record { hub = machine.old; told = T.told trail.old; stamp = stamp.old; faults = K.faults keeper.old }) (record { hub = machine.new; told = T.told trail.new; stamp = stamp.new; faults = K.faults keeper.new }) }
+    ensures carried { Carried (change_of (answer_view answer))
+        (outcome_of (long_after (change_of (answer_view answer)) machine.old.length) (answer_view answer)) result
+        (record { hub = machine.old; told = T.told trail.old; stamp = stamp.old; faults = K.faults keeper.old })
+        (record { hub = machine.new; told = T.told trail.new; stamp = stamp.new; faults = K.faults keeper.new }) }
     ensures counted { K.faults keeper.old ≤ K.faults keeper.new }
     ensures spare { owed machine.old.lives ≤ T.spare trail.old → owed machine.new.lives ≤ T.spare trail.new }
     ensures told { K.Tells keeper.new → K.Tells keeper.old }
     // the keeper goes on having the rows of the state
-    ensures keeps { (K.Tells keeper.old → Keeps (K.rows keeper.old) machine.old.tables) → K.Tells keeper.new → Keeps (K.rows keeper.new) machine.new.tables }
+    ensures keeps { (K.Tells keeper.old → Keeps (K.rows keeper.old) machine.old.tables) → K.Tells keeper.new
+        → Keeps (K.rows keeper.new) machine.new.tables }
 {
     let length = machine.length();
     let (change, says) = match answer {
@@ -144,11 +157,14 @@ fn carry_change<K: Keeper, T: Trail<Entry = Change>>(
 ) -> Result<Outcome, AllocError>
     requires may { MayBeDone machine.old (Some change) }
     requires room { stamp.old ≤ machine.old.length }
-    ensures carried { Carried (Some change) (outcome_view says) result (record { hub = machine.old; told = T.told trail.old; stamp = stamp.old; faults = K.faults keeper.old }) (record { hub = machine.new; told = T.told trail.new; stamp = stamp.new; faults = K.faults keeper.new }) }
+    ensures carried { Carried (Some change) (outcome_view says) result
+        (record { hub = machine.old; told = T.told trail.old; stamp = stamp.old; faults = K.faults keeper.old })
+        (record { hub = machine.new; told = T.told trail.new; stamp = stamp.new; faults = K.faults keeper.new }) }
     ensures counted { K.faults keeper.old ≤ K.faults keeper.new }
     ensures spare { owed machine.old.lives ≤ T.spare trail.old → owed machine.new.lives ≤ T.spare trail.new }
     ensures told { K.Tells keeper.new → K.Tells keeper.old }
-    ensures keeps { (K.Tells keeper.old → Keeps (K.rows keeper.old) machine.old.tables) → K.Tells keeper.new → Keeps (K.rows keeper.new) machine.new.tables }
+    ensures keeps { (K.Tells keeper.old → Keeps (K.rows keeper.old) machine.old.tables) → K.Tells keeper.new
+        → Keeps (K.rows keeper.new) machine.new.tables }
 {
     let of_rights = is_of_rights(machine.tables(), change.change());
     // The reply to a refusal of the keeper is made before the change is tried, so that no memory can be wanting between them.
@@ -239,7 +255,8 @@ impl<K: Keeper, T: Trail<Entry = Change>> Book<K, T> {
         // work that is given can be done
         ensures sound { IfOk result IsSoundOutcome }
         // the same in words of places: the answer is that of the state that the entries before it left
-        ensures placed { VisitedAt self.old.start (entries_of self.old) (entries_of self.new) self.old.faults self.new.faults now draw asked.now result }
+        ensures placed { VisitedAt self.old.start (entries_of self.old) (entries_of self.new) self.old.faults self.new.faults now draw
+            asked.now result }
     {
         let answer = decide(
             alloc,

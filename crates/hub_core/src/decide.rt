@@ -63,7 +63,8 @@ fn by_token(
     inside: Inside,
     call: &Call,
 ) -> Result<Answer, AllocError>
-    ensures { IfOk result (λ answer. answer_view answer ≡ spec.by_token hub.now (record { may = may_of hub.now rights.now; is_held = is_held; inside = inside }) now draw call.now (Some token.now)) }
+    ensures { IfOk result (λ answer. answer_view answer ≡ spec.by_token hub.now
+        (record { may = may_of hub.now rights.now; is_held = is_held; inside = inside }) now draw call.now (Some token.now)) }
 {
     match first_refusal(alloc, hub, rights, is_held, call)? {
         Some(refusal) => Ok(Answer::Refuses(refusal)),
@@ -81,7 +82,8 @@ fn if_there(
     inside: Inside,
     call: &Call,
 ) -> Result<Answer, AllocError>
-    ensures { IfOk result (λ answer. answer_view answer ≡ spec.if_there hub.now (may_of hub.now rights.now) inside now draw token.now call.now) }
+    ensures { IfOk result (λ answer. answer_view answer ≡ spec.if_there hub.now (may_of hub.now rights.now) inside now draw token.now
+        call.now) }
 {
     if is_there(hub, call) {
         row(alloc, hub, now, draw, token, rights, inside, call)
@@ -237,7 +239,9 @@ fn with_room(
     inside: Inside,
     call: &Call,
 ) -> Result<Answer, AllocError>
-    ensures { IfOk result (λ a. answer_view a ≡ in_trail hub.now (spec.by_token hub.now (record { may = may_of hub.now rights.now; is_held = is_held; inside = inside }) now draw call.now (Some token.now))) }
+    ensures { IfOk result (λ a. answer_view a ≡ in_trail hub.now
+        (spec.by_token hub.now (record { may = may_of hub.now rights.now; is_held = is_held; inside = inside }) now draw call.now
+        (Some token.now))) }
 {
     let answer = by_token(alloc, hub, now, draw, token, rights, is_held, inside, call)?;
     hub.in_trail(alloc, answer)

@@ -44,7 +44,8 @@ fn put_role_with(
     groups: &List<GroupName>,
     services: &List<ServiceName>,
 ) -> Result<Answer, AllocError>
-    ensures { IfOk result (λ answer. answer_view answer ≡ calls.put_role hub.now (calls.role_of name.now scopes.now users.now groups.now services.now)) }
+    ensures { IfOk result (λ answer. answer_view answer ≡ calls.put_role hub.now
+        (calls.role_of name.now scopes.now users.now groups.now services.now)) }
 {
     let role = role_of(
         alloc,

@@ -22,13 +22,15 @@ pub fn no_entries_lead_to_the_opening()
 
 /// An asked call has one answer in a state, at a moment and with what was drawn. It does nothing: its contract is the law.
 pub fn a_call_has_one_answer()
-    ensures { (s : Hub) (now : ℕ) (draw : Option (List ℕ)) (asked : Asked) (r r' : Answer) → Answers s now draw asked r → Answers s now draw asked r' → r ≡ r' }
+    ensures { (s : Hub) (now : ℕ) (draw : Option (List ℕ)) (asked : Asked) (r r' : Answer) → Answers s now draw asked r
+        → Answers s now draw asked r' → r ≡ r' }
 {}
 
 /// Once a token was removed, and while no entry puts its hash again, a call that needs a token and brings its text is refused: 403
 /// `no valid token`, or 412 before it. It does nothing: its contract is the law.
 pub fn a_removed_token_stays_refused()
-    ensures { (start : Hub) (text : List ℕ) (gone later : List Change) (now : ℕ) (draw : Option (List ℕ)) (asked : Asked) (a : Answer) → IsRemoved start text gone later
+    ensures { (start : Hub) (text : List ℕ) (gone later : List Change) (now : ℕ) (draw : Option (List ℕ)) (asked : Asked) (a : Answer)
+        → IsRemoved start text gone later
         → asked.token ≡ Some text → needs_token asked.call ≡ true → Answers (state_after start (gone ++ later)) now draw asked a
         → IsTokenRefused (state_after start (gone ++ later)) asked a }
 {}

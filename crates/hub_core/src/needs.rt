@@ -295,7 +295,9 @@ pub(crate) fn first_refusal(
     is_held: bool,
     call: &Call,
 ) -> Result<Option<Refusal>, AllocError>
-    ensures { IfOk result (λ r. r ≡ first_refusal (spec.if_no_client hub.now.tables call.now ∷ spec.action_rules (record { may = may_of hub.now rights.now; is_held = is_held; inside = Yes }) (need.needs call.now))) }
+    ensures { IfOk result (λ r. r ≡ first_refusal
+        (spec.if_no_client hub.now.tables call.now ∷ spec.action_rules
+        (record { may = may_of hub.now rights.now; is_held = is_held; inside = Yes }) (need.needs call.now))) }
 {
     match no_client(alloc, hub, call)? {
         Some(refusal) => Ok(Some(refusal)),
@@ -305,7 +307,8 @@ pub(crate) fn first_refusal(
 
 /// The first refusal of the rights, if one comes.
 fn action_refusal(hub: &Machine, rights: &Grant, is_held: bool, need: Need) -> Option<Refusal>
-    ensures { result ≡ first_refusal (spec.action_rules (record { may = may_of hub.now rights.now; is_held = is_held; inside = Yes }) need) }
+    ensures { result ≡ first_refusal (spec.action_rules (record { may = may_of hub.now rights.now; is_held = is_held; inside = Yes })
+        need) }
 {
     match need {
         Need::GoodToken => None,

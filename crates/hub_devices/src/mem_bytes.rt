@@ -54,7 +54,8 @@ impl Source for MemSource {
 
     fn read(&mut self, into: &mut [u8]) -> Result<usize, Failed>
         ensures fits { IfOk result (λ n. n ≤ length into.new) }
-        ensures takes { IfOk result (λ n. Takes (left_from self.old.at self.old.bytes) (take n into.new) (left_from self.new.at self.new.bytes)) }
+        ensures takes { IfOk result (λ n. Takes (left_from self.old.at self.old.bytes) (take n into.new)
+            (left_from self.new.at self.new.bytes)) }
         ensures end { IfOk result (λ n. n ≡ 0 → 0 < length into.new → IsEnd (left_from self.new.at self.new.bytes)) }
         ensures kept { OnErr result (left_from self.new.at self.new.bytes ≡ left_from self.old.at self.old.bytes) }
         ensures counted { self.old.script.faults ≤ self.new.script.faults }

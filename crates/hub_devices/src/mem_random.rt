@@ -46,7 +46,8 @@ impl Random for ListRandom {
     ghost faults = { λ r. r.script.faults };
 
     fn draw(&mut self) -> Result<[u8; 16], Failed>
-        ensures takes { IfOk result (λ bytes. Takes (left_from self.old.at self.old.draws.items) (bytes ∷ []) (left_from self.new.at self.new.draws.items)) }
+        ensures takes { IfOk result (λ bytes. Takes (left_from self.old.at self.old.draws.items) (bytes ∷ [])
+            (left_from self.new.at self.new.draws.items)) }
         ensures kept { OnErr result (left_from self.new.at self.new.draws.items ≡ left_from self.old.at self.old.draws.items) }
         ensures counted { self.old.script.faults ≤ self.new.script.faults }
         ensures cause { OnErr result (Rises self.old.script.faults self.new.script.faults) }

@@ -1,5 +1,6 @@
 //! A route link in memory.
-ghost use Rattle.std.specs.Prelude.{◌≡◌, ◌≤◌, List, [], ◌∷◌, not, filter, Option, Some, None, true, false, is_err, IsErr, IsSome, IfOk, IfErr, OnOk, OnErr};
+ghost use Rattle.std.specs.Prelude.{◌≡◌, ◌≤◌, List, [], ◌∷◌, not, filter, Option, Some, None, true, false, is_err, IsErr, IsSome, IfOk};
+ghost use Rattle.std.specs.Prelude.{IfErr, OnOk, OnErr};
 ghost use Rattle.std.specs.Option.{option_map};
 ghost use Rattle.hub_devices.specs.Calls.{Grows, told_unit, told_error, is_fault};
 ghost use Rattle.hub_devices.specs.FailingCalls.{is_failing, after_call, new_script};

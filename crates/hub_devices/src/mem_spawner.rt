@@ -1,5 +1,6 @@
 //! A spawner in memory.
-ghost use Rattle.std.specs.Prelude.{◌≡◌, ℕ, ◌≤◌, ◌==◌, List, [], ◌∷◌, ◌++◌, not, filter, Some, true, false, is_err, IsErr, IsSome, IfOk, OnOk, OnErr};
+ghost use Rattle.std.specs.Prelude.{◌≡◌, ℕ, ◌≤◌, ◌==◌, List, [], ◌∷◌, ◌++◌, not, filter, Some, true, false, is_err, IsErr, IsSome, IfOk};
+ghost use Rattle.std.specs.Prelude.{OnOk, OnErr};
 ghost use Rattle.std.specs.Option.{option_map};
 ghost use Rattle.hub_devices.specs.Calls.{Grows, told_unit, told_bool};
 ghost use Rattle.hub_devices.specs.FailingCalls.{is_failing, after_call, new_script};

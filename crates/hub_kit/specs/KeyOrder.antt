@@ -17,4 +17,5 @@ abbrev pub key_cmp : ServerKey → ServerKey → Ordering
 key_cmp a b = ordering_then (name_cmp a.user b.user) (name_cmp a.server b.server)
 
 pub key_exact : IsAntisymmetric key_cmp
-key_exact a b h = ap (λ (p : List ℕ × List ℕ). record { user = p.0; server = p.1 }) (exact_pairs name_cmp name_cmp exact_bytes exact_bytes (a.user, a.server) (b.user, b.server) h)
+key_exact a b h = ap (λ (p : List ℕ × List ℕ). record { user = p.0; server = p.1 })
+    (exact_pairs name_cmp name_cmp exact_bytes exact_bytes (a.user, a.server) (b.user, b.server) h)

@@ -1,5 +1,6 @@
 -- What a name is: 1 to 64 bytes of a-z, 0-9, '.', '_', '-', '@', of which the first is a letter or a digit.
-use Rattle.std.specs.Prelude.{◌≡◌, ℕ, ◌+◌, Bool, ◌||◌, ◌&&◌, ◌==◌, nat_le, nat_lt, List, [], ◌∷◌, length, Option, Some, None, Result, Ok, Err, if◌then◌else◌}
+use Rattle.std.specs.Prelude.{◌≡◌, ℕ, ◌+◌, Bool, ◌||◌, ◌&&◌, ◌==◌, nat_le, nat_lt, List, [], ◌∷◌, length, Option, Some, None, Result, Ok}
+use Rattle.std.specs.Prelude.{Err, if◌then◌else◌}
 use Rattle.hub_kit.specs.declared.names.NameError.{NameError}
 use Rattle.hub_kit.specs.declared.names.NameError.TheVariants.{Empty, TooLong, BadByte}
 

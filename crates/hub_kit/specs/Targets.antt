@@ -1,5 +1,6 @@
 -- Targets: the URLs of scheme http with a host, a port of 1 to 65535, and nothing else but a path that is empty or `/`.
-use Rattle.std.specs.Prelude.{◌≡◌, ℕ, Bool, ◌&&◌, ◌==◌, not, List, [], ◌++◌, codes, bytes_eq, decimal, Option, Some, None, is_some, unwrap_or, option_map, Ok, Err, if◌then◌else◌}
+use Rattle.std.specs.Prelude.{◌≡◌, ℕ, Bool, ◌&&◌, ◌==◌, not, List, [], ◌++◌, codes, bytes_eq, decimal, Option, Some, None, is_some}
+use Rattle.std.specs.Prelude.{unwrap_or, option_map, Ok, Err, if◌then◌else◌}
 use Rattle.std.specs.Str.{is_utf8}
 use Rattle.url.specs.Parser.{Parsed, parse_url}
 use Rattle.url.specs.Input.{is_empty}

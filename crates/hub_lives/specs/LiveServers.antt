@@ -17,7 +17,11 @@ pub record LiveServers : Type 0 where
 
 -- the next generation is leased to the server, and is being started
 abbrev pub begins : ServerKey → LiveServers → LiveServers
-begins server live = record { pool = live.pool; lives = insert live.lives live.next (leased_to live.pool live.lives live.next server); next = live.next + 1 }
+begins server live = record {
+  pool = live.pool;
+  lives = insert live.lives live.next (leased_to live.pool live.lives live.next server);
+  next = live.next + 1;
+}
 
 -- this server is live with this generation, and its target stands at this place of the pool
 abbrev pub IsAt : LeaseTable → ℕ → ℕ → Leased → Type 0

@@ -1,5 +1,6 @@
 //! The servers that are live.
-ghost use Rattle.std.specs.Prelude.{◌≡◌, ◌≢◌, ◌+◌, ◌-◌, ◌<◌, ◌≤◌, ◌^◌, true, false, Contains, slice_get, Some, None, IfOk, OnOk, OnErr, MatchOption};
+ghost use Rattle.std.specs.Prelude.{◌≡◌, ◌≢◌, ◌+◌, ◌-◌, ◌<◌, ◌≤◌, ◌^◌, true, false, Contains, slice_get, Some, None, IfOk, OnOk, OnErr};
+ghost use Rattle.std.specs.Prelude.{MatchOption};
 ghost use Rattle.server_life.specs.declared.life.Phase.TheVariants.{Stopped};
 ghost use Rattle.std.specs.Option.{option_copied};
 ghost use Rattle.std.specs.FinMap as map;
@@ -135,7 +136,8 @@ impl Lives {
 
     /// The generation and the lease of a server.
     pub fn lease_of(&self, key: &ServerKey) -> Option<(u64, &Leased)>
-        ensures { MatchOption result (spec.lease_of self.now.lives key.now ≡ None) (λ r. spec.lease_of self.now.lives key.now ≡ Some (r.0, r.1.now)) }
+        ensures { MatchOption result (spec.lease_of self.now.lives key.now ≡ None)
+            (λ r. spec.lease_of self.now.lives key.now ≡ Some (r.0, r.1.now)) }
     {
         // it tells that a server has one lease
         let _read = self.leases.next_free();
@@ -260,7 +262,8 @@ impl Lives {
         requires fresh { map.get self.old.lives generation ≡ None }
         requires below { generation < self.old.next }
         requires room { spec.owed self.old.lives < 2 ^ 63 }
-        ensures ok { OnOk result (self.new ≡ record self.old { lives = map.insert self.old.lives generation (spec.adopted_by server.now target.now generation) }) }
+        ensures ok { OnOk result (self.new ≡ record self.old
+            { lives = map.insert self.old.lives generation (spec.adopted_by server.now target.now generation) }) }
         ensures err { OnErr result (self.new ≡ self.old) }
     {
         // it tells that a server has one lease
@@ -286,7 +289,12 @@ impl Lives {
     pub fn take_back(&mut self)
         requires last { map.contains_key self.old.lives (self.old.next - 1) ≡ true }
         requires above { 2 ≤ self.old.next }
-        ensures { self.new ≡ record { pool = self.old.pool; lives = map.remove self.old.lives (self.old.next - 1); next = self.old.next - 1 } }
+        ensures { self.new ≡ record {
+          pool = self.old.pool;
+          lives = map.remove self.old.lives (self.old.next - 1);
+          next = self.old.next -
+              1;
+        } }
     {
         // it tells that a generation has one lease
         let _read = self.leases.next_free();
@@ -305,7 +313,8 @@ impl Lives {
         requires live { map.contains_key self.old.lives generation ≡ true }
         requires same { generation_of life.phase ≡ Some generation }
         requires room { spec.owed self.old.lives < 2 ^ 63 }
-        ensures { (l : Leased) → map.get self.old.lives generation ≡ Some l → self.new ≡ record self.old { lives = map.insert self.old.lives generation (record l { life = life }) } }
+        ensures { (l : Leased) → map.get self.old.lives generation ≡ Some l
+            → self.new ≡ record self.old { lives = map.insert self.old.lives generation (record l { life = life }) } }
     {
         let owed = self.owed_by(generation);
         write_life(&mut self.rows, generation, life);
@@ -327,7 +336,8 @@ impl Lives {
 
 /// Writes the life of a row, if it is kept. Takes no memory.
 fn write_life(rows: &mut BTreeMap<u64, Leased>, generation: u64, life: Life)
-    ensures { (l : Leased) → map.get (map_of nat_cmp rows.old) generation ≡ Some l → map_of nat_cmp rows.new ≡ map.insert (map_of nat_cmp rows.old) generation (record l { life = life }) }
+    ensures { (l : Leased) → map.get (map_of nat_cmp rows.old) generation ≡ Some l
+        → map_of nat_cmp rows.new ≡ map.insert (map_of nat_cmp rows.old) generation (record l { life = life }) }
 {
     match rows.get_mut(&generation) {
         Some(lease) => lease.life = life,

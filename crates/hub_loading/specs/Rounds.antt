@@ -25,11 +25,12 @@ found_status false = 404
 
 -- the link was asked for the user once, and its reply has this status
 pub record Finds {L : Type 0} (asked : L → Option (List (List ℕ × Option (List ℕ))))
-    (does : L → List ℕ → Result (List ℕ) LinkError → L → Type 0) (old : L) (token : List ℕ) (user : ℕ) (found : Bool) (new : L) : Type 0 where
-  pub bytes : List ℕ
-  pub body : List ℕ
-  pub chain : Asks asked does old ((get_request token user, Ok bytes) ∷ []) new
-  pub reply : IsReply bytes (found_status found) body
+    (does : L → List ℕ → Result (List ℕ) LinkError → L → Type 0) (old : L) (token : List ℕ) (user : ℕ) (found : Bool) (new : L) : Type 0
+  where
+    pub bytes : List ℕ
+    pub body : List ℕ
+    pub chain : Asks asked does old ((get_request token user, Ok bytes) ∷ []) new
+    pub reply : IsReply bytes (found_status found) body
 
 -- the hub was asked so, by what is seen of it, and the user was found exactly where the token sees it at a place of the history and at the
 -- moment of the clock; and nothing was noted of it

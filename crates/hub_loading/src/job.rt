@@ -146,7 +146,8 @@ fn post_users<'a, W: Wait>(
 ) -> Result<(), JobFailed>
     ensures same_pass { link.new.pass.ghost_name ≡ link.old.pass.ghost_name }
     ensures same_kit { link.new.kit.ghost_name ≡ link.old.kit.ghost_name }
-    ensures posted { OnOk result (spec.PostsAll users (job_view link.old.pass.now link.old.kit.now) (job_view link.new.pass.now link.new.kit.now)) }
+    ensures posted { OnOk result (spec.PostsAll users (job_view link.old.pass.now link.old.kit.now)
+        (job_view link.new.pass.now link.new.kit.now)) }
 {
     match post_all(alloc, link, users) {
         Ok(()) => Ok(()),

@@ -138,7 +138,8 @@ fn ask_guard<'a, W: Wait>(
     requires short { length token.now ≤ 1000 }
     ensures same_pass { link.new.pass.ghost_name ≡ link.old.pass.ghost_name }
     ensures same_kit { link.new.kit.ghost_name ≡ link.old.kit.ghost_name }
-    ensures guarded { IfOk result (λ admitted. spec.Guarded (job_view link.old.pass.now link.old.kit.now) token.now key.now target.now admitted
+    ensures guarded { IfOk result (λ admitted. spec.Guarded (job_view link.old.pass.now link.old.kit.now) token.now key.now target.now
+        admitted
         (job_view link.new.pass.now link.new.kit.now)) }
 {
     let Ok(request) = guarded_request(alloc, token) else {
@@ -231,7 +232,8 @@ pub(crate) fn ask_all<'a, W: Wait>(
     ensures same_pass { link.new.pass.ghost_name ≡ link.old.pass.ghost_name }
     ensures same_kit { link.new.kit.ghost_name ≡ link.old.kit.ghost_name }
     ensures asked { IfOk result (λ counts. (rounds : List Round)
-        × spec.Rounds seed users users target.now (job_view link.old.pass.now link.old.kit.now) rounds (job_view link.new.pass.now link.new.kit.now)
+        × spec.Rounds seed users users target.now (job_view link.old.pass.now link.old.kit.now) rounds
+        (job_view link.new.pass.now link.new.kit.now)
         × (counts ≡ spec.counts_of rounds)) }
 {
     let mut counts = Counts::none();

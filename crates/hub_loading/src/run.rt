@@ -42,7 +42,8 @@ pub fn status_of(end: End) -> u8
 
 /// Runs the job of these words, and writes its lines.
 pub fn run<W: Wait, O: Sink>(rt: &W, alloc: Global, words: &[Text], output: &mut O) -> End
-    ensures ends { spec.Ends (load_read words.now) (O.held output.old) (O.held output.new) (O.faults output.old) (O.faults output.new) result }
+    ensures ends { spec.Ends (load_read words.now) (O.held output.old) (O.held output.new) (O.faults output.old) (O.faults output.new)
+        result }
     ensures counted { O.faults output.old ≤ O.faults output.new }
 {
     let LoadWords { seed, users } = match read_load(alloc, words) {
@@ -74,7 +75,8 @@ fn end_of(fault: LoadFault) -> End
 
 /// Writes the lines of a job.
 fn write_lines<O: Sink>(alloc: Global, output: &mut O, users: u32, loaded: &Loaded) -> End
-    ensures ends { spec.Writes (lines users loaded.now) (O.held output.old) (O.held output.new) (O.faults output.old) (O.faults output.new) result }
+    ensures ends { spec.Writes (lines users loaded.now) (O.held output.old) (O.held output.new) (O.faults output.old) (O.faults output.new)
+        result }
     ensures counted { O.faults output.old ≤ O.faults output.new }
 {
     let Ok(text) = lines_of(alloc, users, loaded) else {

@@ -44,7 +44,8 @@ pub record FitsBegin (s : Hub) (g : ℕ) (server : ServerKey) (rows : List RowCh
   pub generation : g ≡ next_generation s.tables
   pub rests : lease_of s.lives server ≡ None
   pub free : free_target s.pool s.lives ≡ Some target
-  pub leased : (change_done rows s.tables).leases ≡ insert s.tables.leases target (record { target = target; server = server; generation = Some g })
+  pub leased : (change_done rows s.tables).leases ≡ insert s.tables.leases target
+      (record { target = target; server = server; generation = Some g })
   pub raised : next_generation (change_done rows s.tables) ≡ g + 1
 
 -- a stop is asked of a live generation that may be asked

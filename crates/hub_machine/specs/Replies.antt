@@ -7,7 +7,9 @@ use Rattle.hub_machine.specs.declared.change.Change.{Change}
 use Rattle.hub_machine.specs.declared.change.Change.TheVariants.{Rows}
 use Rattle.hub_machine.specs.declared.work.Work.{Work}
 use Rattle.hub_machine.specs.declared.refusal.Refusal.{Refusal}
-use Rattle.hub_machine.specs.declared.refusal.Refusal.TheVariants.{SeenPast, NoValidToken, Needs, NotFound, NotHeld, NeedsUser, Rule, Grant, Exists, AllLeased, Full, TrailFull, NoDraw, KeeperFault, SpawnerFault, ProxyFault, StoppedWhileStarting}
+use Rattle.hub_machine.specs.declared.refusal.Refusal.TheVariants.{SeenPast, NoValidToken, Needs, NotFound, NotHeld, NeedsUser, Rule, Grant}
+use Rattle.hub_machine.specs.declared.refusal.Refusal.TheVariants.{Exists, AllLeased, Full, TrailFull, NoDraw, KeeperFault, SpawnerFault}
+use Rattle.hub_machine.specs.declared.refusal.Refusal.TheVariants.{ProxyFault, StoppedWhileStarting}
 
 abbrev pub status_of : Refusal → ℕ
 status_of (SeenPast seen length) = 412

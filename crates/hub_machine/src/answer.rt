@@ -63,7 +63,8 @@ pub fn listed(
     part: Vec<Body>,
     path: &str,
 ) -> Result<Answer, AllocError>
-    ensures { IfOk result (λ answer. (shown : List Json) → bodies part.items ≡ in_page page shown → total ≡ length shown → answer_view answer ≡ spec.gives (spec.good 200 (paged_list path.now page shown))) }
+    ensures { IfOk result (λ answer. (shown : List Json) → bodies part.items ≡ in_page page shown → total ≡ length shown
+        → answer_view answer ≡ spec.gives (spec.good 200 (paged_list path.now page shown))) }
 {
     Ok(gives(200, page_body(alloc, path, page, total as u64, part)?))
 }

@@ -43,7 +43,8 @@ fn push_tokens(
     tables: &Tables,
     key: &ServerKey,
 ) -> Result<(), AllocError>
-    ensures { OnOk result (rows.new.items ≡ rows.old.items ++ map (λ id. Remove (RowKeys.Token id)) (spec.start_tokens tables.now key.now)) }
+    ensures { OnOk result (rows.new.items ≡ rows.old.items ++ map (λ id. Remove (RowKeys.Token id))
+        (spec.start_tokens tables.now key.now)) }
 {
     let ids = tables.tokens_of(alloc, &Owner::User(key.user))?;
     for id in &ids {

@@ -47,10 +47,28 @@ impl Model for Machine {
 
     ghost coded = { Prim.hlevel (codes, code) };
 
-    ghost view = { λ m. record { tables = m.tables; lives = m.lives.lives; length = m.length; cost = m.cost; pool = m.lives.pool; hub_url = m.hub_url; no_trail = m.no_trail } };
+    ghost view = { λ m. record {
+      tables = m.tables;
+      lives = m.lives.lives;
+      length = m.length;
+      cost = m.cost;
+      pool = m.lives.pool;
+      hub_url = m.hub_url;
+      no_trail = m.no_trail;
+    } };
 
-    ghost invariant = { λ m. IsBounded (record { tables = m.tables; lives = m.lives.lives; length = m.length; cost = m.cost; pool = m.lives.pool; hub_url = m.hub_url; no_trail = m.no_trail })
-        × (m.lives.next ≡ next_generation m.tables) × KeepsLeases m.tables m.lives.lives × (m.lives.next ≤ opening_next m.lives.pool + m.length) };
+    ghost invariant = { λ m. IsBounded
+        (record {
+          tables = m.tables;
+          lives = m.lives.lives;
+          length = m.length;
+          cost = m.cost;
+          pool = m.lives.pool;
+          hub_url = m.hub_url;
+          no_trail = m.no_trail;
+        })
+        × (m.lives.next ≡ next_generation m.tables) × KeepsLeases m.tables m.lives.lives
+        × (m.lives.next ≤ opening_next m.lives.pool + m.length) };
 }
 
 impl Machine {

@@ -29,7 +29,8 @@ module _ {K : Type 0} (rows : K → Rows) (Chooses : K → Option (List ℕ) →
   -- what its file says is a configuration, and fits the rows of the chosen store
   pub record IsGood (words : SessionWords) (files : FilesTold) (k : K) : Type 0 where
     pub file : (bytes : List ℕ) → ¬ (IsNoConfig files words.config bytes)
-    pub fits : (config : HubConfig) (chosen : K) → IsConfig files words config → Chooses k words.db chosen → Fits config words.now (rows chosen)
+    pub fits : (config : HubConfig) (chosen : K) → IsConfig files words config → Chooses k words.db chosen
+        → Fits config words.now (rows chosen)
 
 -- no count of the files, the input, the output and the store rose
 pub record NoneRose {K : Type 0} (faults : K → ℕ) (files files' : FilesTold) (s s' : Sides) (k k' : K) : Type 0 where

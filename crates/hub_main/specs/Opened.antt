@@ -37,7 +37,8 @@ IsUnchosen before after (NoConfig bytes) = ⊥
 IsUnchosen before after (UnknownName name) = ⊥
 IsUnchosen before after (NotOpened e) = ⊥
 
--- ---- stores of a kind that tells of each whether its rows are told, its rows, its count of faults, and what the choice of a place may leave
+-- ---- stores of a kind that tells of each whether its rows are told, its rows, its count of faults, and what the choice of a place may
+-- leave
 
 module _ {K : Type 0} (Tells : K → Type 0) (rows : K → Rows) where
   -- where the rows are told, they were told before, and are the same
@@ -62,7 +63,8 @@ module _ {K : Type 0} (Tells : K → Type 0) (rows : K → Rows) (faults : K →
   IsNotOpened config now k k' (opening.BadRow kind key) =
       IsRefusedRow config.limits config.custom_scopes (Tells k') (rows k) kind key × AreNames config (Tells k') (rows k)
   IsNotOpened config now k k' (opening.LostTarget target) = IsLost config (Tells k') (rows k) target × AreNames config (Tells k') (rows k)
-  IsNotOpened config now k k' (opening.Full kind limit) = IsFull config now (Tells k') (rows k) kind limit × AreNames config (Tells k') (rows k)
+  IsNotOpened config now k k' (opening.Full kind limit) = IsFull config now (Tells k') (rows k) kind limit
+      × AreNames config (Tells k') (rows k)
   IsNotOpened config now k k' opening.Memory = ⊤
 
   -- a name in the configuration's lists isn't known, or the book isn't opened, or memory is wanting

@@ -28,7 +28,8 @@ pub record KitTold : Type 0 where
   pub faults : Faults
 
 -- what the devices of such a kit tell
-abbrev pub kit_told : {S P C R : Type 0} → (R → Option (List (List ℕ))) → (S → Option (List (Spawning × Told))) → (P → Option (List (Routing × Told)))
+abbrev pub kit_told : {S P C R : Type 0} → (R → Option (List (List ℕ))) → (S → Option (List (Spawning × Told)))
+    → (P → Option (List (Routing × Told)))
     → (R → ℕ) → (S → ℕ) → (P → ℕ) → HubKit S P C R → KitTold
 kit_told left spawned routed draw_faults spawn_faults route_faults kit = record {
   draws = left kit.random;

@@ -63,7 +63,8 @@ fn file_in(alloc: Global, bytes: Bytes) -> Result<FileConfig, Cause>
 /// The configuration in the file of this name.
 pub fn found_file<F: Files>(alloc: Global, files: &mut F, name: &Text) -> Result<FileConfig, Cause>
     ensures ok { IfOk result (spec.IsFile (files_told F.files F.faults files.old) name.now) }
-    ensures err { IfErr result (spec.IsUnfound (files_told F.files F.faults files.old) (files_told F.files F.faults files.new) (Some name.now)) }
+    ensures err { IfErr result (spec.IsUnfound (files_told F.files F.faults files.old) (files_told F.files F.faults files.new)
+        (Some name.now)) }
     ensures kept { F.files files.new ≡ F.files files.old }
     ensures counted { F.faults files.old ≤ F.faults files.new }
 {
@@ -149,7 +150,8 @@ pub(crate) fn config_of<F: Files>(
     words: &SessionWords,
 ) -> Result<HubConfig, Cause>
     ensures ok { IfOk result (spec.IsConfig (files_told F.files F.faults files.old) words.entry.now) }
-    ensures err { IfErr result (spec.IsUnfound (files_told F.files F.faults files.old) (files_told F.files F.faults files.new) words.entry.now.config) }
+    ensures err { IfErr result (spec.IsUnfound (files_told F.files F.faults files.old) (files_told F.files F.faults files.new)
+        words.entry.now.config) }
     ensures kept { F.files files.new ≡ F.files files.old }
     ensures counted { F.faults files.old ≤ F.faults files.new }
 {

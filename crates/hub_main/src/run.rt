@@ -35,8 +35,11 @@ fn run_over<W: World, T: Trail<Entry = Change>, R: Wait>(
     requires limits { config.now.limits.trail_bytes ≤ 2 ^ 62 }
     requires scopes { MakeTable config.now.custom_scopes }
     ensures ends { spec.EndsChosen W.Store.Tells W.Store.rows W.Store.faults config.now now
-        (sides W.In.left W.In.faults W.Out.held W.Out.faults outside.old.input outside.old.output (kit_told W.Draws.left W.Starts.calls W.Paths.calls W.Draws.faults W.Starts.faults W.Paths.faults outside.old.kit))
-        (sides W.In.left W.In.faults W.Out.held W.Out.faults outside.new.input outside.new.output (kit_told W.Draws.left W.Starts.calls W.Paths.calls W.Draws.faults W.Starts.faults W.Paths.faults outside.new.kit)) store result.1 result.0 }
+        (sides W.In.left W.In.faults W.Out.held W.Out.faults outside.old.input outside.old.output
+        (kit_told W.Draws.left W.Starts.calls W.Paths.calls W.Draws.faults W.Starts.faults W.Paths.faults outside.old.kit))
+        (sides W.In.left W.In.faults W.Out.held W.Out.faults outside.new.input outside.new.output
+        (kit_told W.Draws.left W.Starts.calls W.Paths.calls W.Draws.faults W.Starts.faults W.Paths.faults outside.new.kit)) store
+        result.1 result.0 }
     ensures files { outside.new.files ≡ outside.old.files }
     ensures reads { W.In.faults outside.old.input ≤ W.In.faults outside.new.input }
     ensures writes { W.Out.faults outside.old.output ≤ W.Out.faults outside.new.output }
@@ -59,9 +62,13 @@ fn run_configured<W: World, R: Wait>(
 ) -> (End, W::Store)
     requires limits { config.now.limits.trail_bytes ≤ 2 ^ 62 }
     requires scopes { MakeTable config.now.custom_scopes }
-    ensures ends { spec.EndsConfigured W.Store.Tells W.Store.rows W.Store.faults W.Store.Chooses words.entry.now.db config.now words.entry.now.now
-        (sides W.In.left W.In.faults W.Out.held W.Out.faults outside.old.input outside.old.output (kit_told W.Draws.left W.Starts.calls W.Paths.calls W.Draws.faults W.Starts.faults W.Paths.faults outside.old.kit))
-        (sides W.In.left W.In.faults W.Out.held W.Out.faults outside.new.input outside.new.output (kit_told W.Draws.left W.Starts.calls W.Paths.calls W.Draws.faults W.Starts.faults W.Paths.faults outside.new.kit)) store result.1 result.0 }
+    ensures ends { spec.EndsConfigured W.Store.Tells W.Store.rows W.Store.faults W.Store.Chooses words.entry.now.db config.now
+        words.entry.now.now
+        (sides W.In.left W.In.faults W.Out.held W.Out.faults outside.old.input outside.old.output
+        (kit_told W.Draws.left W.Starts.calls W.Paths.calls W.Draws.faults W.Starts.faults W.Paths.faults outside.old.kit))
+        (sides W.In.left W.In.faults W.Out.held W.Out.faults outside.new.input outside.new.output
+        (kit_told W.Draws.left W.Starts.calls W.Paths.calls W.Draws.faults W.Starts.faults W.Paths.faults outside.new.kit)) store
+        result.1 result.0 }
     ensures files { outside.new.files ≡ outside.old.files }
     ensures reads { W.In.faults outside.old.input ≤ W.In.faults outside.new.input }
     ensures writes { W.Out.faults outside.old.output ≤ W.Out.faults outside.new.output }
@@ -102,9 +109,13 @@ fn run_session<W: World, R: Wait>(
     store: W::Store,
     outside: &mut Outside<W>,
 ) -> (End, W::Store)
-    ensures ends { spec.SessionEnds W.Store.Tells W.Store.rows W.Store.faults W.Store.Chooses words.entry.now (files_told W.Reads.files W.Reads.faults outside.old.files) (files_told W.Reads.files W.Reads.faults outside.new.files)
-        (sides W.In.left W.In.faults W.Out.held W.Out.faults outside.old.input outside.old.output (kit_told W.Draws.left W.Starts.calls W.Paths.calls W.Draws.faults W.Starts.faults W.Paths.faults outside.old.kit))
-        (sides W.In.left W.In.faults W.Out.held W.Out.faults outside.new.input outside.new.output (kit_told W.Draws.left W.Starts.calls W.Paths.calls W.Draws.faults W.Starts.faults W.Paths.faults outside.new.kit)) store result.1 result.0 }
+    ensures ends { spec.SessionEnds W.Store.Tells W.Store.rows W.Store.faults W.Store.Chooses words.entry.now
+        (files_told W.Reads.files W.Reads.faults outside.old.files) (files_told W.Reads.files W.Reads.faults outside.new.files)
+        (sides W.In.left W.In.faults W.Out.held W.Out.faults outside.old.input outside.old.output
+        (kit_told W.Draws.left W.Starts.calls W.Paths.calls W.Draws.faults W.Starts.faults W.Paths.faults outside.old.kit))
+        (sides W.In.left W.In.faults W.Out.held W.Out.faults outside.new.input outside.new.output
+        (kit_told W.Draws.left W.Starts.calls W.Paths.calls W.Draws.faults W.Starts.faults W.Paths.faults outside.new.kit)) store
+        result.1 result.0 }
     ensures files { W.Reads.files outside.new.files ≡ W.Reads.files outside.old.files }
     ensures reads { W.In.faults outside.old.input ≤ W.In.faults outside.new.input }
     ensures writes { W.Out.faults outside.old.output ≤ W.Out.faults outside.new.output }
@@ -130,9 +141,13 @@ fn run_words<W: World, R: Wait>(
     store: W::Store,
     outside: &mut Outside<W>,
 ) -> (End, W::Store)
-    ensures ends { spec.CommandEnds W.Store.Tells W.Store.rows W.Store.faults W.Store.Chooses (session_read words.now) (files_told W.Reads.files W.Reads.faults outside.old.files) (files_told W.Reads.files W.Reads.faults outside.new.files)
-        (sides W.In.left W.In.faults W.Out.held W.Out.faults outside.old.input outside.old.output (kit_told W.Draws.left W.Starts.calls W.Paths.calls W.Draws.faults W.Starts.faults W.Paths.faults outside.old.kit))
-        (sides W.In.left W.In.faults W.Out.held W.Out.faults outside.new.input outside.new.output (kit_told W.Draws.left W.Starts.calls W.Paths.calls W.Draws.faults W.Starts.faults W.Paths.faults outside.new.kit)) store result.1 result.0 }
+    ensures ends { spec.CommandEnds W.Store.Tells W.Store.rows W.Store.faults W.Store.Chooses (session_read words.now)
+        (files_told W.Reads.files W.Reads.faults outside.old.files) (files_told W.Reads.files W.Reads.faults outside.new.files)
+        (sides W.In.left W.In.faults W.Out.held W.Out.faults outside.old.input outside.old.output
+        (kit_told W.Draws.left W.Starts.calls W.Paths.calls W.Draws.faults W.Starts.faults W.Paths.faults outside.old.kit))
+        (sides W.In.left W.In.faults W.Out.held W.Out.faults outside.new.input outside.new.output
+        (kit_told W.Draws.left W.Starts.calls W.Paths.calls W.Draws.faults W.Starts.faults W.Paths.faults outside.new.kit)) store
+        result.1 result.0 }
     ensures files { W.Reads.files outside.new.files ≡ W.Reads.files outside.old.files }
     ensures reads { W.In.faults outside.old.input ≤ W.In.faults outside.new.input }
     ensures writes { W.Out.faults outside.old.output ≤ W.Out.faults outside.new.output }
@@ -160,9 +175,14 @@ fn run_words<W: World, R: Wait>(
 pub fn run<W: World, R: Wait>(rt: &R, alloc: Global, words: &[Text], outside: &mut Outside<W>) -> u8
     requires store { IsSome outside.old.store }
     ensures store { IsSome outside.new.store }
-    ensures ends { (k k' : W.Store) → outside.old.store ≡ Some k → outside.new.store ≡ Some k' → spec.RunEnds W.Store.Tells W.Store.rows W.Store.faults W.Store.Chooses (session_read words.now) (files_told W.Reads.files W.Reads.faults outside.old.files) (files_told W.Reads.files W.Reads.faults outside.new.files)
-        (sides W.In.left W.In.faults W.Out.held W.Out.faults outside.old.input outside.old.output (kit_told W.Draws.left W.Starts.calls W.Paths.calls W.Draws.faults W.Starts.faults W.Paths.faults outside.old.kit))
-        (sides W.In.left W.In.faults W.Out.held W.Out.faults outside.new.input outside.new.output (kit_told W.Draws.left W.Starts.calls W.Paths.calls W.Draws.faults W.Starts.faults W.Paths.faults outside.new.kit)) k k' outside.new.end result }
+    ensures ends { (k k' : W.Store) → outside.old.store ≡ Some k → outside.new.store ≡ Some k'
+        → spec.RunEnds W.Store.Tells W.Store.rows W.Store.faults W.Store.Chooses (session_read words.now)
+        (files_told W.Reads.files W.Reads.faults outside.old.files) (files_told W.Reads.files W.Reads.faults outside.new.files)
+        (sides W.In.left W.In.faults W.Out.held W.Out.faults outside.old.input outside.old.output
+        (kit_told W.Draws.left W.Starts.calls W.Paths.calls W.Draws.faults W.Starts.faults W.Paths.faults outside.old.kit))
+        (sides W.In.left W.In.faults W.Out.held W.Out.faults outside.new.input outside.new.output
+        (kit_told W.Draws.left W.Starts.calls W.Paths.calls W.Draws.faults W.Starts.faults W.Paths.faults outside.new.kit)) k k'
+        outside.new.end result }
     ensures files { W.Reads.files outside.new.files ≡ W.Reads.files outside.old.files }
     ensures reads { W.In.faults outside.old.input ≤ W.In.faults outside.new.input }
     ensures writes { W.Out.faults outside.old.output ≤ W.Out.faults outside.new.output }

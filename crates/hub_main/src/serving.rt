@@ -32,8 +32,11 @@ pub(crate) fn serve_book<W: World, T: Trail<Entry = Change>, R: Wait>(
 ) -> (End, W::Store)
     requires new { entries_of book ≡ [] }
     ensures ends { spec.EndsOver W.Store.Tells W.Store.rows W.Store.faults book.start book.faults now
-        (sides W.In.left W.In.faults W.Out.held W.Out.faults outside.old.input outside.old.output (kit_told W.Draws.left W.Starts.calls W.Paths.calls W.Draws.faults W.Starts.faults W.Paths.faults outside.old.kit))
-        (sides W.In.left W.In.faults W.Out.held W.Out.faults outside.new.input outside.new.output (kit_told W.Draws.left W.Starts.calls W.Paths.calls W.Draws.faults W.Starts.faults W.Paths.faults outside.new.kit)) result.1 result.0 }
+        (sides W.In.left W.In.faults W.Out.held W.Out.faults outside.old.input outside.old.output
+        (kit_told W.Draws.left W.Starts.calls W.Paths.calls W.Draws.faults W.Starts.faults W.Paths.faults outside.old.kit))
+        (sides W.In.left W.In.faults W.Out.held W.Out.faults outside.new.input outside.new.output
+        (kit_told W.Draws.left W.Starts.calls W.Paths.calls W.Draws.faults W.Starts.faults W.Paths.faults outside.new.kit)) result.1
+        result.0 }
     ensures files { outside.new.files ≡ outside.old.files }
     ensures reads { W.In.faults outside.old.input ≤ W.In.faults outside.new.input }
     ensures writes { W.Out.faults outside.old.output ≤ W.Out.faults outside.new.output }
@@ -62,8 +65,11 @@ fn serve_alone<W: World, T: Trail<Entry = Change>, R: Wait>(
     requires of { pass.of ≡ desk }
     requires alone { pass.alone ≡ true }
     ensures ends { (start : Start) → pass.base ≡ Some start → spec.EndsBy W.Store.Tells W.Store.rows W.Store.faults pass start now
-        (sides W.In.left W.In.faults W.Out.held W.Out.faults outside.old.input outside.old.output (kit_told W.Draws.left W.Starts.calls W.Paths.calls W.Draws.faults W.Starts.faults W.Paths.faults outside.old.kit))
-        (sides W.In.left W.In.faults W.Out.held W.Out.faults outside.new.input outside.new.output (kit_told W.Draws.left W.Starts.calls W.Paths.calls W.Draws.faults W.Starts.faults W.Paths.faults outside.new.kit)) result.1 result.0 }
+        (sides W.In.left W.In.faults W.Out.held W.Out.faults outside.old.input outside.old.output
+        (kit_told W.Draws.left W.Starts.calls W.Paths.calls W.Draws.faults W.Starts.faults W.Paths.faults outside.old.kit))
+        (sides W.In.left W.In.faults W.Out.held W.Out.faults outside.new.input outside.new.output
+        (kit_told W.Draws.left W.Starts.calls W.Paths.calls W.Draws.faults W.Starts.faults W.Paths.faults outside.new.kit)) result.1
+        result.0 }
     ensures files { outside.new.files ≡ outside.old.files }
     ensures reads { W.In.faults outside.old.input ≤ W.In.faults outside.new.input }
     ensures writes { W.Out.faults outside.old.output ≤ W.Out.faults outside.new.output }
@@ -88,10 +94,14 @@ fn serve_pass<W: World, T: Trail<Entry = Change>, R: Wait>(
     requires of { pass.old.of ≡ desk.now }
     requires alone { pass.old.alone ≡ true }
     ensures ends { (start : Start) → pass.old.base ≡ Some start → spec.PassEnds start
-        (spec.view_with pass.old now (kit_told W.Draws.left W.Starts.calls W.Paths.calls W.Draws.faults W.Starts.faults W.Paths.faults outside.old.kit))
-        (view_of (⟦<FixedClock as Clock>⟧.to_come) W.Draws.left W.Starts.calls W.Paths.calls W.Draws.faults W.Starts.faults W.Paths.faults pass.new outside.new.kit)
-        (sides W.In.left W.In.faults W.Out.held W.Out.faults outside.old.input outside.old.output (kit_told W.Draws.left W.Starts.calls W.Paths.calls W.Draws.faults W.Starts.faults W.Paths.faults outside.old.kit))
-        (sides W.In.left W.In.faults W.Out.held W.Out.faults outside.new.input outside.new.output (kit_told W.Draws.left W.Starts.calls W.Paths.calls W.Draws.faults W.Starts.faults W.Paths.faults outside.new.kit)) result }
+        (spec.view_with pass.old now (kit_told W.Draws.left W.Starts.calls W.Paths.calls W.Draws.faults W.Starts.faults W.Paths.faults
+        outside.old.kit))
+        (view_of (⟦<FixedClock as Clock>⟧.to_come) W.Draws.left W.Starts.calls W.Paths.calls W.Draws.faults W.Starts.faults W.Paths.faults
+        pass.new outside.new.kit)
+        (sides W.In.left W.In.faults W.Out.held W.Out.faults outside.old.input outside.old.output
+        (kit_told W.Draws.left W.Starts.calls W.Paths.calls W.Draws.faults W.Starts.faults W.Paths.faults outside.old.kit))
+        (sides W.In.left W.In.faults W.Out.held W.Out.faults outside.new.input outside.new.output
+        (kit_told W.Draws.left W.Starts.calls W.Paths.calls W.Draws.faults W.Starts.faults W.Paths.faults outside.new.kit)) result }
     ensures of { pass.new.of ≡ pass.old.of }
     ensures base { pass.new.base ≡ pass.old.base }
     ensures alone { pass.new.alone ≡ true }

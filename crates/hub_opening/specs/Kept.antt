@@ -1,5 +1,6 @@
 -- What a hub takes over from a keeper: the tables of its rows, with a generation for each lease, and each leased server to be adopted.
-use Rattle.std.specs.Prelude.{◌≡◌, ℕ, ◌+◌, ◌<◌, ◌≤◌, ◌^◌, ◌⊎◌, Bool, not, List, [], length, map, fold, slice_get, codes, bytes_eq, Option, Some, None, option_map, Result, Ok, Err, ⊤}
+use Rattle.std.specs.Prelude.{◌≡◌, ℕ, ◌+◌, ◌<◌, ◌≤◌, ◌^◌, ◌⊎◌, Bool, not, List, [], length, map, fold, slice_get, codes, bytes_eq, Option}
+use Rattle.std.specs.Prelude.{Some, None, option_map, Result, Ok, Err, ⊤}
 use Rattle.std.specs.List.{list_any, find}
 use Rattle.std.specs.FinMap.{empty, get, insert, values}
 use Rattle.scope_names.specs.Refusals.{IsAnswer}
@@ -62,10 +63,11 @@ pub record AreLoaded (limits : Limits) (scopes : List CustomRow) (Tells : Type 0
   pub tables : AreTablesOf limits scopes kept t
 
 -- the first bad row of what it listed has this kind and key
-pub record IsRefusedRow (limits : Limits) (scopes : List CustomRow) (Tells : Type 0) (has : Rows) (number : ℕ) (name : List ℕ) : Type 0 where
-  pub kept : List KeptRow
-  pub listed : Tells → Lists has kept
-  pub bad : IsFirstBad limits scopes kept number name
+pub record IsRefusedRow (limits : Limits) (scopes : List CustomRow) (Tells : Type 0) (has : Rows) (number : ℕ) (name : List ℕ) : Type 0
+  where
+    pub kept : List KeptRow
+    pub listed : Tells → Lists has kept
+    pub bad : IsFirstBad limits scopes kept number name
 
 -- a row's error, said as that of an opening
 abbrev pub IsSaid : RowError → OpenError → Type 0

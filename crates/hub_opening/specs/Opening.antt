@@ -1,5 +1,6 @@
 -- The state that a book begins with: what its keeper has, all that is configured on top of it, and a history without entries.
-use Rattle.std.specs.Prelude.{◌≡◌, ℕ, ◌+◌, Bool, not, ◌||◌, ◌&&◌, nat_lt, List, [], ◌++◌, fold, codes, Option, Some, None, Result, Ok, Err, if◌then◌else◌}
+use Rattle.std.specs.Prelude.{◌≡◌, ℕ, ◌+◌, Bool, not, ◌||◌, ◌&&◌, nat_lt, List, [], ◌++◌, fold, codes, Option, Some, None, Result, Ok, Err}
+use Rattle.std.specs.Prelude.{if◌then◌else◌}
 use Rattle.std.specs.List.{filter}
 use Rattle.std.specs.Option.{is_some}
 use Rattle.std.specs.FinMap.{FinMap, get, contains_key, insert, len}
@@ -36,7 +37,17 @@ use Rattle.hub_opening.specs.declared.open_error.OpenError.TheVariants.{KeeperFa
 use Rattle.hub_opening.specs.declared.opening.Opened.{Opened}
 
 abbrev pub greatest_limits : Limits
-greatest_limits = record { users = 100000; groups = 10000; services = 1000; roles = 1000; servers = 100; tokens = 1000000; shares = 100000; codes = 100000; trail_bytes = 1073741824 }
+greatest_limits = record {
+  users = 100000;
+  groups = 10000;
+  services = 1000;
+  roles = 1000;
+  servers = 100;
+  tokens = 1000000;
+  shares = 100000;
+  codes = 100000;
+  trail_bytes = 1073741824;
+}
 
 -- ---- users
 
@@ -77,7 +88,11 @@ with_client (Some client) rows = insert rows client.id client
 
 -- its row, where none of its name is there, and its client
 abbrev pub with_service : State → ConfigService → State
-with_service t s = record t { services = put_new s.name (record { name = s.name }) t.services; clients = with_client (client_of s) t.clients }
+with_service t s = record t {
+  services = put_new s.name (record { name = s.name }) t.services;
+  clients = with_client (client_of s)
+      t.clients;
+}
 
 -- it names those of its holders that are there
 abbrev pub role_row : State → Role → Role
@@ -100,7 +115,17 @@ next_token t = next_of t (codes "token")
 
 abbrev pub row_of_hash : ℕ → ℕ → List ℕ → ConfigToken → Token
 row_of_hash id now hash k =
-    record { id = id; client = None; created = now; expires_at = None; hash = hash; issued_for = None; note = []; owner = k.owner; scopes = k.scopes }
+    record {
+      id = id;
+      client = None;
+      created = now;
+      expires_at = None;
+      hash = hash;
+      issued_for = None;
+      note = [];
+      owner = k.owner;
+      scopes = k.scopes;
+    }
 
 abbrev pub token_row : ℕ → ℕ → ConfigToken → Token
 token_row id now k = row_of_hash id now (hash_text k.text) k
@@ -204,7 +229,8 @@ IsMade c now kept (Ok made) = IsMadeOf c now kept made
 IsMade c now kept (Err KeeperFault) = ⊥
 IsMade c now kept (Err (BadRow number name)) = ⊥
 IsMade c now kept (Err (LostTarget target)) = lost_target c.pool kept ≡ Some target
-IsMade c now kept (Err (Full number limit)) = (lost_target c.pool kept ≡ None) × (first_full (opened_tables c now kept) ≡ Some (number, limit))
+IsMade c now kept (Err (Full number limit)) = (lost_target c.pool kept ≡ None)
+    × (first_full (opened_tables c now kept) ≡ Some (number, limit))
 IsMade c now kept (Err Memory) = Unit {0}
 
 -- this is the state that the configuration makes of the rows that the keeper had: each reads, none breaks a rule across rows, each lease

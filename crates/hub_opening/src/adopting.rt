@@ -16,7 +16,8 @@ use std::alloc::{AllocError, Global};
 /// Each leased server, in the order of targets.
 pub(crate) fn lives_of(alloc: Global, changed: &Changed, pool: &Pool) -> Result<Lives, AllocError>
     requires { spec.IsOpenable pool.now changed.now.tables }
-    ensures { IfOk result (λ lives. lives ≡ record { pool = pool.now; lives = lives_in changed.now.tables; next = next_generation changed.now.tables }) }
+    ensures { IfOk result (λ lives. lives
+        ≡ record { pool = pool.now; lives = lives_in changed.now.tables; next = next_generation changed.now.tables }) }
 {
     let next = next_generation(alloc, changed)?;
     let mut lives = Lives::new(alloc, pool.copy(alloc)?, next)?;

@@ -54,7 +54,8 @@ fn tell(
     batch: &mut Batch,
     put: &RowChange,
 ) -> Result<(), AllocError>
-    ensures { OnOk result ((row : Row) → put.now ≡ Put row → (has : Rows) → Keeps (after_items batch.old has) tables.now → Keeps (after_items batch.new has) (with_row row tables.now)) }
+    ensures { OnOk result ((row : Row) → put.now ≡ Put row → (has : Rows) → Keeps (after_items batch.old has) tables.now
+        → Keeps (after_items batch.new has) (with_row row tables.now)) }
 {
     let item = item_of(alloc, put)?;
     let kept = kept_item(alloc, tables, put)?;

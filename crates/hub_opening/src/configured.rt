@@ -201,7 +201,8 @@ fn user_row(kept: Option<&User>, user: &ConfigUser, now: Moment) -> User
 
 /// Puts the row of a service, where none of its name is there.
 fn add_service(alloc: Global, changed: &mut Changed, name: ServiceName) -> Result<(), AllocError>
-    ensures tables { OnOk result (changed.new.tables ≡ record changed.old.tables { services = spec.put_new name (record { name = name }) changed.old.tables.services }) }
+    ensures tables { OnOk result (changed.new.tables ≡ record changed.old.tables
+        { services = spec.put_new name (record { name = name }) changed.old.tables.services }) }
     ensures leads { OnOk result (Leads changed.old changed.new) }
 {
     if changed.tables.service(&name).is_some() {
@@ -233,7 +234,8 @@ fn put_client(
     changed: &mut Changed,
     client: Option<OAuthClient>,
 ) -> Result<(), AllocError>
-    ensures tables { OnOk result (changed.new.tables ≡ record changed.old.tables { clients = spec.with_client client changed.old.tables.clients }) }
+    ensures tables { OnOk result (changed.new.tables ≡ record changed.old.tables
+        { clients = spec.with_client client changed.old.tables.clients }) }
     ensures leads { OnOk result (Leads changed.old changed.new) }
 {
     match client {

@@ -66,7 +66,8 @@ fn give_next(
     target: &Target,
     server: ServerKey,
 ) -> Result<(), AllocError>
-    ensures tables { OnOk result (changed.new.tables ≡ spec.with_generation (record { target = target.now; server = server; generation = None }) changed.old.tables) }
+    ensures tables { OnOk result (changed.new.tables ≡ spec.with_generation
+        (record { target = target.now; server = server; generation = None }) changed.old.tables) }
     ensures leads { OnOk result (Leads changed.old changed.new) }
 {
     let name = generation_counter(alloc)?;
@@ -99,7 +100,8 @@ fn put_lease(
     lease: Lease,
     next: Next,
 ) -> Result<(), AllocError>
-    ensures tables { OnOk result (changed.new.tables ≡ record changed.old.tables { leases = insert changed.old.tables.leases lease.target lease; nexts = insert changed.old.tables.nexts next.name next }) }
+    ensures tables { OnOk result (changed.new.tables ≡ record changed.old.tables
+        { leases = insert changed.old.tables.leases lease.target lease; nexts = insert changed.old.tables.nexts next.name next }) }
     ensures leads { OnOk result (Leads changed.old changed.new) }
 {
     changed.put(alloc, Row::Lease(lease))?;

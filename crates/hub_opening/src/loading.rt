@@ -37,7 +37,8 @@ pub(crate) fn load_tables<K: Keeper>(
 ) -> Result<Tables, OpenError>
     requires { spec.MakeTable config.now.custom_scopes }
     ensures ok { IfOk result (spec.AreLoaded config.now.limits config.now.custom_scopes (K.Tells keeper.new) (K.rows keeper.old)) }
-    ensures err { IfErr result (IsUnread config.now.limits config.now.custom_scopes (K.Tells keeper.new) (K.rows keeper.old) (K.faults keeper.old) (K.faults keeper.new)) }
+    ensures err { IfErr result (IsUnread config.now.limits config.now.custom_scopes (K.Tells keeper.new) (K.rows keeper.old)
+        (K.faults keeper.old) (K.faults keeper.new)) }
     ensures kept { K.Tells keeper.new → K.Tells keeper.old × AreSame (K.rows keeper.new) (K.rows keeper.old) }
     ensures counted { K.faults keeper.old ≤ K.faults keeper.new }
 {

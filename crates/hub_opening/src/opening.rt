@@ -164,7 +164,9 @@ fn parts_of(
     config: &HubConfig,
 ) -> Result<(Lives, Option<Target>), AllocError>
     requires { IsOpenable config.now.pool changed.now.tables }
-    ensures { IfOk result (λ parts. (parts.0 ≡ record { pool = config.now.pool; lives = kept.lives_in changed.now.tables; next = next_generation changed.now.tables }) × (parts.1 ≡ config.now.hub_url)) }
+    ensures { IfOk result (λ parts.
+        (parts.0 ≡ record { pool = config.now.pool; lives = kept.lives_in changed.now.tables; next = next_generation changed.now.tables })
+        × (parts.1 ≡ config.now.hub_url)) }
 {
     let hub_url = copy_target(alloc, &config.hub_url)?;
     let lives = lives_of(alloc, changed, &config.pool)?;
@@ -292,7 +294,8 @@ pub fn open_machine<K: Keeper, T: Trail>(
     requires trail { config.now.limits.trail_bytes ≤ 2 ^ 62 }
     requires scopes { kept.MakeTable config.now.custom_scopes }
     ensures ok { IfOk result (spec.IsSetUp config.now now (K.Tells keeper.new) (K.rows keeper.old)) }
-    ensures err { IfErr result (spec.IsRefused config.now now (K.Tells keeper.new) (K.rows keeper.old) (K.faults keeper.old) (K.faults keeper.new)) }
+    ensures err { IfErr result (spec.IsRefused config.now now (K.Tells keeper.new) (K.rows keeper.old) (K.faults keeper.old)
+        (K.faults keeper.new)) }
     ensures stays { OnErr result (K.Tells keeper.new → K.Tells keeper.old × AreSame (K.rows keeper.new) (K.rows keeper.old)) }
     ensures keeps { IfOk result (λ hub. K.Tells keeper.new → Keeps (K.rows keeper.new) hub.tables) }
     ensures told { K.Tells keeper.new → K.Tells keeper.old }

@@ -3,7 +3,10 @@ use Rattle.std.specs.Prelude.{ℕ, List, [], ◌∷◌, codes, Bool, ◌==◌, n
 use Rattle.std.specs.List.{find, slice_split, starts_with}
 use Rattle.std.specs.Cmp.Lexicographic.{pointwise}
 use Rattle.hub_paths.specs.declared.paths.Path.{Path}
-use Rattle.hub_paths.specs.declared.paths.Path.TheVariants.{Bare, Version, Info, Identity, Users, User, Activity, DefaultServer, NamedServer, Tokens, Token, Shared, GivenShares, DefaultShares, ServerShares, GivenCodes, DefaultCodes, ServerCodes, Groups, Group, Members, Services, Service, Roles, Role, Authorize, Trade, Proxy}
+use Rattle.hub_paths.specs.declared.paths.Path.TheVariants.{Bare, Version, Info, Identity, Users, User, Activity, DefaultServer}
+use Rattle.hub_paths.specs.declared.paths.Path.TheVariants.{NamedServer, Tokens, Token, Shared, GivenShares, DefaultShares, ServerShares}
+use Rattle.hub_paths.specs.declared.paths.Path.TheVariants.{GivenCodes, DefaultCodes, ServerCodes, Groups, Group, Members, Services}
+use Rattle.hub_paths.specs.declared.paths.Path.TheVariants.{Service, Roles, Role, Authorize, Trade, Proxy}
 
 -- the text of each path; a name between braces stands for one segment of a byte or more
 abbrev pub text_of : Path → List ℕ
@@ -39,7 +42,8 @@ text_of Proxy = codes "/hub/api/proxy"
 -- the paths of the calls that are built. No text fits two of them, so their order says nothing
 unfoldable pub every_path : List Path
 every_path =
-    Members ∷ Group ∷ Groups ∷ Info ∷ Authorize ∷ Trade ∷ Proxy ∷ Role ∷ Roles ∷ Service ∷ Services ∷ ServerCodes ∷ DefaultCodes ∷ GivenCodes ∷ ServerShares ∷ DefaultShares
+    Members ∷ Group ∷ Groups ∷ Info ∷ Authorize ∷ Trade ∷ Proxy ∷ Role ∷ Roles ∷ Service ∷ Services ∷ ServerCodes ∷ DefaultCodes ∷
+    GivenCodes ∷ ServerShares ∷ DefaultShares
     ∷ GivenShares ∷ Activity ∷ NamedServer ∷ DefaultServer ∷ Shared ∷ Token ∷ Tokens ∷ User ∷ Users ∷ Identity ∷ Version ∷ Bare ∷ []
 
 -- what stands between the slashes of a text

@@ -8,7 +8,8 @@ use Rattle.scope_filters.specs.Scopes.{before, after}
 -- what stands before the first ':' is the kind, what stands after it the name
 abbrev pub names_client : (kind : List ℕ) → (name : Option (List ℕ)) → Bool
 names_client kind None = false
-names_client kind (Some name) = (same kind (codes "server") && is_ok (key_read name)) || (same kind (codes "service") && is_ok (name_read name))
+names_client kind (Some name) = (same kind (codes "server") && is_ok (key_read name))
+    || (same kind (codes "service") && is_ok (name_read name))
 
 abbrev pub is_client_id : List ℕ → Bool
 is_client_id id = names_client (before 58 id) (after 58 id)

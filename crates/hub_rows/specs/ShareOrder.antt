@@ -27,4 +27,5 @@ recipient_exact (To.Group u) (To.Group w) h = ap To.Group (names_exact u w h)
 recipient_exact _ _ h = cc
 
 pub share_exact : IsAntisymmetric share_cmp
-share_exact a b h = ap (λ (p : ServerKey × Recipient). record { server = p.0; to = p.1 }) (exact_pairs key_cmp recipient_cmp key_exact recipient_exact (a.server, a.to) (b.server, b.to) h)
+share_exact a b h = ap (λ (p : ServerKey × Recipient). record { server = p.0; to = p.1 })
+    (exact_pairs key_cmp recipient_cmp key_exact recipient_exact (a.server, a.to) (b.server, b.to) h)

@@ -15,7 +15,8 @@ use Rattle.hub_machine.specs.declared.refusal.Refusal.TheVariants.{KeeperFault, 
 use Rattle.hub_machine.specs.declared.work.Work as owed
 use Rattle.server_work.specs.declared.tale.Tale.{Tale}
 use Rattle.hub_run.specs.Works.{errand_of, path_for, tale_reply}
-use Rattle.hub_run.specs.Turns.{Turn, Visit, Errand, View, visited, worked, declined, undrawn, refused, unsaid, unfinished, wanting, routed, unrouted}
+use Rattle.hub_run.specs.Turns.{Turn, Visit, Errand, View, visited, worked, declined, undrawn, refused, unsaid, unfinished, wanting, routed}
+use Rattle.hub_run.specs.Turns.{unrouted}
 use Rattle.hub_run.specs.declared.routed.Way.{Way}
 use Rattle.hub_run.specs.Routed.{Asking, IsAskingOf, IsSaidOf, lets}
 
@@ -86,16 +87,18 @@ pub record IsRouteDone (request : Request) (v : Visit) (asking : Asking) (r : Re
   pub let_on : IsLetOn request v asking a
   pub reply : IsSaidOf let_on.gave asking r
 
--- the visit changed nothing, or the answer has a reply, with nothing to be done for it, and its change, if it has one, is the entry of the visit
+-- the visit changed nothing, or the answer has a reply, with nothing to be done for it, and its change, if it has one, is the entry of the
+-- visit
 abbrev pub IsWithoutWork : Visit → Answer → Type 0
 IsWithoutWork v a = (v.after ≡ v.before) ⊎ ((r : Reply) × IsDone v r a)
 
--- the turn gives the request the reply of the definition's answer, or of the chain that this answer owes, or of what the route link told where
--- this answer lets it be asked, the refusal of a request that asks no call, a 503 where no draw came, or a 507
+-- the turn gives the request the reply of the definition's answer, or of the chain that this answer owes, or of what the route link told
+-- where this answer lets it be asked, the refusal of a request that asks no call, a 503 where no draw came, or a 507
 abbrev pub IsServed : Start → Request → Turn → Type 0
 IsServed start request (visited text q v r) = (q ≡ request) × ((a : Answer) → IsDue start request v a → IsDone v r a)
 IsServed start request (worked text q v e r) = (q ≡ request) × ((a : Answer) → IsDue start request v a → IsWorkDone request v e r a)
-IsServed start request (routed text q v asking r) = (q ≡ request) × ((a : Answer) → IsDue start request v a → IsRouteDone request v asking r a)
+IsServed start request (routed text q v asking r) = (q ≡ request)
+    × ((a : Answer) → IsDue start request v a → IsRouteDone request v asking r a)
 IsServed start request (declined text q e) = (q ≡ request) × (call_read request ≡ Err e)
 IsServed start request (undrawn text q) = q ≡ request
 IsServed start request (refused e) = ⊥

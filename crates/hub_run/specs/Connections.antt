@@ -1,5 +1,6 @@
 -- A whole connection: what was taken and written, and how it ended.
-use Rattle.std.specs.Prelude.{◌≡◌, ◌+◌, ◌<◌, ◌≤◌, ◌||◌, ◌==◌, ℕ, Bool, true, false, List, [], ◌∷◌, ◌++◌, length, All, Option, Result, Ok, Err}
+use Rattle.std.specs.Prelude.{◌≡◌, ◌+◌, ◌<◌, ◌≤◌, ◌||◌, ◌==◌, ℕ, Bool, true, false, List, [], ◌∷◌, ◌++◌, length, All, Option, Result, Ok}
+use Rattle.std.specs.Prelude.{Err}
 use Rattle.std.specs.List.{flat_map}
 use Rattle.hub_devices.specs.Streams.{Appends, IsEnd}
 use Rattle.http_wire.specs.Took.{Took}
@@ -32,8 +33,10 @@ IsAfter turns n = (length turns ≡ n) × (n < 1000)
 abbrev pub IsLast : Start → Option (List ℕ) → List ℕ → Turn → List ℕ → Type 0
 IsLast start left ahead last rest = TurnAt start left ahead last rest × (length rest ≤ head_limit)
 
--- how a connection ended, which began with the view x and a source and a sink that told `left` and `held`, for a book that began with `start`
-abbrev pub ConnectionEnds : Start → View → Option (List ℕ) → Option (List ℕ) → View → Option (List ℕ) → Option (List ℕ) → Result Served SessionFault → Type 0
+-- how a connection ended, which began with the view x and a source and a sink that told `left` and `held`, for a book that began with
+-- `start`
+abbrev pub ConnectionEnds : Start → View → Option (List ℕ) → Option (List ℕ) → View → Option (List ℕ) → Option (List ℕ)
+    → Result Served SessionFault → Type 0
 ConnectionEnds start x left held y left' held' (Ok (Ended n)) =
     (turns : List Turn) × IsAfter turns n × Ran start left held left' held' turns [] [] × Turns x turns y × IsEnd left'
 ConnectionEnds start x left held y left' held' (Ok (Cut n)) =

@@ -4,7 +4,8 @@ use Rattle.desk.specs.OwnEntries.{added}
 use Rattle.server_work.specs.Gains.{Gain, no_gain, plus, gain_of}
 use Rattle.hub_core.specs.Visits.{Entry}
 use Rattle.hub_run.specs.Routed.{Asking, told_of}
-use Rattle.hub_run.specs.Turns.{Turn, Visit, Errand, visited, worked, routed, declined, undrawn, refused, unsaid, unfinished, unrouted, wanting}
+use Rattle.hub_run.specs.Turns.{Turn, Visit, Errand, visited, worked, routed, declined, undrawn, refused, unsaid, unfinished, unrouted}
+use Rattle.hub_run.specs.Turns.{wanting}
 
 -- a visit gains the entries that it left beyond those that it found, each with its place, and calls nothing
 abbrev pub visit_gain : Visit → Gain Entry

@@ -24,7 +24,8 @@ StandsIn h turn = Unit {0}
 
 -- 403 `no valid token`, or 412
 abbrev pub IsTokenRefusal : Asked → ℕ → Reply → Type 0
-IsTokenRefusal asked revision r = (r ≡ refusal_reply revision NoValidToken) ⊎ (r ≡ refusal_reply revision (SeenPast (named asked.seen) revision))
+IsTokenRefusal asked revision r = (r ≡ refusal_reply revision NoValidToken)
+    ⊎ (r ≡ refusal_reply revision (SeenPast (named asked.seen) revision))
 
 -- the visit of the turn, where it has one, gives such a refusal or a 507, and has no entry
 abbrev pub IsTurnedAway : Asked → Turn → Type 0

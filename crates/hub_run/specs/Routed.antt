@@ -25,7 +25,8 @@ use Rattle.hub_sync.specs.declared.calls.Synced.{Synced}
 use Rattle.hub_sync.specs.declared.calls.SyncFault.{SyncFault}
 use Rattle.hub_sync.specs.declared.calls.SyncFault.TheVariants as Fault
 
--- what the route link was asked for: its list, with what came; or to come into step, with all that it was asked and told then, and how that ended
+-- what the route link was asked for: its list, with what came; or to come into step, with all that it was asked and told then, and how that
+-- ended
 pub data Asking : Type 0 where
   listing : Result (List ListedRoute) LinkError → Asking
   syncing : List (Routing × Told) → Result Synced SyncFault → Asking

@@ -48,7 +48,8 @@ SaysMade (Err e) close text closed = (text ≡ no_memory) × (closed ≡ true)
 abbrev pub SaysTale : Todo → Option Tale → Bool → List ℕ → Bool → Type 0
 SaysTale owed None close text closed = (text ≡ no_memory) × (closed ≡ true)
 SaysTale owed (Some tale) close text closed =
-    ((r : spec.Reply) × (tale_reply owed tale ≡ Some r) × (text ≡ reply_text r close) × (closed ≡ close)) ⊎ ((text ≡ no_memory) × (closed ≡ true))
+    ((r : spec.Reply) × (tale_reply owed tale ≡ Some r) × (text ≡ reply_text r close) × (closed ≡ close))
+    ⊎ ((text ≡ no_memory) × (closed ≡ true))
 
 -- a turn answers the request of this text, and moves the view from x to y
 abbrev pub Made : Start → View → View → List ℕ → Bool → List ℕ → Bool → Type 0

@@ -1,5 +1,6 @@
 -- The turns of a connection: what each reads, what it answers, and what it leaves of the pass and of the devices.
-use Rattle.std.specs.Prelude.{◌≡◌, ◌⊎◌, ℕ, ◌+◌, ◌≤◌, Bool, true, ltb, if◌then◌else◌, List, [], ◌∷◌, ◌++◌, Option, Some, None, is_some, Ok, Err}
+use Rattle.std.specs.Prelude.{◌≡◌, ◌⊎◌, ℕ, ◌+◌, ◌≤◌, Bool, true, ltb, if◌then◌else◌, List, [], ◌∷◌, ◌++◌, Option, Some, None, is_some, Ok}
+use Rattle.std.specs.Prelude.{Err}
 use mathlib.Core.List.{IsPrefix}
 use Rattle.desk.specs.Passes.{IsSamePass}
 use Rattle.desk.specs.OwnEntries.{added}
@@ -69,7 +70,8 @@ pub data Turn : Type 0 where
   unsaid : List ℕ → Request → Visit → Turn
   -- a request with its bytes whose call owed work, which broke, or whose end found no memory to be kept, or without memory for the reply
   unfinished : List ℕ → Request → Visit → Errand → Turn
-  -- a request with its bytes whose call the visit let ask the route link, without memory for the list, for what follows of it, or for the reply
+  -- a request with its bytes whose call the visit let ask the route link, without memory for the list, for what follows of it, or for the
+  -- reply
   unrouted : List ℕ → Request → Visit → Asking → Turn
   -- no memory before any visit; a draw may have failed
   wanting : Turn
@@ -113,11 +115,12 @@ closes wanting = true
 abbrev pub IsDrawn : Visit → Asked → Type 0
 IsDrawn v asked = is_some v.draw ≡ draws asked.call
 
--- the visit gave this: what the state that the entries before it left answers, or a 503 where the keeper refused the rows of an answer that has
--- some, and its count of faults rose
+-- the visit gave this: what the state that the entries before it left answers, or a 503 where the keeper refused the rows of an answer that
+-- has some, and its count of faults rose
 abbrev pub IsGiven : Start → Visit → Asked → Outcome → Type 0
 IsGiven start v asked o =
-    AnsweredAt start v.before v.after v.moment v.draw asked o ⊎ FaultedAt start v.before v.after v.faults v.faults_after v.moment v.draw asked o
+    AnsweredAt start v.before v.after v.moment v.draw asked o ⊎ FaultedAt start v.before v.after v.faults v.faults_after v.moment v.draw
+    asked o
 
 -- the reply says what the visit gave to the call of the request, which doesn't go on to the route link
 pub record IsAnswered (start : Start) (q : Request) (v : Visit) (r : Reply) : Type 0 where
@@ -230,8 +233,9 @@ abbrev pub Drew : Option (List ℕ) → Option (List (List ℕ)) → ℕ → Opt
 Drew None left faults left' faults' = (left' ≡ left) × (faults' ≡ faults)
 Drew (Some draw) left faults left' faults' = Takes left (draw ∷ []) left' × (faults ≤ faults')
 
--- a visit by the pass of x: it stands after all that the pass had seen, and exactly there where nobody else is; so does the keeper's count of faults.
--- The pass counts it among those that met a failing keeper exactly where that count rose in it. The spawner and the route link aren't called
+-- a visit by the pass of x: it stands after all that the pass had seen, and exactly there where nobody else is; so does the keeper's count
+-- of faults. The pass counts it among those that met a failing keeper exactly where that count rose in it. The spawner and the route link
+-- aren't called
 pub record Visits (x : View) (v : Visit) (y : View) : Type 0 where
   pub begins : IsPrefix x.pass.seen v.before
   pub whole : x.pass.alone ≡ true → v.before ≡ x.pass.seen

@@ -48,4 +48,5 @@ failed_reply revision owed came None = kept_reply revision owed came
 
 -- what is said of a chain that began with the call that was owed; its revision is the length with its last entry
 abbrev pub tale_reply : Todo → Tale → Option Reply
-tale_reply owed tale = if tale.ready then Some (good_reply tale.length (good 201 [])) else failed_reply tale.length owed tale.kept tale.failed
+tale_reply owed tale = if tale.ready then Some (good_reply tale.length (good 201 []))
+    else failed_reply tale.length owed tale.kept tale.failed

@@ -55,7 +55,8 @@ pub(crate) fn answer<
     ensures alone { pass.new.alone ≡ pass.old.alone }
     ensures last { last ≡ true → result.1 ≡ true }
     ensures answers { (start : Start) → pass.old.base ≡ Some start → (text : List ℕ) → IsRequestText request text
-        → Made start (view_of C.to_come R.left S.calls P.calls R.faults S.faults P.faults pass.old kit.old) (view_of C.to_come R.left S.calls P.calls R.faults S.faults P.faults pass.new kit.new)
+        → Made start (view_of C.to_come R.left S.calls P.calls R.faults S.faults P.faults pass.old kit.old)
+        (view_of C.to_come R.left S.calls P.calls R.faults S.faults P.faults pass.new kit.new)
         text last (written_bytes result.0) result.1 }
 {
     let close = closes_after(&request, last);
@@ -97,9 +98,11 @@ fn answer_call<
     ensures base { pass.new.base ≡ pass.old.base }
     ensures alone { pass.new.alone ≡ pass.old.alone }
     ensures last { close ≡ true → result.1 ≡ true }
-    ensures answers { (start : Start) → pass.old.base ≡ Some start → (request : Request) → (text : List ℕ) → (last : Bool) → IsRequestText request text → call_read request ≡ Ok asked
+    ensures answers { (start : Start) → pass.old.base ≡ Some start → (request : Request) → (text : List ℕ) → (last : Bool)
+        → IsRequestText request text → call_read request ≡ Ok asked
         → close ≡ (request.close || last)
-        → Made start (view_of C.to_come R.left S.calls P.calls R.faults S.faults P.faults pass.old kit.old) (view_of C.to_come R.left S.calls P.calls R.faults S.faults P.faults pass.new kit.new)
+        → Made start (view_of C.to_come R.left S.calls P.calls R.faults S.faults P.faults pass.old kit.old)
+        (view_of C.to_come R.left S.calls P.calls R.faults S.faults P.faults pass.new kit.new)
         text last (written_bytes result.0) result.1 }
 {
     let way = way_of(&asked.call);

@@ -56,7 +56,8 @@ pub fn serve_connection<
     ensures ends { (start : Start) → pass.old.base ≡ Some start
         → ConnectionEnds start
         (view_of C.to_come R.left S.calls P.calls R.faults S.faults P.faults pass.old kit.old) (I.left input.old) (O.held output.old)
-        (view_of C.to_come R.left S.calls P.calls R.faults S.faults P.faults pass.new kit.new) (I.left input.new) (O.held output.new) result }
+        (view_of C.to_come R.left S.calls P.calls R.faults S.faults P.faults pass.new kit.new) (I.left input.new) (O.held output.new)
+        result }
     ensures reads { I.faults input.old ≤ I.faults input.new }
     ensures writes { O.faults output.old ≤ O.faults output.new }
     ensures read_fault { (n : ℕ) → result ≡ Err (SessionFault.ReadFault n) → Rises (I.faults input.old) (I.faults input.new) }
@@ -97,7 +98,8 @@ fn serve_turns<
     ensures ends { (start : Start) → pass.old.base ≡ Some start
         → ConnectionEnds start
         (view_of C.to_come R.left S.calls P.calls R.faults S.faults P.faults pass.old kit.old) (I.left input.old) (O.held output.old)
-        (view_of C.to_come R.left S.calls P.calls R.faults S.faults P.faults pass.new kit.new) (I.left input.new) (O.held output.new) result }
+        (view_of C.to_come R.left S.calls P.calls R.faults S.faults P.faults pass.new kit.new) (I.left input.new) (O.held output.new)
+        result }
     ensures reads { I.faults input.old ≤ I.faults input.new }
     ensures writes { O.faults output.old ≤ O.faults output.new }
     ensures read_fault { (n : ℕ) → result ≡ Err (SessionFault.ReadFault n) → Rises (I.faults input.old) (I.faults input.new) }

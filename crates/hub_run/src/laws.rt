@@ -14,7 +14,8 @@ ghost use Rattle.hub_run.specs.Complete.{IsOf, IsDue, IsDone, IsUndone, IsServed
 ghost use Rattle.hub_run.specs.Gained.{turn_gain};
 ghost use Rattle.hub_run.specs.Removed.{Knows, StandsIn, IsTurnedAway};
 ghost use Rattle.hub_run.specs.Routed.{Asking};
-ghost use Rattle.hub_run.specs.Turns.{Turn, Turns, TurnAt, View, Visit, Visits, Errand, Works, Routes, Moves, IsAnswered, IsSent, IsWorked, IsLet, IsRouted, IsUnsaid, at_chain, undrawn};
+ghost use Rattle.hub_run.specs.Turns.{Turn, Turns, TurnAt, View, Visit, Visits, Errand, Works, Routes, Moves, IsAnswered, IsSent, IsWorked};
+ghost use Rattle.hub_run.specs.Turns.{IsLet, IsRouted, IsUnsaid, at_chain, undrawn};
 ghost use Rattle.server_work.specs.Gains.{Gains, sum_of};
 
 use http_wire::laws::next_request_is_one;
@@ -46,7 +47,8 @@ pub fn a_visited_request_gets_its_answer()
 /// definition's answer, whatever its call, or of the chain that this answer owes, or the refusal of a request that asks no call, or a 503
 /// where no draw came, or a 507.
 pub fn a_request_without_faults_is_served()
-    ensures { (start : Start) (x y : View) (before after : List Turn) (turn : Turn) (left : Option (List ℕ)) (text more rest : List ℕ) (request : Request)
+    ensures { (start : Start) (x y : View) (before after : List Turn) (turn : Turn) (left : Option (List ℕ)) (text more rest : List ℕ)
+        (request : Request)
         → Turns x (before ++ turn ∷ after) y → y.pass.failed ≡ x.pass.failed → y.pass.faults < 2 ^ 64 - 1
         → IsRequestText request text → TurnAt start left (text ++ more) turn rest → IsServed start request turn }
 {
@@ -65,7 +67,8 @@ pub fn a_503_is_counted()
         → IsWorked start request v e r → Works x v e y → r.status ≡ 503 → y.pass.faults < 2 ^ 64 - 1 → IsOfFault x y r }
     ensures routed { (start : Start) (x y : View) (request : Request) (v : Visit) (a : Asking) (r : Reply)
         → IsRouted start request v a r → Routes x v a y → r.status ≡ 503 → IsOfFault x y r }
-    ensures undrawn { (x y : View) (text : List ℕ) (request : Request) → Moves x (undrawn text request) y → Rises x.faults.random y.faults.random }
+    ensures undrawn { (x y : View) (text : List ℕ) (request : Request) → Moves x (undrawn text request) y
+        → Rises x.faults.random y.faults.random }
 {}
 
 /// A turn that is neither work nor asks the route link makes no call on the spawner or the route link.
@@ -86,10 +89,12 @@ pub fn a_connection_gains_what_its_turns_gain()
 /// later entry up to the visit put its hash again: then a call that needs a token and brings this text gets from its visit 403 `no valid
 /// token`, 412 or 507, and has no entry.
 pub fn a_removed_token_is_turned_away()
-    ensures { (start : Start) (x y : View) (left : Option (List ℕ)) (bytes more rest : List ℕ) (request : Request) (asked : Asked) (text : List ℕ)
+    ensures { (start : Start) (x y : View) (left : Option (List ℕ)) (bytes more rest : List ℕ) (request : Request) (asked : Asked)
+        (text : List ℕ)
         (gone later : List Change) → IsRequestText request bytes → call_read request ≡ Ok asked → asked.token ≡ Some text
         → needs_token asked.call ≡ true → IsRemoved start.machine text gone later → Knows x asked gone
-        → (turn : Turn) → TurnAt start left (bytes ++ more) turn rest → Moves x turn y → StandsIn (gone ++ later) turn → IsTurnedAway asked turn }
+        → (turn : Turn) → TurnAt start left (bytes ++ more) turn rest → Moves x turn y → StandsIn (gone ++ later) turn
+        → IsTurnedAway asked turn }
 {
     next_request_is_one()
 }

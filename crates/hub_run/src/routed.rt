@@ -191,8 +191,10 @@ fn text_of_list<P: RouteLink>(
     gave: &Reply,
     close: bool,
 ) -> (Written, bool)
-    ensures asked { (came : Result (List ListedRoute) LinkError) × Grows (P.calls routes.old) ((Route.List, told_list came) ∷ []) (P.calls routes.new)
-        × SaysAsked (reply_view gave.now) (listing came) close (written_bytes result.0) result.1 × (is_fault came ≡ true → Rises (P.faults routes.old) (P.faults routes.new)) }
+    ensures asked { (came : Result (List ListedRoute) LinkError) × Grows (P.calls routes.old) ((Route.List, told_list came) ∷ [])
+        (P.calls routes.new)
+        × SaysAsked (reply_view gave.now) (listing came) close (written_bytes result.0) result.1
+        × (is_fault came ≡ true → Rises (P.faults routes.old) (P.faults routes.new)) }
     ensures counted { P.faults routes.old ≤ P.faults routes.new }
     ensures last { close ≡ true → result.1 ≡ true }
 {
@@ -222,8 +224,10 @@ fn text_of_sync<K: Keeper, T: Trail<Entry = Change>, P: RouteLink, W: Wait>(
     ensures mine { pass.new.mine ≡ pass.old.mine }
     ensures failed { pass.new.failed ≡ pass.old.failed }
     ensures comes { Comes pass.old.alone (sight pass.old) (sight pass.new) }
-    ensures asked { (start : Start) → pass.old.base ≡ Some start → (told : List (Routing × Told)) × (end : Result Synced SyncFault) × Grows (P.calls routes.old) told (P.calls routes.new)
-        × SyncTold (IsPlanFor start pass.new.seen (λ (s : Hub). s.hub_url)) told end × SaysAsked (reply_view gave.now) (syncing told end) close (written_bytes result.0) result.1
+    ensures asked { (start : Start) → pass.old.base ≡ Some start → (told : List (Routing × Told)) × (end : Result Synced SyncFault)
+        × Grows (P.calls routes.old) told (P.calls routes.new)
+        × SyncTold (IsPlanFor start pass.new.seen (λ (s : Hub). s.hub_url)) told end × SaysAsked (reply_view gave.now) (syncing told end)
+        close (written_bytes result.0) result.1
         × (end ≡ Err Fault.Routes → Rises (P.faults routes.old) (P.faults routes.new)) }
     ensures counted { P.faults routes.old ≤ P.faults routes.new }
     ensures last { close ≡ true → result.1 ≡ true }
@@ -259,7 +263,8 @@ pub(crate) fn text_of_reply<
     ensures base { pass.new.base ≡ pass.old.base }
     ensures alone { pass.new.alone ≡ pass.old.alone }
     ensures goes { (start : Start) → pass.old.base ≡ Some start
-        → GoesOn (view_of C.to_come R.left S.calls P.calls R.faults S.faults P.faults pass.old kit.old) (view_of C.to_come R.left S.calls P.calls R.faults S.faults P.faults pass.new kit.new)
+        → GoesOn (view_of C.to_come R.left S.calls P.calls R.faults S.faults P.faults pass.old kit.old)
+        (view_of C.to_come R.left S.calls P.calls R.faults S.faults P.faults pass.new kit.new)
         (spec.lets_by way (reply_view gave.now)) (reply_view gave.now) close (written_bytes result.0) result.1 }
     ensures last { close ≡ true → result.1 ≡ true }
 {

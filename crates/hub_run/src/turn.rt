@@ -59,11 +59,13 @@ fn next_reply<
     ensures last { IfOk result (λ r. last ≡ true → r.1 ≡ true) }
     ensures ok { (start : Start) → pass.old.base ≡ Some start → IfOk result (λ r. (turn : Turn) × (bytes : List ℕ)
         × Took (I.left input.old) kept.old (I.left input.new) bytes × TurnAt start (I.left input.new) bytes turn kept.new
-        × Moves (view_of C.to_come R.left S.calls P.calls R.faults S.faults P.faults pass.old kit.old) turn (view_of C.to_come R.left S.calls P.calls R.faults S.faults P.faults pass.new kit.new)
+        × Moves (view_of C.to_come R.left S.calls P.calls R.faults S.faults P.faults pass.old kit.old) turn
+        (view_of C.to_come R.left S.calls P.calls R.faults S.faults P.faults pass.new kit.new)
         × (r.1 ≡ (closes turn || last)) × (written_bytes r.0 ≡ turn_text turn r.1)) }
     ensures err { IfErr result (λ e. (bytes : List ℕ) × Took (I.left input.old) kept.old (I.left input.new) bytes
         × StopsAt (I.left input.new) bytes e
-        × (view_of C.to_come R.left S.calls P.calls R.faults S.faults P.faults pass.new kit.new ≡ view_of C.to_come R.left S.calls P.calls R.faults S.faults P.faults pass.old kit.old)) }
+        × (view_of C.to_come R.left S.calls P.calls R.faults S.faults P.faults pass.new kit.new ≡ view_of C.to_come R.left S.calls P.calls
+        R.faults S.faults P.faults pass.old kit.old)) }
     ensures kept { length kept.new ≤ head_limit }
     ensures counted { I.faults input.old ≤ I.faults input.new }
     ensures cause { result ≡ Err TurnEnd.ReadFault → Rises (I.faults input.old) (I.faults input.new) }
@@ -106,12 +108,14 @@ pub(crate) fn turn<
     ensures last { IfOk result (λ close. last ≡ true → close ≡ true) }
     ensures ok { (start : Start) → pass.old.base ≡ Some start → IfOk result (λ close. (turn : Turn) × (bytes : List ℕ)
         × Took (I.left input.old) kept.old (I.left input.new) bytes × TurnAt start (I.left input.new) bytes turn kept.new
-        × Moves (view_of C.to_come R.left S.calls P.calls R.faults S.faults P.faults pass.old kit.old) turn (view_of C.to_come R.left S.calls P.calls R.faults S.faults P.faults pass.new kit.new)
+        × Moves (view_of C.to_come R.left S.calls P.calls R.faults S.faults P.faults pass.old kit.old) turn
+        (view_of C.to_come R.left S.calls P.calls R.faults S.faults P.faults pass.new kit.new)
         × (close ≡ (closes turn || last))
         × Appends (O.held output.old) (turn_text turn close) (O.held output.new)) }
     ensures err { (start : Start) → pass.old.base ≡ Some start → IfErr result (λ e. (bytes : List ℕ)
         × Took (I.left input.old) kept.old (I.left input.new) bytes
-        × TurnEnds start last (view_of C.to_come R.left S.calls P.calls R.faults S.faults P.faults pass.old kit.old) (view_of C.to_come R.left S.calls P.calls R.faults S.faults P.faults pass.new kit.new)
+        × TurnEnds start last (view_of C.to_come R.left S.calls P.calls R.faults S.faults P.faults pass.old kit.old)
+        (view_of C.to_come R.left S.calls P.calls R.faults S.faults P.faults pass.new kit.new)
         (I.left input.new) (O.held output.old) (O.held output.new) bytes e) }
     ensures kept { length kept.new ≤ head_limit }
     ensures reads { I.faults input.old ≤ I.faults input.new }

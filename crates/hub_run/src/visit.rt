@@ -35,8 +35,10 @@ pub(crate) enum Unanswered {
 
 /// The draw of a call that draws.
 fn draw_for<R: Random>(random: &mut R, call: &Call) -> Result<Option<[u8; 16]>, Failed>
-    ensures drawn { IfOk result (λ draw. (is_some draw ≡ draws call.now) × Drew draw (R.left random.old) (R.faults random.old) (R.left random.new) (R.faults random.new)) }
-    ensures failed { IfErr result (λ e. (draws call.now ≡ true) × (R.left random.new ≡ R.left random.old) × Rises (R.faults random.old) (R.faults random.new)) }
+    ensures drawn { IfOk result (λ draw. (is_some draw ≡ draws call.now) × Drew draw (R.left random.old) (R.faults random.old)
+        (R.left random.new) (R.faults random.new)) }
+    ensures failed { IfErr result (λ e. (draws call.now ≡ true) × (R.left random.new ≡ R.left random.old)
+        × Rises (R.faults random.old) (R.faults random.new)) }
 {
     if draws(call) {
         Ok(Some(random.draw()?))
@@ -68,7 +70,8 @@ pub(crate) fn ask<
     ensures base { pass.new.base ≡ pass.old.base }
     ensures alone { pass.new.alone ≡ pass.old.alone }
     ensures asks { (start : Start) → pass.old.base ≡ Some start
-        → Asks start (view_of C.to_come R.left S.calls P.calls R.faults S.faults P.faults pass.old kit.old) (view_of C.to_come R.left S.calls P.calls R.faults S.faults P.faults pass.new kit.new) asked result }
+        → Asks start (view_of C.to_come R.left S.calls P.calls R.faults S.faults P.faults pass.old kit.old)
+        (view_of C.to_come R.left S.calls P.calls R.faults S.faults P.faults pass.new kit.new) asked result }
     // work that is given can be done
     ensures sound { IfOk result IsSoundOutcome }
 {

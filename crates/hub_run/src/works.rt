@@ -36,7 +36,8 @@ pub(crate) fn path_for(alloc: Global, call: &Call) -> Result<Text, AllocError>
     }
 }
 
-/// Does the work by the path of its server's route: makes the call that is owed, and all that are owed after it. The turn isn't held meanwhile.
+/// Does the work by the path of its server's route: makes the call that is owed, and all that are owed after it. The turn isn't held
+/// meanwhile.
 pub(crate) fn work_done<
     K: Keeper,
     T: Trail<Entry = Change>,
@@ -59,7 +60,8 @@ pub(crate) fn work_done<
     ensures base { pass.new.base ≡ pass.old.base }
     ensures alone { pass.new.alone ≡ pass.old.alone }
     ensures done { (e : Errand) × (e.work ≡ errand_of path work) × (e.owed ≡ work.todo) × (e.tale ≡ result)
-        × Drives (view_of C.to_come R.left S.calls P.calls R.faults S.faults P.faults pass.old kit.old) e (view_of C.to_come R.left S.calls P.calls R.faults S.faults P.faults pass.new kit.new) }
+        × Drives (view_of C.to_come R.left S.calls P.calls R.faults S.faults P.faults pass.old kit.old) e
+        (view_of C.to_come R.left S.calls P.calls R.faults S.faults P.faults pass.new kit.new) }
 {
     let Work {
         generation,

@@ -70,7 +70,8 @@ with_gains mine (ss ∷ rest) = with_gains (merged mine (flat_map gained ss)) re
 
 -- for each worker the connections that it served, so many in all. Each ended as it has to, and the book has the entries that the pass p had
 -- made of it before and those that they gained, each at its place, and no other
-pub record AreServed (start : Start) (p : PassState Entry Start) (entries : List Entry) (number : ℕ) (workers : List (List Session)) : Type 0 where
+pub record AreServed (start : Start) (p : PassState Entry Start) (entries : List Entry) (number : ℕ) (workers : List (List Session)) : Type
+    0 where
   pub count : count_of workers ≡ number
   pub each : All (λ ss. All (EndsOver start) ss) workers
   pub follow : All (GoFrom p) workers
@@ -90,14 +91,17 @@ devices_of to_come draws spawned linked draw_faults spawn_faults route_faults ki
 }
 
 -- how a connection ended, by the pass and the kit before and after it, and by the bytes to come and those that were written
-abbrev pub HasEnded : {S P C R : Type 0} → (C → Option (ℕ → ℕ)) → (R → Option (List (List ℕ))) → (S → Option (List (Spawning × Told))) → (P → Option (List (Routing × Told)))
+abbrev pub HasEnded : {S P C R : Type 0} → (C → Option (ℕ → ℕ)) → (R → Option (List (List ℕ))) → (S → Option (List (Spawning × Told)))
+    → (P → Option (List (Routing × Told)))
     → (R → ℕ) → (S → ℕ) → (P → ℕ) → PassState Entry Start → HubKit S P C R → Option (List ℕ) → Option (List ℕ)
     → PassState Entry Start → HubKit S P C R → Option (List ℕ) → Option (List ℕ) → Result Served SessionFault → Type 0
-HasEnded to_come draws spawned linked draw_faults spawn_faults route_faults p k left held q k' left' held' ended = (start : Start) → p.base ≡ Some start
+HasEnded to_come draws spawned linked draw_faults spawn_faults route_faults p k left held q k' left' held' ended = (start : Start)
+    → p.base ≡ Some start
     → ConnectionEnds start (view_of to_come draws spawned linked draw_faults spawn_faults route_faults p k) left held
     (view_of to_come draws spawned linked draw_faults spawn_faults route_faults q k') left' held' ended
 
-module _ {S P C R I O : Type 0} (to_come : C → Option (ℕ → ℕ)) (draws : R → Option (List (List ℕ))) (spawned : S → Option (List (Spawning × Told)))
+module _ {S P C R I O : Type 0} (to_come : C → Option (ℕ → ℕ)) (draws : R → Option (List (List ℕ)))
+    (spawned : S → Option (List (Spawning × Told)))
     (linked : P → Option (List (Routing × Told))) (draw_faults : R → ℕ) (spawn_faults : S → ℕ) (route_faults : P → ℕ)
     (left : I → Option (List ℕ)) (held : O → Option (List ℕ)) where
   abbrev view : PassState Entry Start → HubKit S P C R → View

@@ -59,21 +59,25 @@ module _ {P Q I O : Type 0} where
   GoFrom p [] = Unit {0}
   GoFrom p (c ∷ cs) = (p ≡ c.before.pass.value) × GoOn c cs
 
-  -- its two sides are those of one connection, and it ended so. How it ends is a fact of the pass, the kit and what both sides tell, before and after
-  abbrev pub IsServed : (I → O → Type 0) → (P → Q → Option (List ℕ) → Option (List ℕ) → P → Q → Option (List ℕ) → Option (List ℕ) → Result Served SessionFault → Type 0)
+  -- its two sides are those of one connection, and it ended so. How it ends is a fact of the pass, the kit and what both sides tell, before
+  -- and after
+  abbrev pub IsServed : (I → O → Type 0)
+      → (P → Q → Option (List ℕ) → Option (List ℕ) → P → Q → Option (List ℕ) → Option (List ℕ) → Result Served SessionFault → Type 0)
       → (I → Option (List ℕ)) → (O → Option (List ℕ)) → Connection P Q I O → Type 0
   IsServed are_sides ends left held c = are_sides c.before.input.value c.before.output.value
       × ends c.before.pass.value c.before.kit.value (left c.before.input.value) (held c.before.output.value)
       c.after.pass.value c.after.kit.value (left c.after.input.value) (held c.after.output.value) c.ended
 
   -- a worker that began with the pass p and the kit j served these, and has the pass q and the kit k in the end
-  abbrev pub IsShift : (I → O → Type 0) → (P → Q → Option (List ℕ) → Option (List ℕ) → P → Q → Option (List ℕ) → Option (List ℕ) → Result Served SessionFault → Type 0)
+  abbrev pub IsShift : (I → O → Type 0)
+      → (P → Q → Option (List ℕ) → Option (List ℕ) → P → Q → Option (List ℕ) → Option (List ℕ) → Result Served SessionFault → Type 0)
       → (I → Option (List ℕ)) → (O → Option (List ℕ)) → P → Q → List (Connection P Q I O) → P → Q → Type 0
   IsShift are_sides ends left held p j cs q k =
       Spans pass_before pass_after p cs q × Spans kit_before kit_after j cs k × All (IsServed are_sides ends left held) cs
 
   -- a worker that began with the pass p served these
-  abbrev pub IsWhole : (I → O → Type 0) → (P → Q → Option (List ℕ) → Option (List ℕ) → P → Q → Option (List ℕ) → Option (List ℕ) → Result Served SessionFault → Type 0)
+  abbrev pub IsWhole : (I → O → Type 0)
+      → (P → Q → Option (List ℕ) → Option (List ℕ) → P → Q → Option (List ℕ) → Option (List ℕ) → Result Served SessionFault → Type 0)
       → (I → Option (List ℕ)) → (O → Option (List ℕ)) → P → List (Connection P Q I O) → Type 0
   IsWhole are_sides ends left held p cs = GoFrom p cs × All (IsServed are_sides ends left held) cs
 

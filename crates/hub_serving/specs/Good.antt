@@ -10,7 +10,8 @@ use Rattle.hub_serving.specs.declared.plan.Plan.{Plan}
 
 -- the plan fits the rows of the chosen store, at the moment that the clock gives
 abbrev pub IsGood : {K : Type 0} → (K → Rows) → (K → Option (List ℕ) → K → Type 0) → Plan → (clock : Option (ℕ → ℕ)) → K → Type 0
-IsGood {K} rows Chooses plan clock k = (chosen : K) (now : ℕ) (later : Option (ℕ → ℕ)) → Chooses k plan.db chosen → moments.Tells clock now later
+IsGood {K} rows Chooses plan clock k = (chosen : K) (now : ℕ) (later : Option (ℕ → ℕ)) → Chooses k plan.db chosen
+    → moments.Tells clock now later
     → Fits plan.hub now (rows chosen)
 
 -- no count of the listener, the output and the store rose

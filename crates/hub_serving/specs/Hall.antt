@@ -20,7 +20,8 @@ pub record DoorsTold : Type 0 where
   pub faults : ℕ
 
 -- what the two sides of one connection tell of the bytes to come and of those that were written, when the listener gives it
-abbrev pub SidesTell : {I O : Type 0} → (I → O → Type 0) → (I → Option (List ℕ)) → (O → Option (List ℕ)) → Option (List ℕ) → Option (List ℕ) → Type 0
+abbrev pub SidesTell : {I O : Type 0} → (I → O → Type 0) → (I → Option (List ℕ)) → (O → Option (List ℕ)) → Option (List ℕ) → Option (List ℕ)
+    → Type 0
 SidesTell {I} {O} are_sides to_come written left held = (i : I) × (o : O) × are_sides i o × (to_come i ≡ left) × (written o ≡ held)
 
 -- the output, the listener, the devices by which the hub is opened and takes its servers back (the moments to come, and what the others

@@ -49,8 +49,8 @@ abbrev pub Serves : ℕ → Hall → Hall → End → Type 0
 Serves connections h h' (Ok end) = HasServed connections h h' end
 Serves connections h h' (Err why) = (why ≡ Because Memory) × IsUnserved h h'
 
--- The calls on the route link were those that bring its routes into step with the servers of the state which the pass then saw, and with the
--- hub's own target, up to one that failed. The pass made no entry, and no other device was asked
+-- The calls on the route link were those that bring its routes into step with the servers of the state which the pass then saw, and with
+-- the hub's own target, up to one that failed. The pass made no entry, and no other device was asked
 pub record Syncs (start : Start) (hub : Option (List ℕ)) (x : View) (answer : Result Synced SyncFault) (y : View) : Type 0 where
   pub same : IsSamePass x.pass y.pass
   pub comes : Comes x.pass.alone (sight x.pass) (sight y.pass)
@@ -67,8 +67,8 @@ pub record Syncs (start : Start) (hub : Option (List ℕ)) (x : View) (answer : 
   pub random : y.faults.random ≡ x.faults.random
   pub spawns : y.faults.spawner ≡ x.faults.spawner
 
--- The services of the configuration, fewer than 2^32, were tended in rounds, one before the first connection and one after each, and stopped
--- at the end; or there was no memory for them
+-- The services of the configuration, fewer than 2^32, were tended in rounds, one before the first connection and one after each, and
+-- stopped at the end; or there was no memory for them
 abbrev pub Attends : List ConfigManaged → Hall → Hall → End → Type 0
 Attends managed h h' end =
     ((length managed < 2 ^ 32) × ∥ Attended (map service_of managed) h.services h.doors.given h'.services h'.doors.given ∥₁)
@@ -92,9 +92,9 @@ served_by (Err why) = 0
 
 -- with such sides of connections
 module _ {K : Type 0} (Tells : K → Type 0) (rows : K → Rows) (faults : K → ℕ) (Sides : Option (List ℕ) → Option (List ℕ) → Type 0) where
-  -- Connections were served, as many as are told, by workers whose passes were split off this one and whose devices were handed in for them,
-  -- and the services tended. The history is what the pass had made of it and what these connections gained, and no more; and the store has
-  -- exactly the rows of the state that it left
+  -- Connections were served, as many as are told, by workers whose passes were split off this one and whose devices were handed in for
+  -- them, and the services tended. The history is what the pass had made of it and what these connections gained, and no more; and the
+  -- store has exactly the rows of the state that it left
   pub record EndsReady (start : Start) (pass : PassState Entry Start) (plan : Plan) (h h' : Hall) (k' : K) (end : End) : Type 0 where
     pub serves : Serves plan.connections h h' end
     pub services : Attends plan.managed h h' end

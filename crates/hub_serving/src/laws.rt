@@ -22,10 +22,12 @@ pub fn planned_law()
 pub fn a_good_hub_serves<K: Keeper, L: Listener>()
     ensures { (plan : Plan) (h h' : Hall) (k k' : K) (told : Option End) (status : ℕ)
         → IsGood K.rows K.Chooses plan h.clock k → K.Tells k' → NoneRose K.faults h h' k k'
-        → RunEnds K.Tells K.rows K.faults (SidesTell L.are_sides L.In.left L.Out.held) K.Chooses plan h h' k k' told status → EndsWell plan told status }
+        → RunEnds K.Tells K.rows K.faults (SidesTell L.are_sides L.In.left L.Out.held) K.Chooses plan h h' k k' told status
+        → EndsWell plan told status }
 {}
 
-/// Over a book that was opened, the history at the end has what taking the servers back gained, what the connections gained, and nothing else.
+/// Over a book that was opened, the history at the end has what taking the servers back gained, what the connections gained, and nothing
+/// else.
 pub fn a_history_is_gained<K: Keeper, L: Listener>()
     ensures { HistoriesAreGained K.Tells K.rows K.faults (SidesTell L.are_sides L.In.left L.Out.held) }
 {}

@@ -18,7 +18,8 @@ fn line_of(alloc: Global, count: u64) -> Result<String, AllocError>
 
 /// Writes `served N`.
 fn write_line<O: Sink>(alloc: Global, output: &mut O, count: u64) -> Line
-    ensures written { spec.IsWritten (spec.served_line count) (spec.stream_told O.held O.faults output.old) (spec.stream_told O.held O.faults output.new) result }
+    ensures written { spec.IsWritten (spec.served_line count) (spec.stream_told O.held O.faults output.old)
+        (spec.stream_told O.held O.faults output.new) result }
     ensures counted { O.faults output.old ≤ O.faults output.new }
 {
     match line_of(alloc, count) {
@@ -37,8 +38,11 @@ pub(crate) fn end_of<O: Sink>(
     count: u64,
     served: Result<(), ServeFault>,
 ) -> End
-    ensures ok { IfOk result (λ e. (e.count ≡ count) × (e.failed ≡ not (is_ok served)) × spec.IsWritten (spec.served_line count) (spec.stream_told O.held O.faults output.old) (spec.stream_told O.held O.faults output.new) e.line) }
-    ensures err { IfErr result (λ why. (why ≡ NotServed.Because Cause.Memory) × (served ≡ Err ServeFault.Memory) × (output.new ≡ output.old)) }
+    ensures ok { IfOk result (λ e. (e.count ≡ count) × (e.failed ≡ not (is_ok served))
+        × spec.IsWritten (spec.served_line count) (spec.stream_told O.held O.faults output.old)
+        (spec.stream_told O.held O.faults output.new) e.line) }
+    ensures err { IfErr result (λ why. (why ≡ NotServed.Because Cause.Memory) × (served ≡ Err ServeFault.Memory)
+        × (output.new ≡ output.old)) }
     ensures counted { O.faults output.old ≤ O.faults output.new }
     ensures begun { served ≡ Err ServeFault.Memory → is_ok result ≡ false }
 {

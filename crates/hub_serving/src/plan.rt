@@ -52,12 +52,13 @@ impl Drop for Plan {
     }
 }
 
-/// Reads the words `serve --config F [--db F] [--no-trail] [--workers N] [--connections N]` and their file, once. The status of a refusal is 2
-/// where the words are refused; 3 where the file can't be read, is no configuration, or names no address to listen at; and 7 where memory is
-/// wanting.
+/// Reads the words `serve --config F [--db F] [--no-trail] [--workers N] [--connections N]` and their file, once. The status of a refusal
+/// is 2 where the words are refused; 3 where the file can't be read, is no configuration, or names no address to listen at; and 7 where
+/// memory is wanting.
 pub fn read_plan<F: Files>(alloc: Global, files: &mut F, words: &[Text]) -> Result<Plan, NotServed>
     ensures ok { IfOk result (spec.IsPlanOf (serve_read words.now) (files_told F.files F.faults files.old)) }
-    ensures err { IfErr result (spec.HasNoPlan (serve_read words.now) (files_told F.files F.faults files.old) (files_told F.files F.faults files.new)) }
+    ensures err { IfErr result (spec.HasNoPlan (serve_read words.now) (files_told F.files F.faults files.old)
+        (files_told F.files F.faults files.new)) }
     ensures kept { F.files files.new ≡ F.files files.old }
     ensures counted { F.faults files.old ≤ F.faults files.new }
 {
@@ -71,7 +72,8 @@ pub fn read_plan<F: Files>(alloc: Global, files: &mut F, words: &[Text]) -> Resu
 /// What these words and their file say.
 fn plan_of<F: Files>(alloc: Global, files: &mut F, words: ServeWords) -> Result<Plan, NotServed>
     ensures ok { IfOk result (spec.IsPlan (files_told F.files F.faults files.old) words) }
-    ensures err { IfErr result (spec.IsUnplanned (files_told F.files F.faults files.old) (files_told F.files F.faults files.new) words.config) }
+    ensures err { IfErr result (spec.IsUnplanned (files_told F.files F.faults files.old) (files_told F.files F.faults files.new)
+        words.config) }
     ensures kept { F.files files.new ≡ F.files files.old }
     ensures counted { F.faults files.old ≤ F.faults files.new }
 {

@@ -260,9 +260,12 @@ fn serve_services<W: ServeWorld, T: Trail<Entry = Change> + Send, R: Threads + W
         kits.old.items)
         (map (devices_of W.Time.to_come W.Draws.left W.Starts.calls W.Paths.calls W.Draws.faults W.Starts.faults W.Paths.faults)
         kits.new.items) }
-    ensures untouched { result.2 ≡ Err ServeFault.Memory → (W.Doors.given doors.new ≡ W.Doors.given doors.old) × (W.Doors.faults doors.new ≡ W.Doors.faults doors.old) }
-    ensures tended { ∥ Tends services (services_told W.Runs.calls W.Paths.calls W.Time.to_come W.Runs.faults W.Paths.faults kit.old) (W.Doors.given doors.old)
-        result.3 (services_told W.Runs.calls W.Paths.calls W.Time.to_come W.Runs.faults W.Paths.faults kit.new) (W.Doors.given doors.new) ∥₁ }
+    ensures untouched { result.2 ≡ Err ServeFault.Memory → (W.Doors.given doors.new ≡ W.Doors.given doors.old)
+        × (W.Doors.faults doors.new ≡ W.Doors.faults doors.old) }
+    ensures tended { ∥ Tends services (services_told W.Runs.calls W.Paths.calls W.Time.to_come W.Runs.faults W.Paths.faults kit.old)
+        (W.Doors.given doors.old)
+        result.3 (services_told W.Runs.calls W.Paths.calls W.Time.to_come W.Runs.faults W.Paths.faults kit.new)
+        (W.Doors.given doors.new) ∥₁ }
 {
     let mut left = None;
     let front = Front::new(doors, kit);
@@ -330,11 +333,13 @@ fn serve_tended<
         kits.old.items)
         (map (devices_of W.Time.to_come W.Draws.left W.Starts.calls W.Paths.calls W.Draws.faults W.Starts.faults W.Paths.faults)
         kits.new.items)) }
-    ensures untouched { result.1 ≡ Err ServeFault.Memory → (W.Doors.given result.2.doors.now ≡ N.given) × (W.Doors.faults result.2.doors.now ≡ N.faults) }
+    ensures untouched { result.1 ≡ Err ServeFault.Memory → (W.Doors.given result.2.doors.now ≡ N.given)
+        × (W.Doors.faults result.2.doors.now ≡ N.faults) }
     ensures same_doors { result.2.doors.ghost_name ≡ front.entry.doors.ghost_name }
     ensures same_kit { result.2.kit.ghost_name ≡ front.entry.kit.ghost_name }
     ensures tended { IfSome left.new (λ l. ∥ Tends N.book N.told N.given l.1
-        (services_told W.Runs.calls W.Paths.calls W.Time.to_come W.Runs.faults W.Paths.faults result.2.kit.now) (W.Doors.given result.2.doors.now) ∥₁) }
+        (services_told W.Runs.calls W.Paths.calls W.Time.to_come W.Runs.faults W.Paths.faults result.2.kit.now)
+        (W.Doors.given result.2.doors.now) ∥₁) }
 {
     let mut doors = TendedDoors::<'a, W::Doors, W::Runs, W::Paths, W::Time, N>::new(
         front, services,

@@ -16,7 +16,8 @@ module _ {K L : Type 0} where
       → ((k : K) → (Own k → IsTrue (own_told k)) × (IsTrue (own_told k) → Own k))
       → ((l : L) → (Placed l → IsTrue (placed_told l)) × (IsTrue (placed_told l) → Placed l))
       → (own : K) (placed : Option L)
-      → (tells Own Placed own placed → IsTrue (is_told own_told placed_told own placed)) × (IsTrue (is_told own_told placed_told own placed) → tells Own Placed own placed)
+      → (tells Own Placed own placed → IsTrue (is_told own_told placed_told own placed))
+      × (IsTrue (is_told own_told placed_told own placed) → tells Own Placed own placed)
   decided Own Placed own_told placed_told owns places own None = owns own
   decided Own Placed own_told placed_told owns places own (Some placed) = places placed
 

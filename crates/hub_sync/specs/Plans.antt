@@ -1,5 +1,6 @@
 -- Which calls bring a proxy's routes into step with the servers.
-use Rattle.std.specs.Prelude.{◌≡◌, ℕ, ◌+◌, ◌*◌, ◌/◌, ◌%◌, ◌==◌, Bool, false, not, ◌&&◌, if◌then◌else◌, List, [], ◌∷◌, ◌++◌, codes, nat_eq, Option, Some, None}
+use Rattle.std.specs.Prelude.{◌≡◌, ℕ, ◌+◌, ◌*◌, ◌/◌, ◌%◌, ◌==◌, Bool, false, not, ◌&&◌, if◌then◌else◌, List, [], ◌∷◌, ◌++◌, codes, nat_eq}
+use Rattle.std.specs.Prelude.{Option, Some, None}
 use Rattle.std.specs.Cmp.Lexicographic.{pointwise}
 use Rattle.std.specs.List.{filter_map, list_any}
 use Rattle.hub_devices.specs.declared.calls.ListedRoute.{ListedRoute}
@@ -65,7 +66,8 @@ abbrev pub target_of : Bool → Option (List ℕ) → Hub → Option (List ℕ)
 target_of own given s = if own then s.hub_url else given
 
 -- the calls are the plan in the state that the entries lead to, for a hub whose own route leads to this target of that state
-pub record IsPlanFor (start : Start) (entries : List Entry) (hub : Hub → Option (List ℕ)) (routes : List ListedRoute) (calls : List RouteCall) : Type 0 where
+pub record IsPlanFor (start : Start) (entries : List Entry) (hub : Hub → Option (List ℕ)) (routes : List ListedRoute)
+    (calls : List RouteCall) : Type 0 where
   pub state : Hub
   pub reached : Reached start entries state
   pub plan : IsPlan state.lives (hub state) routes calls

@@ -57,7 +57,8 @@ pub record UpToFailure (calls : List RouteCall) (told : List (Routing × Told)) 
 -- what the route link was asked and told: the list, and then the calls of the plan for it. Want of memory comes before any of these.
 abbrev pub SyncTold : (List ListedRoute → List RouteCall → Type 0) → List (Routing × Told) → Result Synced SyncFault → Type 0
 SyncTold plans told (Ok s) =
-    (routes : List ListedRoute) × (calls : List RouteCall) × plans routes calls × (told ≡ (Route.List, Listed routes) ∷ map as_done calls) × AllDone calls s
+    (routes : List ListedRoute) × (calls : List RouteCall) × plans routes calls × (told ≡ (Route.List, Listed routes) ∷ map as_done calls)
+    × AllDone calls s
 SyncTold plans told (Err Fault.Routes) =
     (told ≡ (Route.List, Tell.Failed) ∷ [])
     ⊎ ((routes : List ListedRoute) × (calls : List RouteCall) × (changes : List (Routing × Told)) × plans routes calls

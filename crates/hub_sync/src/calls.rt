@@ -68,7 +68,8 @@ impl Synced {
 /// Makes the calls in order, up to the first that fails.
 pub(crate) fn make<P: RouteLink>(routes: &mut P, calls: &[RouteCall]) -> Result<Synced, Failed>
     ensures ok { IfOk result (λ s. AllDone calls.now s × Grows (P.calls routes.old) (map as_done calls.now) (P.calls routes.new)) }
-    ensures err { OnErr result ((told : List (Routing × Told)) × UpToFailure calls.now told × Grows (P.calls routes.old) told (P.calls routes.new)) }
+    ensures err { OnErr result ((told : List (Routing × Told)) × UpToFailure calls.now told
+        × Grows (P.calls routes.old) told (P.calls routes.new)) }
     ensures counted { P.faults routes.old ≤ P.faults routes.new }
     ensures cause { OnErr result (Rises (P.faults routes.old) (P.faults routes.new)) }
 {

@@ -169,7 +169,8 @@ pub(crate) fn plan_for<K: Keeper, T: Trail<Entry = Change>>(
     given: Option<&Target>,
     listed: &[ListedRoute],
 ) -> Result<Vec<RouteCall>, AllocError>
-    ensures { IfOk result (λ calls. IsPlan book.now.hub.lives (target_of own (option_copied given.entry) book.now.hub) listed.now calls.items) }
+    ensures { IfOk result (λ calls. IsPlan book.now.hub.lives (target_of own (option_copied given.entry) book.now.hub) listed.now
+        calls.items) }
 {
     if own {
         plan(alloc, book, book.hub_url(), listed)

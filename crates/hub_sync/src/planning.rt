@@ -31,7 +31,8 @@ impl<'a, K: Keeper, T: Trail<Entry = Change>> Job<Book<K, T>> for Planning<'a> {
 
     ghost acted = { λ j. j.acted };
 
-    ghost does = { λ j b r j' b'. (b' ≡ b) × IfOk r (λ calls. IsPlanFor b.start (entries_of b) (target_of j.own (option_copied j.hub)) j.listed.now calls.items) };
+    ghost does = { λ j b r j' b'. (b' ≡ b)
+        × IfOk r (λ calls. IsPlanFor b.start (entries_of b) (target_of j.own (option_copied j.hub)) j.listed.now calls.items) };
 
     fn act(&mut self, book: &mut Book<K, T>) -> Result<Vec<RouteCall>, AllocError> {
         self.acted = true;

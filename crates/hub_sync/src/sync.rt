@@ -42,7 +42,8 @@ fn ask_plan<K: Keeper, T: Trail<Entry = Change>, W: Wait>(
     ensures mine { pass.new.mine ≡ pass.old.mine }
     ensures failed { pass.new.failed ≡ pass.old.failed }
     ensures comes { Comes pass.old.alone (sight pass.old) (sight pass.new) }
-    ensures planned { (start : Start) → pass.old.base ≡ Some start → IfOk result (λ calls. IsPlanFor start pass.new.seen (target_of own (option_copied hub.entry)) listed.now calls.items) }
+    ensures planned { (start : Start) → pass.old.base ≡ Some start
+        → IfOk result (λ calls. IsPlanFor start pass.new.seen (target_of own (option_copied hub.entry)) listed.now calls.items) }
 {
     let mut planning = Planning {
         alloc,
@@ -69,7 +70,9 @@ fn sync_with<K: Keeper, T: Trail<Entry = Change>, P: RouteLink, W: Wait>(
     ensures mine { pass.new.mine ≡ pass.old.mine }
     ensures failed { pass.new.failed ≡ pass.old.failed }
     ensures comes { Comes pass.old.alone (sight pass.old) (sight pass.new) }
-    ensures told { (start : Start) → pass.old.base ≡ Some start → (told : List (Routing × Told)) × Grows (P.calls routes.old) told (P.calls routes.new) × SyncTold (IsPlanFor start pass.new.seen (target_of own (option_copied hub.entry))) told result }
+    ensures told { (start : Start) → pass.old.base ≡ Some start → (told : List (Routing × Told))
+        × Grows (P.calls routes.old) told (P.calls routes.new)
+        × SyncTold (IsPlanFor start pass.new.seen (target_of own (option_copied hub.entry))) told result }
     ensures counted { P.faults routes.old ≤ P.faults routes.new }
     ensures cause { result ≡ Err Fault.Routes → Rises (P.faults routes.old) (P.faults routes.new) }
 {
@@ -104,7 +107,9 @@ pub fn sync_routes<K: Keeper, T: Trail<Entry = Change>, P: RouteLink, W: Wait>(
     ensures mine { pass.new.mine ≡ pass.old.mine }
     ensures failed { pass.new.failed ≡ pass.old.failed }
     ensures comes { Comes pass.old.alone (sight pass.old) (sight pass.new) }
-    ensures told { (start : Start) → pass.old.base ≡ Some start → (told : List (Routing × Told)) × Grows (P.calls routes.old) told (P.calls routes.new) × SyncTold (IsPlanAt start pass.new.seen (option_copied hub.entry)) told result }
+    ensures told { (start : Start) → pass.old.base ≡ Some start → (told : List (Routing × Told))
+        × Grows (P.calls routes.old) told (P.calls routes.new) × SyncTold (IsPlanAt start pass.new.seen (option_copied hub.entry)) told
+        result }
     ensures counted { P.faults routes.old ≤ P.faults routes.new }
     ensures cause { result ≡ Err Fault.Routes → Rises (P.faults routes.old) (P.faults routes.new) }
 {
@@ -124,7 +129,9 @@ pub fn sync_own_routes<K: Keeper, T: Trail<Entry = Change>, P: RouteLink, W: Wai
     ensures mine { pass.new.mine ≡ pass.old.mine }
     ensures failed { pass.new.failed ≡ pass.old.failed }
     ensures comes { Comes pass.old.alone (sight pass.old) (sight pass.new) }
-    ensures told { (start : Start) → pass.old.base ≡ Some start → (told : List (Routing × Told)) × Grows (P.calls routes.old) told (P.calls routes.new) × SyncTold (IsPlanFor start pass.new.seen (λ (s : Hub). s.hub_url)) told result }
+    ensures told { (start : Start) → pass.old.base ≡ Some start → (told : List (Routing × Told))
+        × Grows (P.calls routes.old) told (P.calls routes.new) × SyncTold (IsPlanFor start pass.new.seen (λ (s : Hub). s.hub_url)) told
+        result }
     ensures counted { P.faults routes.old ≤ P.faults routes.new }
     ensures cause { result ≡ Err Fault.Routes → Rises (P.faults routes.old) (P.faults routes.new) }
 {

@@ -83,7 +83,8 @@ pub data Kind : Type 0 where
   GrantCodes : Kind
   Nexts : Kind
 
--- each row of the kind stands under its own key, those with a hash are found by it, tokens and shares by their owners and parties, and groups and roles by their members
+-- each row of the kind stands under its own key, those with a hash are found by it, tokens and shares by their owners and parties, and
+-- groups and roles by their members
 abbrev pub IsKept : Trees → Kind → Type 0
 IsKept t Users = OwnKeys {R = name_cmp} (λ row. row.name) (map_of name_cmp t.users)
 IsKept t Groups = AreGroupsKept t.groups t.group_users

@@ -72,7 +72,8 @@ tokens_of s owner = map (λ (k : Token). k.id) (filter (λ (k : Token). same_own
 
 -- the ids of an owner's tokens that are over, in order
 abbrev pub tokens_over : State → Owner → (now : ℕ) → List ℕ
-tokens_over s owner now = map (λ (k : Token). k.id) (filter (λ (k : Token). same_owner k.owner owner && is_over now k.expires_at) (values s.tokens))
+tokens_over s owner now = map (λ (k : Token). k.id)
+    (filter (λ (k : Token). same_owner k.owner owner && is_over now k.expires_at) (values s.tokens))
 
 -- the keys of a user's servers, in order
 abbrev pub servers_of : State → (user : List ℕ) → List ServerKey

@@ -129,9 +129,12 @@ fn follow_role(
     old: &Option<Role>,
     indexes: &mut RoleIndexes,
 )
-    ensures users { IsRowFollowed name_cmp name_cmp (λ (role : Role). role.users) name.now old.now (map_of name_cmp rows.now) indexes.old.users indexes.new.users }
-    ensures groups { IsRowFollowed name_cmp name_cmp (λ (role : Role). role.groups) name.now old.now (map_of name_cmp rows.now) indexes.old.groups indexes.new.groups }
-    ensures services { IsRowFollowed name_cmp name_cmp (λ (role : Role). role.services) name.now old.now (map_of name_cmp rows.now) indexes.old.services indexes.new.services }
+    ensures users { IsRowFollowed name_cmp name_cmp (λ (role : Role). role.users) name.now old.now (map_of name_cmp rows.now)
+        indexes.old.users indexes.new.users }
+    ensures groups { IsRowFollowed name_cmp name_cmp (λ (role : Role). role.groups) name.now old.now (map_of name_cmp rows.now)
+        indexes.old.groups indexes.new.groups }
+    ensures services { IsRowFollowed name_cmp name_cmp (λ (role : Role). role.services) name.now old.now (map_of name_cmp rows.now)
+        indexes.old.services indexes.new.services }
 {
     follow_row(alloc, rows, name, old, &mut indexes.users);
     follow_row(alloc, rows, name, old, &mut indexes.groups);

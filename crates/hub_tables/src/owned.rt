@@ -14,7 +14,8 @@ ghost use Rattle.hub_tables.specs.Hashes.{FitsToken};
 ghost use Rattle.hub_tables.specs.Ends.{is_over};
 ghost use Rattle.hub_tables.specs.Lookups.{same_recipient};
 ghost use Rattle.hub_tables.specs.Rooms.{for_memory};
-ghost use Rattle.hub_tables.specs.Parties.{party_cmp, of_recipient, giver_of, is_numbered, is_token_of, is_over_token_of, is_share_of, of_owner};
+ghost use Rattle.hub_tables.specs.Parties.{party_cmp, of_recipient, giver_of, is_numbered, is_token_of, is_over_token_of, is_share_of};
+ghost use Rattle.hub_tables.specs.Parties.{of_owner};
 
 use crate::boxed::KeptToken;
 use crate::parties::{Party, giver_of, of_owner, of_recipient, owner_number};
@@ -151,7 +152,8 @@ pub(crate) fn own_ids(
     ids: &[u64],
     owner: &Owner,
 ) -> Result<Vec<u64>, AllocError>
-    ensures { IfOk result (λ own. own.items ≡ filter (λ id. is_kept_and (is_token_of (of_owner owner.now)) (map.get (map_of nat_cmp rows.now) id)) ids.now) }
+    ensures { IfOk result (λ own. own.items
+        ≡ filter (λ id. is_kept_and (is_token_of (of_owner owner.now)) (map.get (map_of nat_cmp rows.now) id)) ids.now) }
 {
     let party = of_owner(owner);
     let mut own = Vec::new(alloc);
@@ -171,7 +173,8 @@ pub(crate) fn own_ids_over(
     owner: &Owner,
     now: Moment,
 ) -> Result<Vec<u64>, AllocError>
-    ensures { IfOk result (λ over. over.items ≡ filter (λ id. is_kept_and (is_over_token_of (of_owner owner.now) now) (map.get (map_of nat_cmp rows.now) id)) ids.now) }
+    ensures { IfOk result (λ over. over.items
+        ≡ filter (λ id. is_kept_and (is_over_token_of (of_owner owner.now) now) (map.get (map_of nat_cmp rows.now) id)) ids.now) }
 {
     let party = of_owner(owner);
     let mut over = Vec::new(alloc);
@@ -220,11 +223,13 @@ pub(crate) fn put_share(
     room: Option<Room>,
 ) -> Result<(), PutError>
     requires own { OwnKeys (λ share. share.key) (map_of share_cmp rows.old) }
-    requires owned { IsIndex party_cmp share_cmp is_share_of (map_of share_cmp rows.old) (map_of (owned_cmp party_cmp share_cmp) parties.old) }
+    requires owned { IsIndex party_cmp share_cmp is_share_of (map_of share_cmp rows.old)
+        (map_of (owned_cmp party_cmp share_cmp) parties.old) }
     ensures answer { IsAnswerIn room (map_of share_cmp rows.old) value.key result }
     ensures ok { OnOk result (map_of share_cmp rows.new ≡ map.insert (map_of share_cmp rows.old) value.key value) }
     ensures err { OnErr result (map_of share_cmp rows.new ≡ map_of share_cmp rows.old) }
-    ensures owned { IsIndex party_cmp share_cmp is_share_of (map_of share_cmp rows.new) (map_of (owned_cmp party_cmp share_cmp) parties.new) }
+    ensures owned { IsIndex party_cmp share_cmp is_share_of (map_of share_cmp rows.new)
+        (map_of (owned_cmp party_cmp share_cmp) parties.new) }
 {
     let key = value.key;
     let giver = giver_of(&key);
@@ -242,10 +247,15 @@ pub(crate) fn put_share(
 
 /// Puts the key of a share under the user whose server it is, and under the recipient. Without memory it may stand under the user alone.
 fn note_parties(parties: &mut Parties<ShareKey>, key: &ShareKey) -> Result<(), AllocError>
-    ensures ok { OnOk result ((party : Party) (k : ShareKey) → map.contains_key (map_of (owned_cmp party_cmp share_cmp) parties.new) (under party k)
-        ≡ (((eq_by_cmp party_cmp party (giver_of key.now) || eq_by_cmp party_cmp party (of_recipient key.now.to)) && eq_by_cmp share_cmp k key.now) || map.contains_key (map_of (owned_cmp party_cmp share_cmp) parties.old) (under party k))) }
-    ensures err { OnErr result ((party : Party) (k : ShareKey) → (not (eq_by_cmp party_cmp party (giver_of key.now) && eq_by_cmp share_cmp k key.now) && map.contains_key (map_of (owned_cmp party_cmp share_cmp) parties.new) (under party k))
-        ≡ (not (eq_by_cmp party_cmp party (giver_of key.now) && eq_by_cmp share_cmp k key.now) && map.contains_key (map_of (owned_cmp party_cmp share_cmp) parties.old) (under party k))) }
+    ensures ok { OnOk result ((party : Party) (k : ShareKey) → map.contains_key (map_of (owned_cmp party_cmp share_cmp) parties.new)
+        (under party k)
+        ≡ (((eq_by_cmp party_cmp party (giver_of key.now) || eq_by_cmp party_cmp party (of_recipient key.now.to))
+        && eq_by_cmp share_cmp k key.now) || map.contains_key (map_of (owned_cmp party_cmp share_cmp) parties.old) (under party k))) }
+    ensures err { OnErr result ((party : Party) (k : ShareKey)
+        → (not (eq_by_cmp party_cmp party (giver_of key.now) && eq_by_cmp share_cmp k key.now)
+        && map.contains_key (map_of (owned_cmp party_cmp share_cmp) parties.new) (under party k))
+        ≡ (not (eq_by_cmp party_cmp party (giver_of key.now) && eq_by_cmp share_cmp k key.now)
+        && map.contains_key (map_of (owned_cmp party_cmp share_cmp) parties.old) (under party k))) }
 {
     note(parties, &giver_of(key), key)?;
     note(parties, &of_recipient(&key.to), key)
@@ -258,10 +268,12 @@ pub(crate) fn remove_share(
     key: &ShareKey,
 ) -> bool
     requires own { OwnKeys (λ share. share.key) (map_of share_cmp rows.old) }
-    requires owned { IsIndex party_cmp share_cmp is_share_of (map_of share_cmp rows.old) (map_of (owned_cmp party_cmp share_cmp) parties.old) }
+    requires owned { IsIndex party_cmp share_cmp is_share_of (map_of share_cmp rows.old)
+        (map_of (owned_cmp party_cmp share_cmp) parties.old) }
     ensures there { result ≡ map.contains_key (map_of share_cmp rows.old) key.now }
     ensures removed { map_of share_cmp rows.new ≡ map.remove (map_of share_cmp rows.old) key.now }
-    ensures owned { IsIndex party_cmp share_cmp is_share_of (map_of share_cmp rows.new) (map_of (owned_cmp party_cmp share_cmp) parties.new) }
+    ensures owned { IsIndex party_cmp share_cmp is_share_of (map_of share_cmp rows.new)
+        (map_of (owned_cmp party_cmp share_cmp) parties.new) }
 {
     forget(parties, &giver_of(key), key);
     forget(parties, &of_recipient(&key.to), key);
@@ -274,7 +286,8 @@ pub(crate) fn share_keys_to(
     parties: &Parties<ShareKey>,
     to: &Recipient,
 ) -> Result<Vec<ShareKey>, AllocError>
-    ensures { IfOk result (λ keys. keys.items ≡ filter (λ key. same_recipient key.to to.now) (keys_under party_cmp (of_recipient to.now) (map.keys (map_of (owned_cmp party_cmp share_cmp) parties.now)))) }
+    ensures { IfOk result (λ keys. keys.items ≡ filter (λ key. same_recipient key.to to.now)
+        (keys_under party_cmp (of_recipient to.now) (map.keys (map_of (owned_cmp party_cmp share_cmp) parties.now)))) }
 {
     let party = of_recipient(to);
     let first = OwnedKey {

@@ -57,7 +57,22 @@ impl Model for Tables {
 impl Tables {
     /// Tables with no rows, which take no memory.
     pub fn new(alloc: Global, limits: Limits, scopes: ScopeTable) -> Tables
-        ensures { result ≡ record { users = map.empty; groups = map.empty; services = map.empty; roles = map.empty; tokens = map.empty; servers = map.empty; leases = map.empty; shares = map.empty; codes = map.empty; clients = map.empty; grant_codes = map.empty; nexts = map.empty; limits = limits; scopes = scopes } }
+        ensures { result ≡ record {
+          users = map.empty;
+          groups = map.empty;
+          services = map.empty;
+          roles = map.empty;
+          tokens = map.empty;
+          servers = map.empty;
+          leases = map.empty;
+          shares = map.empty;
+          codes = map.empty;
+          clients = map.empty;
+          grant_codes = map.empty;
+          nexts = map.empty;
+          limits = limits;
+          scopes = scopes;
+        } }
     {
         Tables {
             trees: Trees::new(alloc),

@@ -3,7 +3,9 @@
 use Rattle.std.specs.Prelude.{ℕ, Bool, true, false, ◌&&◌, ◌||◌, List, [], ◌∷◌, ◌++◌, map, filter, codes, Option, Some, None}
 use Rattle.hub_kit.specs.declared.names.ServerKey.{ServerKey}
 use Rattle.scope_names.specs.declared.action.Action.{Action}
-use Rattle.scope_names.specs.declared.action.Action.TheVariants.{AccessServers, ReadUsersName, ReadUsers, ReadUsersGroups, ReadUsersActivity, ReadRolesUsers, ReadServers, ReadGroupsName, ReadGroups, ReadRolesGroups, ReadServicesName, ReadRolesServices}
+use Rattle.scope_names.specs.declared.action.Action.TheVariants.{AccessServers, ReadUsersName, ReadUsers, ReadUsersGroups}
+use Rattle.scope_names.specs.declared.action.Action.TheVariants.{ReadUsersActivity, ReadRolesUsers, ReadServers, ReadGroupsName, ReadGroups}
+use Rattle.scope_names.specs.declared.action.Action.TheVariants.{ReadRolesGroups, ReadServicesName, ReadRolesServices}
 use Rattle.scope_filters.specs.declared.object.Object.{Object}
 use Rattle.scope_filters.specs.declared.object.Object.TheVariants as Ob
 use Rattle.scope_filters.specs.declared.scope.RawScope.{RawScope}
@@ -87,7 +89,8 @@ access_member may None = []
 access_member may (Some k) = member true (codes "access") (truth (may AccessServers (Ob.Server k)))
 
 abbrev pub user_identity : Rights → UserFacts → List RawScope → Option ServerKey → Json
-user_identity may u scopes server = pairs (access_member may server ++ user_members may true u ++ scopes_member scopes ++ servers_member may u)
+user_identity may u scopes server = pairs (access_member may server ++ user_members may true u ++ scopes_member scopes ++ servers_member may
+    u)
 
 abbrev pub service_identity : Rights → List ℕ → List (List ℕ) → List RawScope → Option ServerKey → Json
 service_identity may v roles scopes server = pairs (access_member may server ++ service_members may true v roles ++ scopes_member scopes)

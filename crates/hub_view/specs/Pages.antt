@@ -1,5 +1,6 @@
 -- Lists in pages.
-use Rattle.std.specs.Prelude.{ℕ, ◌+◌, Bool, nat_le, min, filter, if◌then◌else◌, List, [], ◌∷◌, ◌++◌, length, take, drop, decimal, codes, Option, Some, None}
+use Rattle.std.specs.Prelude.{ℕ, ◌+◌, Bool, nat_le, min, filter, if◌then◌else◌, List, [], ◌∷◌, ◌++◌, length, take, drop, decimal, codes}
+use Rattle.std.specs.Prelude.{Option, Some, None}
 use Rattle.std.specs.FinMap.{FinMap, keys}
 use Rattle.std.specs.declared.cmp.Ordering.{Ordering}
 use Rattle.hub_view.specs.Json.{Json, line, whole, maybe, items, pairs}

@@ -35,7 +35,8 @@ impl Fields {
 
     /// Adds a member where it is shown. Keys have to come in the order of their bytes.
     pub fn add(&mut self, shown: bool, key: Word, value: Result<Body, AllocError>)
-        ensures { (before : List Member) (json : Json) → holds self.old before → IfOk value (λ body. body_tokens body ≡ json) → holds self.new (before ++ member shown (word_text key) json) }
+        ensures { (before : List Member) (json : Json) → holds self.old before → IfOk value (λ body. body_tokens body ≡ json)
+            → holds self.new (before ++ member shown (word_text key) json) }
     {
         let added = match value {
             Ok(value) => push_shown(&mut self.list, shown, key, value),

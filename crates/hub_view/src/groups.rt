@@ -69,7 +69,8 @@ pub fn add_service<M: Members>(
     service: &ServiceName,
     roles: &[RoleName],
 )
-    ensures { (before : List Member) → holds fields.old before → holds fields.new (before ++ spec.service_members (grant_admits (M.context m.now) rights.now) named service.now roles.now) }
+    ensures { (before : List Member) → holds fields.old before
+        → holds fields.new (before ++ spec.service_members (grant_admits (M.context m.now) rights.now) named service.now roles.now) }
 {
     let object = Object::Service(*service);
     let named = named || admits(rights, Action::ReadServicesName, &object, m);

@@ -32,7 +32,8 @@ pub fn user_identity<M: Members>(
     token_scopes: &[RawScope],
     server: &Option<ServerKey>,
 ) -> Result<Body, AllocError>
-    ensures { IfOk result (λ body. body_tokens body ≡ spec.user_identity (grant_admits (M.context m.now) rights.now) facts.now token_scopes.now server.now) }
+    ensures { IfOk result (λ body. body_tokens body ≡ spec.user_identity (grant_admits (M.context m.now) rights.now) facts.now
+        token_scopes.now server.now) }
 {
     let mut fields = access(alloc, m, rights, server);
     add_user(alloc, m, rights, &mut fields, true, facts);
@@ -51,7 +52,8 @@ pub fn service_identity<M: Members>(
     token_scopes: &[RawScope],
     server: &Option<ServerKey>,
 ) -> Result<Body, AllocError>
-    ensures { IfOk result (λ body. body_tokens body ≡ spec.service_identity (grant_admits (M.context m.now) rights.now) service.now roles.now token_scopes.now server.now) }
+    ensures { IfOk result (λ body. body_tokens body ≡ spec.service_identity (grant_admits (M.context m.now) rights.now) service.now
+        roles.now token_scopes.now server.now) }
 {
     let mut fields = access(alloc, m, rights, server);
     add_service(alloc, m, rights, &mut fields, true, service, roles);

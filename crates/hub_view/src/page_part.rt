@@ -29,7 +29,8 @@ pub fn part_of<K: Key + Copy, V>(
     admitted: &Admitted<K>,
     page: Page,
 ) -> Result<PagePart<K>, AllocError>
-    ensures names { IfOk result (λ part. part.names.items ≡ in_page page (kept (is_admitted K.Ord.cmp admitted.now) (map_of K.Ord.cmp rows.now))) }
+    ensures names { IfOk result (λ part. part.names.items ≡ in_page page
+        (kept (is_admitted K.Ord.cmp admitted.now) (map_of K.Ord.cmp rows.now))) }
     ensures total { IfOk result (λ part. part.total ≡ length (kept (is_admitted K.Ord.cmp admitted.now) (map_of K.Ord.cmp rows.now))) }
 {
     match admitted {

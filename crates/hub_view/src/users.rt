@@ -48,7 +48,8 @@ pub fn add_user<M: Members>(
     named: bool,
     facts: &UserFacts,
 )
-    ensures { (before : List Member) → holds fields.old before → holds fields.new (before ++ spec.user_members (grant_admits (M.context m.now) rights.now) named facts.now) }
+    ensures { (before : List Member) → holds fields.old before
+        → holds fields.new (before ++ spec.user_members (grant_admits (M.context m.now) rights.now) named facts.now) }
 {
     let user = &facts.user;
     let shown = shown_fields(m, rights, named, &user.name);
@@ -99,7 +100,8 @@ pub fn add_servers<M: Members>(
     fields: &mut Fields,
     facts: &UserFacts,
 )
-    ensures { (before : List Member) → holds fields.old before → holds fields.new (before ++ spec.servers_member (grant_admits (M.context m.now) rights.now) facts.now) }
+    ensures { (before : List Member) → holds fields.old before
+        → holds fields.new (before ++ spec.servers_member (grant_admits (M.context m.now) rights.now) facts.now) }
 {
     let object = Object::User(facts.user.name);
     match shown_servers(alloc, m, rights, facts.servers.as_slice()) {

@@ -1,5 +1,6 @@
 -- The deletions of a round, and what a hub answered.
-use Rattle.std.specs.Prelude.{◌≡◌, ◌⊎◌, ℕ, ◌==◌, ◌&&◌, ◌||◌, Bool, true, false, not, List, [], ◌∷◌, ◌++◌, length, filter, Option, Some, None, Result, Ok, Err}
+use Rattle.std.specs.Prelude.{◌≡◌, ◌⊎◌, ℕ, ◌==◌, ◌&&◌, ◌||◌, Bool, true, false, not, List, [], ◌∷◌, ◌++◌, length, filter, Option, Some}
+use Rattle.std.specs.Prelude.{None, Result, Ok, Err}
 use Rattle.hub_devices.specs.declared.link_error.LinkError.{LinkError}
 use Rattle.hub_devices.specs.declared.link_error.LinkError.TheVariants as Link
 use Rattle.hub_link.specs.Links.{Exchange}

@@ -1,10 +1,12 @@
 //! The deletions of a round.
-ghost use Rattle.std.specs.Prelude.{◌≡◌, ◌≤◌, ◌<◌, ◌+◌, ◌-◌, ◌^◌, ℕ, List, Bool, true, if◌then◌else◌, [], ◌∷◌, Ok, IfOk, IfErr, OnOk, Result};
+ghost use Rattle.std.specs.Prelude.{◌≡◌, ◌≤◌, ◌<◌, ◌+◌, ◌-◌, ◌^◌, ℕ, List, Bool, true, if◌then◌else◌, [], ◌∷◌, Ok, IfOk, IfErr, OnOk};
+ghost use Rattle.std.specs.Prelude.{Result};
 ghost use Rattle.std.specs.Prelude as prelude;
 ghost use Rattle.hub_devices.specs.declared.link_error.LinkError.{LinkError};
 ghost use Rattle.hub_devices.specs.Faults.{Rises};
 ghost use Rattle.hub_link.specs.Links.{Exchange, Asks};
-ghost use Rattle.idle_culler.specs.Deletions.{HasStatus, Deletes, DeletesAll, BeginsDeletion, BeginsDeletions, Removes, IsLinkFault, culled_count, refused_count};
+ghost use Rattle.idle_culler.specs.Deletions.{HasStatus, Deletes, DeletesAll, BeginsDeletion, BeginsDeletions, Removes, IsLinkFault};
+ghost use Rattle.idle_culler.specs.Deletions.{culled_count, refused_count};
 ghost use Rattle.idle_culler.specs.Deletions as spec;
 ghost use Rattle.idle_culler.specs.Requests as requests;
 

@@ -9,7 +9,9 @@ use Rattle.hub_machine.specs.State.{Hub}
 use Rattle.hub_machine.specs.Replies.{Outcome, answered, working}
 use Rattle.hub_machine.specs.declared.call.Asked.{Asked}
 use Rattle.hub_machine.specs.declared.call.Call.{Call}
-use Rattle.hub_machine.specs.declared.call.Call.TheVariants.{GetVersion, GetInfo, GetIdentity, GetUsers, GetUser, GetTokens, GetToken, GetShares, GetCodes, GetGroups, GetGroup, GetServices, GetService, GetRoles, GetRole}
+use Rattle.hub_machine.specs.declared.call.Call.TheVariants.{GetVersion, GetInfo, GetIdentity, GetUsers, GetUser, GetTokens, GetToken}
+use Rattle.hub_machine.specs.declared.call.Call.TheVariants.{GetShares, GetCodes, GetGroups, GetGroup, GetServices, GetService, GetRoles}
+use Rattle.hub_machine.specs.declared.call.Call.TheVariants.{GetRole}
 use Rattle.hub_core.specs.Answer.{is_past}
 
 -- the calls whose method is GET, but for an authorization, which makes a code, and for the routes of the proxy, which come from outside

@@ -133,7 +133,8 @@ pub record SameUser (k : Token) (s t : Hub) (u : List ℕ) (x y : User) : Type 0
   pub last_activity : May s k A.ReadUsersActivity (Ob.User u) → x.last_activity ≡ y.last_activity
   pub groups : May s k A.ReadUsersGroups (Ob.User u) → groups_of s.tables u ≡ groups_of t.tables u
   pub roles : May s k A.ReadRolesUsers (Ob.User u) → roles_of_user s.tables x ≡ roles_of_user t.tables y
-  pub servers : (name : List ℕ) → May s k A.ReadServers (Ob.Server (server u name)) → server_seen s (server u name) ≡ server_seen t (server u name)
+  pub servers : (name : List ℕ) → May s k A.ReadServers (Ob.Server (server u name))
+      → server_seen s (server u name) ≡ server_seen t (server u name)
 
 pub record SameGroup (k : Token) (s t : Hub) (g : List ℕ) (x y : Group) : Type 0 where
   pub users : May s k A.ReadGroups (Ob.Group g) → x.users ≡ y.users

@@ -32,7 +32,8 @@ ghost use Rattle.isolation.specs.Isolation.{is_get, Finds, apart};
 /// revision. It does nothing: its contract is the law.
 pub fn a_token_sees_its_part()
     ensures { (s t : Hub) (now : ℕ) (draw draw' : Option (List ℕ)) (asked : Asked) (k : Token) (r r' : Answer) (length length' : ℕ)
-        → IsTrue (is_get asked.call) → Finds s asked k → Finds t asked k → SeesSame k s t → Answers s now draw asked r → Answers t now draw' asked r'
+        → IsTrue (is_get asked.call) → Finds s asked k → Finds t asked k → SeesSame k s t → Answers s now draw asked r
+        → Answers t now draw' asked r'
         → apart (outcome_of length r) ≡ apart (outcome_of length' r') }
 {}
 

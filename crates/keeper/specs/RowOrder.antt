@@ -13,4 +13,5 @@ abbrev pub key_cmp : RowKey → RowKey → Ordering
 key_cmp a b = ordering_then (nat_cmp a.kind b.kind) (name_cmp a.key b.key)
 
 pub key_exact : IsAntisymmetric key_cmp
-key_exact a b h = ap (λ (p : ℕ × List ℕ). record { kind = p.0; key = p.1 }) (exact_pairs nat_cmp name_cmp nat_cmp-IsAntisymmetric exact_bytes (a.kind, a.key) (b.kind, b.key) h)
+key_exact a b h = ap (λ (p : ℕ × List ℕ). record { kind = p.0; key = p.1 })
+    (exact_pairs nat_cmp name_cmp nat_cmp-IsAntisymmetric exact_bytes (a.kind, a.key) (b.kind, b.key) h)

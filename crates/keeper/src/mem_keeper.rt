@@ -58,7 +58,8 @@ impl Keeper for MemKeeper {
 
     fn choose(&mut self, _place: Option<&Text>) -> Result<(), KeeperError>
         ensures chosen { OnOk result (AreSame (held (map_of key_cmp self.new.rows)) (held (map_of key_cmp self.old.rows))) }
-        ensures own { place_of _place.entry ≡ None → ⊤ → ⊤ × AreSame (held (map_of key_cmp self.new.rows)) (held (map_of key_cmp self.old.rows)) }
+        ensures own { place_of _place.entry ≡ None → ⊤
+            → ⊤ × AreSame (held (map_of key_cmp self.new.rows)) (held (map_of key_cmp self.old.rows)) }
         ensures err { OnErr result (⊤ → ⊤ × AreSame (held (map_of key_cmp self.new.rows)) (held (map_of key_cmp self.old.rows))) }
         ensures counted { self.old.script.faults ≤ self.new.script.faults }
         ensures cause { IfErr result (λ e. e ≡ KeeperError.Failed → Rises self.old.script.faults self.new.script.faults) }
@@ -90,7 +91,8 @@ impl Keeper for MemKeeper {
 
     fn commit(&mut self, batch: &Batch) -> Result<(), KeeperError>
         ensures told { ⊤ → ⊤ }
-        ensures ok { ⊤ → OnOk result (AreSame (held (map_of key_cmp self.new.rows)) (after_items batch.now (held (map_of key_cmp self.old.rows)))) }
+        ensures ok { ⊤ → OnOk result (AreSame (held (map_of key_cmp self.new.rows))
+            (after_items batch.now (held (map_of key_cmp self.old.rows)))) }
         ensures err { ⊤ → OnErr result (AreSame (held (map_of key_cmp self.new.rows)) (held (map_of key_cmp self.old.rows))) }
         ensures counted { self.old.script.faults ≤ self.new.script.faults }
         ensures cause { IfErr result (λ e. e ≡ KeeperError.Failed → Rises self.old.script.faults self.new.script.faults) }

@@ -81,4 +81,5 @@ module _ {S : Type 0} (g : Ghosts S) where
 
   -- a store without tables has no rows
   abbrev pub IsLoaded : Held S → Held S → List Kept → Type 0
-  IsLoaded old new all = (HasNoTables (state g old).now.schema × (all ≡ [])) ⊎ ((¬ HasNoTables (state g old).now.schema) × IsListed old new all)
+  IsLoaded old new all = (HasNoTables (state g old).now.schema × (all ≡ []))
+      ⊎ ((¬ HasNoTables (state g old).now.schema) × IsListed old new all)

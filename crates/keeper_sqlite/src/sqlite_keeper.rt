@@ -88,14 +88,20 @@ impl<S: Alter + Drop> SqliteKeeper<S> {
         connection: Connection<S>,
     ) -> Result<SqliteKeeper<S>, (KeeperError, Connection<S>)>
         ensures faults { IfOk result (λ k. k.faults ≡ 0) }
-        ensures clean { MatchResult result (λ k. doubt (state S.Store connection).is_clean ≤ doubt (state S.Store k.connection).is_clean) (λ e. doubt (state S.Store connection).is_clean ≤ doubt (state S.Store e.1).is_clean) }
-        ensures stays { MatchResult result (λ k. StaysOpen (state S.Store connection) (state S.Store k.connection)) (λ e. StaysOpen (state S.Store connection) (state S.Store e.1)) }
-        ensures open { IfOk result (λ k. HasCleanDisk (state S.Store k.connection) → IsTrue (state S.Store connection).is_open → IsTrue (state S.Store k.connection).is_open) }
-        ensures stands { MatchResult result (λ k. HasCleanDisk (state S.Store k.connection) → Stands S.Store connection k.connection) (λ e. HasCleanDisk (state S.Store e.1) → Stands S.Store connection e.1) }
+        ensures clean { MatchResult result (λ k. doubt (state S.Store connection).is_clean ≤ doubt (state S.Store k.connection).is_clean)
+            (λ e. doubt (state S.Store connection).is_clean ≤ doubt (state S.Store e.1).is_clean) }
+        ensures stays { MatchResult result (λ k. StaysOpen (state S.Store connection) (state S.Store k.connection))
+            (λ e. StaysOpen (state S.Store connection) (state S.Store e.1)) }
+        ensures open { IfOk result (λ k. HasCleanDisk (state S.Store k.connection) → IsTrue (state S.Store connection).is_open
+            → IsTrue (state S.Store k.connection).is_open) }
+        ensures stands { MatchResult result (λ k. HasCleanDisk (state S.Store k.connection) → Stands S.Store connection k.connection)
+            (λ e. HasCleanDisk (state S.Store e.1) → Stands S.Store connection e.1) }
         ensures known { IfOk result (λ k. IsTrue k.is_own → IsOwned S.Store k.connection) }
-        ensures only { IfOk result (λ k. HasCleanDisk (state S.Store k.connection) → connection.in_transaction ≡ false → IsOwnStore (state S.Store connection).now → IsTrue k.is_own) }
+        ensures only { IfOk result (λ k. HasCleanDisk (state S.Store k.connection) → connection.in_transaction ≡ false
+            → IsOwnStore (state S.Store connection).now → IsTrue k.is_own) }
         ensures fresh { connection.in_transaction ≡ false → connection.schema ≡ no_schema → IsOkAnd result (λ k. IsTrue k.is_own) }
-        ensures unread { IfErr result (λ e. HasCleanDisk (state S.Store e.1) → IsNotRead (state S.Store connection) (state S.Store e.1) e.0) }
+        ensures unread { IfErr result (λ e. HasCleanDisk (state S.Store e.1)
+            → IsNotRead (state S.Store connection) (state S.Store e.1) e.0) }
     {
         let mut connection = connection;
         match store::is_own(&mut connection) {
@@ -179,15 +185,20 @@ impl<S: Alter + Drop> Keeper for SqliteKeeper<S> {
         ensures counted { self.old.faults ≤ self.new.faults }
         ensures cause { IfErr result (λ e. e ≡ KeeperError.Failed → Rises self.old.faults self.new.faults) }
         ensures faults { self.new.faults ≡ faults_after result self.old.faults }
-        ensures listed { IsTold S.Store self.new.connection self.new.is_own → IfOk result (λ all. Lists (told_rows S.Store self.old.connection) all.items) }
-        ensures kept { IsTold S.Store self.new.connection self.new.is_own → IsTold S.Store self.old.connection self.old.is_own × AreSame (told_rows S.Store self.new.connection) (told_rows S.Store self.old.connection) }
+        ensures listed { IsTold S.Store self.new.connection self.new.is_own
+            → IfOk result (λ all. Lists (told_rows S.Store self.old.connection) all.items) }
+        ensures kept { IsTold S.Store self.new.connection self.new.is_own → IsTold S.Store self.old.connection self.old.is_own
+            × AreSame (told_rows S.Store self.new.connection) (told_rows S.Store self.old.connection) }
         ensures own { self.new.is_own ≡ self.old.is_own }
-        ensures stands { HasCleanDisk (state S.Store self.new.connection) → IsTrue self.old.is_own → Stands S.Store self.old.connection self.new.connection }
-        ensures tells { HasCleanDisk (state S.Store self.new.connection) → OnOk result (IsTold S.Store self.old.connection self.old.is_own → IsTold S.Store self.new.connection self.new.is_own) }
+        ensures stands { HasCleanDisk (state S.Store self.new.connection) → IsTrue self.old.is_own
+            → Stands S.Store self.old.connection self.new.connection }
+        ensures tells { HasCleanDisk (state S.Store self.new.connection)
+            → OnOk result (IsTold S.Store self.old.connection self.old.is_own → IsTold S.Store self.new.connection self.new.is_own) }
         ensures stays { HasCleanDisk (state S.Store self.new.connection) → IsTold S.Store self.old.connection self.old.is_own
             → IsTold S.Store self.new.connection self.new.is_own ⊎ IsShutByFault S.Store self.old.connection self.new.connection }
         ensures disk { (state S.Store self.old.connection).faults ≤ (state S.Store self.new.connection).faults }
-        ensures loaded { HasCleanDisk (state S.Store self.new.connection) → IfOk result (λ all. IsLoaded S.Store self.old.connection self.new.connection all.items) }
+        ensures loaded { HasCleanDisk (state S.Store self.new.connection)
+            → IfOk result (λ all. IsLoaded S.Store self.old.connection self.new.connection all.items) }
     {
         match store::load_rows(self.alloc, &mut self.connection) {
             Ok(rows) => Ok(rows),
@@ -202,16 +213,22 @@ impl<S: Alter + Drop> Keeper for SqliteKeeper<S> {
         ensures cause { IfErr result (λ e. e ≡ KeeperError.Failed → Rises self.old.faults self.new.faults) }
         ensures faults { self.new.faults ≡ faults_after result self.old.faults }
         ensures told { IsTold S.Store self.new.connection self.new.is_own → IsTold S.Store self.old.connection self.old.is_own }
-        ensures ok { IsTold S.Store self.new.connection self.new.is_own → OnOk result (AreSame (told_rows S.Store self.new.connection) (after_items batch.now (told_rows S.Store self.old.connection))) }
-        ensures err { IsTold S.Store self.new.connection self.new.is_own → OnErr result (AreSame (told_rows S.Store self.new.connection) (told_rows S.Store self.old.connection)) }
+        ensures ok { IsTold S.Store self.new.connection self.new.is_own
+            → OnOk result (AreSame (told_rows S.Store self.new.connection)
+            (after_items batch.now (told_rows S.Store self.old.connection))) }
+        ensures err { IsTold S.Store self.new.connection self.new.is_own
+            → OnErr result (AreSame (told_rows S.Store self.new.connection) (told_rows S.Store self.old.connection)) }
         ensures own { self.new.is_own ≡ self.old.is_own }
-        ensures tells { HasCleanDisk (state S.Store self.new.connection) → OnOk result (IsTold S.Store self.old.connection self.old.is_own → IsTold S.Store self.new.connection self.new.is_own) }
+        ensures tells { HasCleanDisk (state S.Store self.new.connection)
+            → OnOk result (IsTold S.Store self.old.connection self.old.is_own → IsTold S.Store self.new.connection self.new.is_own) }
         ensures stays { HasCleanDisk (state S.Store self.new.connection) → IsTold S.Store self.old.connection self.old.is_own
             → IsTold S.Store self.new.connection self.new.is_own ⊎ IsShutByFault S.Store self.old.connection self.new.connection }
         ensures disk { (state S.Store self.old.connection).faults ≤ (state S.Store self.new.connection).faults }
-        ensures done { HasCleanDisk (state S.Store self.new.connection) → OnOk result (IsCommitted S.Store batch.now self.old.connection self.new.connection) }
+        ensures done { HasCleanDisk (state S.Store self.new.connection)
+            → OnOk result (IsCommitted S.Store batch.now self.old.connection self.new.connection) }
         ensures undone { HasCleanDisk (state S.Store self.new.connection) → IsTrue (state S.Store self.new.connection).is_open
-            → OnErr result (((state S.Store self.new.connection).now ≡ (state S.Store self.old.connection).now) × ((state S.Store self.new.connection).committed ≡ (state S.Store self.old.connection).committed)) }
+            → OnErr result (((state S.Store self.new.connection).now ≡ (state S.Store self.old.connection).now)
+            × ((state S.Store self.new.connection).committed ≡ (state S.Store self.old.connection).committed)) }
     {
         match store::commit_items(&mut self.connection, batch.as_slice()) {
             Ok(()) => Ok(()),

@@ -12,7 +12,8 @@ ghost use Rattle.row_table.specs.Texts.{number_text, StaysInside, Leaves};
 ghost use Rattle.row_table.specs.Unread.{IsUnread};
 ghost use Rattle.keeper_sqlite.specs.Forms.{number_of};
 ghost use Rattle.keeper_sqlite.specs.Own.{IsOwned, IsOwnStore, Stands, told_rows};
-ghost use Rattle.keeper_sqlite.specs.Statements.{text_of, values_of, HasNoTables, IsOfForm, IsRaised, IsRenewed, AreDone, IsCommitted, IsLoaded};
+ghost use Rattle.keeper_sqlite.specs.Statements.{text_of, values_of, HasNoTables, IsOfForm, IsRaised, IsRenewed, AreDone, IsCommitted};
+ghost use Rattle.keeper_sqlite.specs.Statements.{IsLoaded};
 
 use crate::reading;
 use keeper::keeper::{Item, Row};
@@ -72,10 +73,12 @@ pub(crate) fn is_fresh<S: Alter>(conn: &Connection<S>) -> bool
 pub(crate) fn is_own<S: Alter>(conn: &mut Connection<S>) -> Result<bool, Error>
     ensures clean { doubt (state S.Store conn.old).is_clean ≤ doubt (state S.Store conn.new).is_clean }
     ensures stays { StaysOpen (state S.Store conn.old) (state S.Store conn.new) }
-    ensures open { HasCleanDisk (state S.Store conn.new) → IsTrue (state S.Store conn.old).is_open → IfOk result (λ own. IsTrue (state S.Store conn.new).is_open) }
+    ensures open { HasCleanDisk (state S.Store conn.new) → IsTrue (state S.Store conn.old).is_open
+        → IfOk result (λ own. IsTrue (state S.Store conn.new).is_open) }
     ensures stands { HasCleanDisk (state S.Store conn.new) → Stands S.Store conn.old conn.new }
     ensures own { IfOk result (λ own. IsTrue own → IsOwned S.Store conn.new) }
-    ensures only { HasCleanDisk (state S.Store conn.new) → conn.old.in_transaction ≡ false → IsOwnStore (state S.Store conn.old).now → IfOk result IsTrue }
+    ensures only { HasCleanDisk (state S.Store conn.new) → conn.old.in_transaction ≡ false → IsOwnStore (state S.Store conn.old).now
+        → IfOk result IsTrue }
     ensures fresh { conn.old.in_transaction ≡ false → conn.old.schema ≡ no_schema → result ≡ Ok true }
     ensures unread { HasCleanDisk (state S.Store conn.new) → IfErr result (IsUnread (state S.Store conn.old) (state S.Store conn.new)) }
 {
@@ -90,7 +93,8 @@ fn raise<S: Alter>(tx: &mut Transaction<'_, S>, form: Form) -> Result<(), Error>
     ensures same_reference { tx.new.conn.ghost_name ≡ tx.old.conn.ghost_name }
     ensures clean { doubt (state S.Store tx.old.conn.now).is_clean ≤ doubt (state S.Store tx.new.conn.now).is_clean }
     ensures stays { StaysOpen (state S.Store tx.old.conn.now) (state S.Store tx.new.conn.now) }
-    ensures kept { HasCleanDisk (state S.Store tx.new.conn.now) → StaysInside (state S.Store tx.old.conn.now) (state S.Store tx.new.conn.now) result }
+    ensures kept { HasCleanDisk (state S.Store tx.new.conn.now)
+        → StaysInside (state S.Store tx.old.conn.now) (state S.Store tx.new.conn.now) result }
     ensures raised { HasCleanDisk (state S.Store tx.new.conn.now) → OnOk result (IsRaised S.Store form tx.old.conn.now tx.new.conn.now) }
 {
     match form {
@@ -104,8 +108,10 @@ fn renew<S: Alter>(tx: &mut Transaction<'_, S>, is_empty: bool) -> Result<(), Er
     ensures same_reference { tx.new.conn.ghost_name ≡ tx.old.conn.ghost_name }
     ensures clean { doubt (state S.Store tx.old.conn.now).is_clean ≤ doubt (state S.Store tx.new.conn.now).is_clean }
     ensures stays { StaysOpen (state S.Store tx.old.conn.now) (state S.Store tx.new.conn.now) }
-    ensures kept { HasCleanDisk (state S.Store tx.new.conn.now) → StaysInside (state S.Store tx.old.conn.now) (state S.Store tx.new.conn.now) result }
-    ensures renewed { HasCleanDisk (state S.Store tx.new.conn.now) → OnOk result (IsRenewed S.Store is_empty tx.old.conn.now tx.new.conn.now) }
+    ensures kept { HasCleanDisk (state S.Store tx.new.conn.now)
+        → StaysInside (state S.Store tx.old.conn.now) (state S.Store tx.new.conn.now) result }
+    ensures renewed { HasCleanDisk (state S.Store tx.new.conn.now)
+        → OnOk result (IsRenewed S.Store is_empty tx.old.conn.now tx.new.conn.now) }
 {
     if is_empty {
         return statements::make_tables(tx);
@@ -132,7 +138,8 @@ fn do_items<S: Alter>(tx: &mut Transaction<'_, S>, items: &[Item]) -> Result<(),
     ensures same_reference { tx.new.conn.ghost_name ≡ tx.old.conn.ghost_name }
     ensures clean { doubt (state S.Store tx.old.conn.now).is_clean ≤ doubt (state S.Store tx.new.conn.now).is_clean }
     ensures stays { StaysOpen (state S.Store tx.old.conn.now) (state S.Store tx.new.conn.now) }
-    ensures kept { HasCleanDisk (state S.Store tx.new.conn.now) → StaysInside (state S.Store tx.old.conn.now) (state S.Store tx.new.conn.now) result }
+    ensures kept { HasCleanDisk (state S.Store tx.new.conn.now)
+        → StaysInside (state S.Store tx.old.conn.now) (state S.Store tx.new.conn.now) result }
     ensures done { HasCleanDisk (state S.Store tx.new.conn.now) → IsTrue (state S.Store tx.old.conn.now).in_transaction
         → OnOk result (AreDone S.Store items.now tx.old.conn.now tx.new.conn.now) }
 {
@@ -147,11 +154,13 @@ pub(crate) fn commit_items<S: Alter>(conn: &mut Connection<S>, items: &[Item]) -
     ensures done { HasCleanDisk (state S.Store conn.new) → OnOk result (IsCommitted S.Store items.now conn.old conn.new) }
     ensures clean { doubt (state S.Store conn.old).is_clean ≤ doubt (state S.Store conn.new).is_clean }
     ensures stays { StaysOpen (state S.Store conn.old) (state S.Store conn.new) }
-    ensures was_open { HasCleanDisk (state S.Store conn.new) → IsTrue (state S.Store conn.new).is_open → IsTrue (state S.Store conn.old).is_open }
+    ensures was_open { HasCleanDisk (state S.Store conn.new) → IsTrue (state S.Store conn.new).is_open
+        → IsTrue (state S.Store conn.old).is_open }
     ensures ended { conn.old.in_transaction ≡ false → conn.new.in_transaction ≡ false }
     ensures open { HasCleanDisk (state S.Store conn.new) → OnOk result (IsTrue (state S.Store conn.new).is_open) }
     ensures undone { HasCleanDisk (state S.Store conn.new) → IsTrue (state S.Store conn.new).is_open
-        → OnErr result (((state S.Store conn.new).now ≡ (state S.Store conn.old).now) × ((state S.Store conn.new).committed ≡ (state S.Store conn.old).committed)) }
+        → OnErr result (((state S.Store conn.new).now ≡ (state S.Store conn.old).now)
+        × ((state S.Store conn.new).committed ≡ (state S.Store conn.old).committed)) }
 {
     if !conn.is_autocommit() {
         return Err(Error::SqliteFailure(ErrorCode::TransactionState));
@@ -184,9 +193,11 @@ pub(crate) fn load_rows<S: Alter>(
     ensures stays { StaysOpen (state S.Store conn.old) (state S.Store conn.new) }
     ensures ended { conn.old.in_transaction ≡ false → conn.new.in_transaction ≡ false }
     ensures loaded { HasCleanDisk (state S.Store conn.new) → IfOk result (λ all. IsLoaded S.Store conn.old conn.new all.items) }
-    ensures open { HasCleanDisk (state S.Store conn.new) → IsTrue (state S.Store conn.old).is_open → OnOk result (IsTrue (state S.Store conn.new).is_open) }
+    ensures open { HasCleanDisk (state S.Store conn.new) → IsTrue (state S.Store conn.old).is_open
+        → OnOk result (IsTrue (state S.Store conn.new).is_open) }
     ensures stands { HasCleanDisk (state S.Store conn.new) → IsOwned S.Store conn.old → Stands S.Store conn.old conn.new }
-    ensures listed { HasCleanDisk (state S.Store conn.new) → IsTrue (state S.Store conn.new).is_open → IsOwned S.Store conn.old → IfOk result (λ all. Lists (told_rows S.Store conn.old) all.items) }
+    ensures listed { HasCleanDisk (state S.Store conn.new) → IsTrue (state S.Store conn.new).is_open → IsOwned S.Store conn.old
+        → IfOk result (λ all. Lists (told_rows S.Store conn.old) all.items) }
 {
     // Tells the proof that outside a transaction the last commit is what is seen.
     let _settled = conn.is_autocommit();

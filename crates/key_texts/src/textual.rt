@@ -9,7 +9,8 @@ ghost use Rattle.hub_rows.specs.ClientIds.{is_client_id};
 ghost use Rattle.hub_rows.specs.Counters.{is_counter};
 ghost use Rattle.hub_rows.specs.declared.keys.ShareKey.{ShareKey};
 ghost use Rattle.key_texts.specs.Finds.{Finds};
-ghost use Rattle.key_texts.specs.KeyTexts.{server_text, owner_text, recipient_text, share_text, IsServer, IsOwner, IsRecipient, IsShareKey, IsScope};
+ghost use Rattle.key_texts.specs.KeyTexts.{server_text, owner_text, recipient_text, share_text, IsServer, IsOwner, IsRecipient, IsShareKey};
+ghost use Rattle.key_texts.specs.KeyTexts.{IsScope};
 
 use crate::unread::Unread;
 use hub_kit::names::{self, GroupName, RoleName, ServerKey, ServiceName, UserName};

@@ -7,8 +7,10 @@ use Rattle.keyed_rows.specs.declared.PutError.{PutError}
 use Rattle.keyed_rows.specs.declared.PutError.TheVariants.{Full, Memory}
 use Rattle.keyed_rows.specs.Rows.{IsPutAnswer}
 
--- the answer of a put of a kind with a limit, at a key: `Full` exactly where the key is new and the rows less those that leave have reached the limit
-abbrev pub IsAnswer : {K X : Type 0} {R : K → K → Ordering} → (kind limit : ℕ) → FinMap R X → K → (leaving : ℕ) → Result (Unit {0}) PutError → Type 0
+-- the answer of a put of a kind with a limit, at a key: `Full` exactly where the key is new and the rows less those that leave have reached
+-- the limit
+abbrev pub IsAnswer : {K X : Type 0} {R : K → K → Ordering} → (kind limit : ℕ) → FinMap R X → K → (leaving : ℕ) → Result (Unit {0}) PutError
+    → Type 0
 IsAnswer kind limit rows key leaving result = IsPutAnswer kind limit (len rows) leaving (contains_key rows key) result
 
 -- the answer of a put of a kind without a limit: never `Full`, and out of memory only at a new key

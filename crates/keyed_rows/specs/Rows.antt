@@ -15,7 +15,8 @@ map_of R m = from_entries m.entries
 abbrev pub is_full : Bool → (rows leaving limit : ℕ) → Bool
 is_full kept rows leaving limit = not kept && nat_le limit (rows - leaving)
 
--- which answer a put gives: `Full` exactly where the key is new and the rows that stay have reached the limit; out of memory only at a new key with room
+-- which answer a put gives: `Full` exactly where the key is new and the rows that stay have reached the limit; out of memory only at a new
+-- key with room
 abbrev pub IsPutAnswer : (kind limit rows leaving : ℕ) → Bool → Result (Unit {0}) PutError → Type 0
 IsPutAnswer kind limit rows leaving kept (Ok _) = IsTrue (kept || nat_lt (rows - leaving) limit)
 IsPutAnswer kind limit rows leaving kept (Err (Full k l)) = (kept ≡ false) × (limit ≤ rows - leaving) × (k ≡ kind) × (l ≡ limit)

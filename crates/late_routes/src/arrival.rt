@@ -68,7 +68,8 @@ pub(crate) fn is_done(call: &Routing, answer: &Answer) -> bool
 
 /// The place of the first message that is due before the call with this number.
 fn first_due(messages: &[Outstanding], number: u64) -> Option<usize>
-    ensures { MatchOption result (NoneDue (is_due number) messages.now) (λ at. (m : Outstanding) × IsFirst (is_due number) messages.now at m) }
+    ensures { MatchOption result (NoneDue (is_due number) messages.now)
+        (λ at. (m : Outstanding) × IsFirst (is_due number) messages.now at m) }
 {
     'messages: for at in 0..messages.len() {
         if is_due(&messages[at], number) {

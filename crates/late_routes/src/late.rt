@@ -1,5 +1,6 @@
 //! A route link in memory whose messages may be lost or late.
-ghost use Rattle.std.specs.Prelude.{◌≡◌, ◌≤◌, ◌<◌, ◌+◌, ◌^◌, ℕ, List, [], ◌∷◌, ◌++◌, map, length, Some, None, true, false, is_ok, is_err, IsErr, IsSome, IfOk, IfErr, OnOk, OnErr};
+ghost use Rattle.std.specs.Prelude.{◌≡◌, ◌≤◌, ◌<◌, ◌+◌, ◌^◌, ℕ, List, [], ◌∷◌, ◌++◌, map, length, Some, None, true, false, is_ok, is_err};
+ghost use Rattle.std.specs.Prelude.{IsErr, IsSome, IfOk, IfErr, OnOk, OnErr};
 ghost use Rattle.hub_devices.specs.Calls.{Grows, told_unit, told_error, is_fault};
 ghost use Rattle.hub_devices.specs.FailingCalls.{new_script, one_more};
 ghost use Rattle.hub_devices.specs.Faults.{Rises};

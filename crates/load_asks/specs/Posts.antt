@@ -27,5 +27,6 @@ pub record Accepted {L : Type 0} (asked : L → Option (List (List ℕ × Option
   pub accepted : All IsAccepted asks
 
 -- the link was asked something, or nothing
-abbrev pub Reached : {L : Type 0} → (L → Option (List (List ℕ × Option (List ℕ)))) → (L → List ℕ → Result (List ℕ) LinkError → L → Type 0) → L → L → Type 0
+abbrev pub Reached : {L : Type 0} → (L → Option (List (List ℕ × Option (List ℕ)))) → (L → List ℕ → Result (List ℕ) LinkError → L → Type 0)
+    → L → L → Type 0
 Reached asked does old new = (asks : List Exchange) × Asks asked does old asks new

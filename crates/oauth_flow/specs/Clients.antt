@@ -29,7 +29,8 @@ of_service (Err e) = None
 abbrev pub named : (kind : List ℕ) → Option (List ℕ) → Option ClientOwner
 named kind None = None
 named kind (Some name) =
-    if same kind (codes "server") then of_server (key_read name) else (if same kind (codes "service") then of_service (name_read name) else None)
+    if same kind (codes "server") then of_server (key_read name)
+    else (if same kind (codes "service") then of_service (name_read name) else None)
 
 -- a server's is `server:USER/SERVER`, a service's `service:NAME`; the id is cut at the first colon
 abbrev pub whose : (id : List ℕ) → Option ClientOwner

@@ -1,5 +1,6 @@
 -- What a code is traded for, and which rule refuses a trade first.
-use Rattle.std.specs.Prelude.{◌≡◌, ℕ, ◌+◌, Bool, true, false, ◌&&◌, not, List, [], ◌∷◌, codes, Option, Some, None, Result, Ok, Err, is_some, is_none, if◌then◌else◌}
+use Rattle.std.specs.Prelude.{◌≡◌, ℕ, ◌+◌, Bool, true, false, ◌&&◌, not, List, [], ◌∷◌, codes, Option, Some, None, Result, Ok, Err, is_some}
+use Rattle.std.specs.Prelude.{is_none, if◌then◌else◌}
 use Rattle.std.specs.Option.{option_or}
 use Rattle.std.specs.FinMap.{get, contains_key}
 use Rattle.hub_kit.specs.Hashes.{hash_text}
@@ -20,7 +21,8 @@ use Rattle.hub_tables.specs.State.{State}
 use Rattle.oauth_flow.specs.Asks.{is_text, if_so, by_rule}
 use Rattle.oauth_flow.specs.Clients.{client_named, whose}
 use Rattle.oauth_flow.specs.declared.asks.OAuthError.{OAuthError}
-use Rattle.oauth_flow.specs.declared.asks.OAuthError.TheVariants.{InvalidRequest, InvalidClient, InvalidGrant, UnsupportedGrantType, HashKept}
+use Rattle.oauth_flow.specs.declared.asks.OAuthError.TheVariants.{InvalidRequest, InvalidClient, InvalidGrant, UnsupportedGrantType}
+use Rattle.oauth_flow.specs.declared.asks.OAuthError.TheVariants.{HashKept}
 use Rattle.oauth_flow.specs.declared.asks.TradeAsk.{TradeAsk}
 use Rattle.oauth_flow.specs.declared.clients.ClientOwner.{ClientOwner}
 use Rattle.oauth_flow.specs.declared.clients.ClientOwner.TheVariants.{Server, Service}

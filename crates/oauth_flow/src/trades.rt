@@ -255,5 +255,6 @@ fn traded_for(client: Option<ClientOwner>) -> Option<ServerKey>
 
 /// A trade tells a token to revoke exactly where its code was used, and the token that it was traded for is kept.
 pub fn used_codes_revoke()
-    ensures { (t : State) (ask : TradeAsk) (text : List ℕ) (id now token : ℕ) → (spec.trade t ask text id now ≡ Err (InvalidGrant (Some token))) ↔ spec.Revokes t ask token }
+    ensures { (t : State) (ask : TradeAsk) (text : List ℕ) (id now token : ℕ)
+        → (spec.trade t ask text id now ≡ Err (InvalidGrant (Some token))) ↔ spec.Revokes t ask token }
 {}

@@ -128,7 +128,8 @@ pub record Unread {A : Type 0} (old new : Place) (routes routes' : A) (result : 
   pub cause : error ≡ wire.ReadFault → Rises old.reads new.reads
 
 -- a request came, its call was made, and the reply was written
-pub record Answered {A : Type 0} (gave : Gave A) (secret : List ℕ) (now : ℕ) (old new : Place) (routes routes' : A) (result : Result ℕ SessionFault)
+pub record Answered {A : Type 0} (gave : Gave A) (secret : List ℕ) (now : ℕ) (old new : Place) (routes routes' : A)
+    (result : Result ℕ SessionFault)
     : Type 0 where
   pub request : Request
   pub text : List ℕ

@@ -1,5 +1,6 @@
 -- Which call of the API a request is.
-use Rattle.std.specs.Prelude.{◌==◌, nat_lt, ℕ, List, [], ◌∷◌, length, take, drop, bytes_eq, codes, Option, Some, None, Result, Ok, Err, if◌then◌else◌}
+use Rattle.std.specs.Prelude.{◌==◌, nat_lt, ℕ, List, [], ◌∷◌, length, take, drop, bytes_eq, codes, Option, Some, None, Result, Ok, Err}
+use Rattle.std.specs.Prelude.{if◌then◌else◌}
 use Rattle.proxy_api.specs.declared.calls.ApiRefusal.{ApiRefusal}
 use Rattle.proxy_api.specs.declared.calls.ApiRefusal.TheVariants.{NoPlace, BadMethod}
 use Rattle.proxy_api.specs.declared.calls.Call.{Call}

@@ -1,5 +1,6 @@
 -- What the body of an addition says: a JSON object with a target, perhaps a serial, and any other members, which are kept.
-use Rattle.std.specs.Prelude.{ℕ, Bool, ◌||◌, nat_lt, List, length, bytes_eq, codes, Option, Some, None, Result, Ok, Err, option_and_then, option_map, if◌then◌else◌}
+use Rattle.std.specs.Prelude.{ℕ, Bool, ◌||◌, nat_lt, List, length, bytes_eq, codes, Option, Some, None, Result, Ok, Err, option_and_then}
+use Rattle.std.specs.Prelude.{option_map, if◌then◌else◌}
 use Rattle.hub_kit.specs.Targets.{target_of}
 use Rattle.serde_json.specs.Data.{Data, object, Members, no_members, member}
 use Rattle.serde_json.specs.Find.{get, as_str, as_number, as_object, as_u64}

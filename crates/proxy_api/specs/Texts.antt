@@ -8,7 +8,8 @@ use Rattle.proxy_core.specs.Refusals.{status_line, reply_with, reply_behind, mes
 use Rattle.route_table.specs.declared.route.RouteRefusal.{RouteRefusal}
 use Rattle.route_table.specs.declared.route.RouteRefusal.TheVariants as route
 use Rattle.proxy_api.specs.declared.calls.ApiRefusal.{ApiRefusal}
-use Rattle.proxy_api.specs.declared.calls.ApiRefusal.TheVariants.{BadHead, TooLarge, Coding, NoToken, NoPlace, BadMethod, BadQuery, BadBody, BadTarget, Table, Memory}
+use Rattle.proxy_api.specs.declared.calls.ApiRefusal.TheVariants.{BadHead, TooLarge, Coding, NoToken, NoPlace, BadMethod, BadQuery, BadBody}
+use Rattle.proxy_api.specs.declared.calls.ApiRefusal.TheVariants.{BadTarget, Table, Memory}
 use Rattle.proxy_api.specs.declared.texts.ApiReply.{ApiReply}
 use Rattle.proxy_api.specs.declared.texts.ApiReply.TheVariants.{Listed, Added, Deleted, Refused}
 

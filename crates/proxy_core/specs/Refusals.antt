@@ -8,7 +8,8 @@ use Rattle.http_wire.specs.declared.error.SessionFault.TheVariants.{ReadFault, W
 use Rattle.http_wire.specs.declared.error.WireError.{WireError}
 use Rattle.http_wire.specs.declared.error.WireError.TheVariants as wire
 use Rattle.proxy_core.specs.declared.refusals.Refusal.{Refusal}
-use Rattle.proxy_core.specs.declared.refusals.Refusal.TheVariants.{BadHead, BadChunk, BadPath, NotFound, TooLarge, Coding, BadUpstream, Link, Memory}
+use Rattle.proxy_core.specs.declared.refusals.Refusal.TheVariants.{BadHead, BadChunk, BadPath, NotFound, TooLarge, Coding, BadUpstream}
+use Rattle.proxy_core.specs.declared.refusals.Refusal.TheVariants.{Link, Memory}
 use Rattle.proxy_core.specs.declared.refusals.Forwarded.{Forwarded}
 use Rattle.proxy_core.specs.declared.refusals.Forwarded.TheVariants.{Passed, Refused, Ended, Cut}
 

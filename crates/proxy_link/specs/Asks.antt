@@ -25,8 +25,8 @@ is_deleted None = false
 
 -- ---- one change of a route
 
--- The request was asked once, and the status of the reply says whether the change is done. Of a text that is no path nothing is asked, and it
--- isn't done
+-- The request was asked once, and the status of the reply says whether the change is done. Of a text that is no path nothing is asked, and
+-- it isn't done
 abbrev pub Changes : (is_path : Bool) → (Option ℕ → Bool) → (request : List ℕ) → List Exchange → (done : Bool) → Type 0
 Changes true is_done request asks done =
     (bytes : List ℕ) × (status : Option ℕ) × (asks ≡ (request, Ok bytes) ∷ []) × HasStatus bytes status × (done ≡ is_done status)

@@ -84,8 +84,8 @@ pub fn add_route<L: HubLink>(
     }
 }
 
-/// Asks a proxy once to delete the route of a path, and tells whether it is done: deleted, not there, or added later than the serial says. A
-/// text that is no path is asked of nobody, and isn't done.
+/// Asks a proxy once to delete the route of a path, and tells whether it is done: deleted, not there, or added later than the serial says.
+/// A text that is no path is asked of nobody, and isn't done.
 pub fn delete_route<L: HubLink>(
     alloc: Global,
     link: &mut L,

@@ -80,9 +80,11 @@ impl<L: HubLink> RouteLink for ProxyLink<L> {
     ghost faults = { λ l. l.faults };
 
     fn add(&mut self, path: &Text, target: &Target, serial: Option<u64>) -> Result<(), Failed>
-        ensures calls { Grows {A = Routing × Told} prelude.None ((Route.Add path.now target.now serial, told_unit result) ∷ []) prelude.None }
+        ensures calls { Grows {A = Routing × Told} prelude.None ((Route.Add path.now target.now serial, told_unit result) ∷ [])
+            prelude.None }
         ensures asked { (asks : List Exchange) × Asks L.asked L.does self.old.link asks self.new.link
-            × spec.ChangeTold (requests.is_path path.now) spec.is_added (requests.add_request self.old.secret path.now target.now serial) asks result }
+            × spec.ChangeTold (requests.is_path path.now) spec.is_added (requests.add_request self.old.secret path.now target.now serial)
+            asks result }
         ensures secret { self.new.secret ≡ self.old.secret }
         ensures exact { self.new.faults ≡ spec.counted (prelude.is_err result) self.old.faults }
         ensures counted { self.old.faults ≤ self.new.faults }
@@ -102,7 +104,8 @@ impl<L: HubLink> RouteLink for ProxyLink<L> {
     fn delete(&mut self, path: &Text, serial: u64) -> Result<(), Failed>
         ensures calls { Grows {A = Routing × Told} prelude.None ((Route.Delete path.now serial, told_unit result) ∷ []) prelude.None }
         ensures asked { (asks : List Exchange) × Asks L.asked L.does self.old.link asks self.new.link
-            × spec.ChangeTold (requests.is_path path.now) spec.is_deleted (requests.delete_request self.old.secret path.now serial) asks result }
+            × spec.ChangeTold (requests.is_path path.now) spec.is_deleted (requests.delete_request self.old.secret path.now serial) asks
+            result }
         ensures secret { self.new.secret ≡ self.old.secret }
         ensures exact { self.new.faults ≡ spec.counted (prelude.is_err result) self.old.faults }
         ensures counted { self.old.faults ≤ self.new.faults }
@@ -113,7 +116,8 @@ impl<L: HubLink> RouteLink for ProxyLink<L> {
     }
 
     fn list(&mut self) -> Result<Vec<ListedRoute>, LinkError>
-        ensures calls { IfOk result (λ routes. Grows {A = Routing × Told} prelude.None ((Route.List, Listed routes.items) ∷ []) prelude.None) }
+        ensures calls { IfOk result (λ routes. Grows {A = Routing × Told} prelude.None ((Route.List, Listed routes.items) ∷ [])
+            prelude.None) }
         ensures failed { IfErr result (λ e. Grows {A = Routing × Told} prelude.None ((Route.List, told_error e) ∷ []) prelude.None) }
         ensures ok { IfOk result (λ routes. (asks : List Exchange) × Asks L.asked L.does self.old.link asks self.new.link
             × spec.Lists (requests.list_request self.old.secret) asks (prelude.Some routes.items)) }

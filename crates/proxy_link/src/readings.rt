@@ -139,8 +139,8 @@ fn listed_in(
     routes_in(alloc, body)
 }
 
-/// The routes that a reply lists, in the order of its object: each under its path, with a target, and with a serial or none. Nothing where the
-/// bytes are no reply of status 200 whose body is such an object.
+/// The routes that a reply lists, in the order of its object: each under its path, with a target, and with a serial or none. Nothing where
+/// the bytes are no reply of status 200 whose body is such an object.
 pub fn read_routes(alloc: Global, bytes: &[u8]) -> Result<Option<List<ListedRoute>>, AllocError>
     ensures { IfOk result (IsListedBy bytes.now) }
 {

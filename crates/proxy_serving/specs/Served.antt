@@ -9,7 +9,8 @@ use Rattle.proxy_core.specs.Passes as forward
 use Rattle.proxy_api.specs.Api as api
 
 -- one request was carried, at the clock's next moment
-pub record IsForwarded {L R W : Type 0} (found : Found L) (sides : R → W → Sides) (coming coming' : Option (ℕ → ℕ)) (old new : forward.Place)
+pub record IsForwarded {L R W : Type 0} (found : Found L) (sides : R → W → Sides) (coming coming' : Option (ℕ → ℕ))
+    (old new : forward.Place)
     (routes routes' : L) : Type 0 where
   pub now : ℕ
   pub kept : List ℕ

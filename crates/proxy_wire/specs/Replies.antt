@@ -51,7 +51,8 @@ pub record BeginsReply (upgrade : Bool) (method bytes : List ℕ) (r : ResponseH
 -- the bytes that came begin with no reply, whatever follows; where the upstream is spent, nothing does
 abbrev pub NoReply : Bool → List ℕ → Option Told → List ℕ → Type 0
 NoReply upgrade method told got =
-    (r : ResponseHead) (f : Framing) (rest more : List ℕ) → (IsSpent told → more ≡ []) → ¬ (BeginsReply upgrade method (got ++ more) r f rest)
+    (r : ResponseHead) (f : Framing) (rest more : List ℕ) → (IsSpent told → more ≡ [])
+    → ¬ (BeginsReply upgrade method (got ++ more) r f rest)
 
 -- why there is no reply
 abbrev pub IsNoReply : Bool → List ℕ → Option Told → List ℕ → ReplyError → Type 0
@@ -88,4 +89,5 @@ IsStep upgrade method bytes (step.Final reply n) =
     × (reply.text ≡ reply_passed h) × (reply.switched ≡ is_switched (status_code h))
 IsStep upgrade method bytes step.Open = HasNoResponse bytes
 IsStep upgrade method bytes step.Bad = NoHead upgrade bytes
-IsStep upgrade method bytes step.Unframed = (h : ResponseHead) × (n : ℕ) × IsHeadOf bytes h n × IsFinal upgrade (status_code h) × (framing method h ≡ None)
+IsStep upgrade method bytes step.Unframed = (h : ResponseHead) × (n : ℕ) × IsHeadOf bytes h n × IsFinal upgrade (status_code h)
+    × (framing method h ≡ None)

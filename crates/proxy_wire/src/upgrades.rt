@@ -82,8 +82,8 @@ fn is_empty(framing: Framing) -> bool
     }
 }
 
-/// Whether a request asks for another protocol: a GET of HTTP/1.1 without a body that has an `Upgrade` header, and `upgrade` among the words
-/// of `Connection`.
+/// Whether a request asks for another protocol: a GET of HTTP/1.1 without a body that has an `Upgrade` header, and `upgrade` among the
+/// words of `Connection`.
 pub fn is_upgrade(head: &Head, framing: Framing) -> bool
     ensures { result ≡ spec.is_upgrade head.now framing }
 {

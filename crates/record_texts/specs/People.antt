@@ -11,7 +11,8 @@ use Rattle.hub_rows.specs.declared.records.Group.{Group}
 use Rattle.hub_rows.specs.declared.records.Role.{Role}
 use Rattle.hub_rows.specs.declared.records.Service.{Service}
 use Rattle.hub_rows.specs.declared.records.User.{User}
-use Rattle.record_texts.specs.Fields.{whole, maybe, lines, IfThere, IsMoment, moment_fits, moment_plain, whole_flat, strings_plain, strings_flat}
+use Rattle.record_texts.specs.Fields.{whole, maybe, lines, IfThere, IsMoment, moment_fits, moment_plain, whole_flat, strings_plain}
+use Rattle.record_texts.specs.Fields.{strings_flat}
 use Rattle.key_texts.specs.KeyTexts.{IsScope}
 use Rattle.record_texts.specs.Plain.{IsRecordData}
 
@@ -60,7 +61,11 @@ pub record IsRole (r : Role) : Type 0 where
   pub users_in_order : is_in_order name_cmp r.users ≡ true
 
 pub user_plain : (u : User) → IsUser u → IsRecordData (user_object u)
-user_plain u h = ((refl, (tt, (moment_fits u.created h.created, (moment_plain u.last_activity h.last_activity, tt)))), omega (arith, whole_flat u.last_activity))
+user_plain u h = (
+  (refl, (tt, (moment_fits u.created h.created, (moment_plain u.last_activity h.last_activity, tt)))),
+  omega
+      (arith, whole_flat u.last_activity),
+)
 
 pub group_plain : (g : Group) → IsGroup g → IsRecordData (group_object g)
 group_plain g h = ((refl, (strings_plain _, tt)), omega (arith, strings_flat (map (λ name. name) g.users)))
@@ -71,5 +76,12 @@ service_plain v h = ((refl, tt), omega arith)
 pub role_plain : (r : Role) → IsRole r → IsRecordData (role_object r)
 role_plain r h = (
   (refl, (strings_plain _, (strings_plain _, (strings_plain _, (strings_plain _, tt))))),
-  omega (arith, strings_flat (map (λ name. name) r.groups), strings_flat (map scope_text r.scopes), strings_flat (map (λ name. name) r.services), strings_flat (map (λ name. name) r.users)),
+  omega (
+    arith,
+    strings_flat (map (λ name. name) r.groups),
+    strings_flat (map scope_text r.scopes),
+    strings_flat
+        (map (λ name. name) r.services),
+    strings_flat (map (λ name. name) r.users),
+  ),
 )

@@ -1,7 +1,8 @@
 -- The data that a record text may hold, so that its text reads back: whole numbers, texts, and members in the order of their keys.
 use Rattle.std.specs.Prelude.{◌≡◌, ◌<◌, ◌≤◌, ◌^◌, ⊤}
 use Rattle.json.specs.Tree as tree
-use Rattle.serde_json.specs.Data.{Num, unsigned, negative, float, Data, null, boolean, number, string, array, object, Items, no_items, item, Members, no_members, member, put}
+use Rattle.serde_json.specs.Data.{Num, unsigned, negative, float, Data, null, boolean, number, string, array, object, Items, no_items, item}
+use Rattle.serde_json.specs.Data.{Members, no_members, member, put}
 use Rattle.serde_json.specs.Written.{outline}
 
 abbrev pub rebuilt : Members → Members → Members

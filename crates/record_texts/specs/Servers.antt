@@ -12,7 +12,8 @@ use Rattle.hub_rows.specs.declared.records.Lease.{Lease}
 use Rattle.hub_rows.specs.declared.records.Next.{Next}
 use Rattle.hub_rows.specs.declared.records.ServerRow.{ServerRow}
 use Rattle.hub_rows.specs.declared.records.Share.{Share}
-use Rattle.record_texts.specs.Fields.{whole, maybe, lines, IfThere, IsMoment, IsWord, moment_fits, moment_plain, whole_flat, strings_plain, strings_flat}
+use Rattle.record_texts.specs.Fields.{whole, maybe, lines, IfThere, IsMoment, IsWord, moment_fits, moment_plain, whole_flat, strings_plain}
+use Rattle.record_texts.specs.Fields.{strings_flat}
 use Rattle.key_texts.specs.KeyTexts.{server_text, IsServer, IsShareKey, IsScope}
 use Rattle.record_texts.specs.Plain.{IsRecordData}
 
@@ -67,7 +68,8 @@ server_plain r h = (
   omega (arith, whole_flat r.last_activity, whole_flat r.started),
 )
 
-lease_of : (generation : Option ℕ) (server : _) → IfThere IsWord generation → IsRecordData (object (with_generation generation (member (codes "server") (string server) no_members)))
+lease_of : (generation : Option ℕ) (server : _) → IfThere IsWord generation
+    → IsRecordData (object (with_generation generation (member (codes "server") (string server) no_members)))
 lease_of None server h = ((refl, (tt, tt)), omega arith)
 lease_of (Some g) server h = ((refl, (h, (tt, tt))), omega arith)
 

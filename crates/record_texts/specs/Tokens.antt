@@ -10,7 +10,8 @@ use Rattle.hub_rows.specs.declared.records.OAuthClient.{OAuthClient}
 use Rattle.hub_rows.specs.declared.records.OAuthCode.{OAuthCode}
 use Rattle.hub_rows.specs.declared.records.ShareCode.{ShareCode}
 use Rattle.hub_rows.specs.declared.records.Token.{Token}
-use Rattle.record_texts.specs.Fields.{whole, maybe, lines, IfThere, IsMoment, IsWord, moment_fits, moment_plain, word_plain, whole_flat, text_plain, text_flat, strings_plain, strings_flat}
+use Rattle.record_texts.specs.Fields.{whole, maybe, lines, IfThere, IsMoment, IsWord, moment_fits, moment_plain, word_plain, whole_flat}
+use Rattle.record_texts.specs.Fields.{text_plain, text_flat, strings_plain, strings_flat}
 use Rattle.key_texts.specs.KeyTexts.{server_text, owner_text, IsServer, IsOwner, IsScope}
 use Rattle.record_texts.specs.Plain.{IsRecordData}
 
@@ -73,8 +74,24 @@ pub record IsGrantCode (c : OAuthCode) : Type 0 where
 
 pub token_plain : (t : Token) → IsToken t → IsRecordData (token_object t)
 token_plain t h = (
-  (refl, (text_plain (λ text. text) t.client, (moment_fits t.created h.created, (moment_plain t.expires_at h.expires_at, (tt, (text_plain server_text t.issued_for, (tt, (tt, (strings_plain _, tt))))))))),
-  omega (arith, text_flat (λ text. text) t.client, whole_flat t.expires_at, text_flat server_text t.issued_for, strings_flat (map scope_text t.scopes)),
+  (
+    refl,
+    (
+      text_plain (λ text. text) t.client,
+      (
+        moment_fits t.created h.created,
+        (moment_plain t.expires_at h.expires_at, (tt, (text_plain server_text t.issued_for, (tt, (tt, (strings_plain _, tt)))))),
+      ),
+    ),
+  ),
+  omega (
+    arith,
+    text_flat (λ text. text) t.client,
+    whole_flat t.expires_at,
+    text_flat server_text t.issued_for,
+    strings_flat
+        (map scope_text t.scopes),
+  ),
 )
 
 pub code_plain : (c : ShareCode) → IsCode c → IsRecordData (code_object c)
@@ -87,4 +104,8 @@ pub client_plain : (c : OAuthClient) → IsClient c → IsRecordData (client_obj
 client_plain c h = ((refl, (tt, (tt, tt))), omega arith)
 
 pub grant_code_plain : (c : OAuthCode) → IsGrantCode c → IsRecordData (grant_code_object c)
-grant_code_plain c h = ((refl, (tt, (moment_fits c.expires_at h.expires_at, (tt, (tt, (word_plain c.token h.token, tt)))))), omega (arith, whole_flat c.token))
+grant_code_plain c h = (
+  (refl, (tt, (moment_fits c.expires_at h.expires_at, (tt, (tt, (word_plain c.token h.token, tt)))))),
+  omega
+      (arith, whole_flat c.token),
+)

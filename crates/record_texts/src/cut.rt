@@ -174,7 +174,8 @@ pub(crate) fn key_of(text: &[u8]) -> Option<ServerKey>
 
 /// A server, or null.
 pub(crate) fn cut_maybe_server(text: &[u8]) -> Option<(Option<ServerKey>, &[u8])>
-    ensures { IfSome result (λ cut. (text.now ≡ compact_text (maybe (λ key. string (server_text key)) cut.0) ++ cut.1.now) × IfThere IsServer cut.0) }
+    ensures { IfSome result (λ cut. (text.now ≡ compact_text (maybe (λ key. string (server_text key)) cut.0) ++ cut.1.now)
+        × IfThere IsServer cut.0) }
 {
     if let Some(rest) = after(text, b"null") {
         return Some((None, rest));
@@ -195,7 +196,8 @@ fn after_comma(text: &[u8], later: bool) -> Option<&[u8]>
 
 /// A scope of a list, with the comma before it where it isn't the first one.
 pub(crate) fn cut_scope(text: &[u8], later: bool) -> Option<(RawScope, &[u8])>
-    ensures cut { IfSome result (λ cut. (text.now ≡ comma_if later ++ (compact_text (string (scope_text cut.0)) ++ cut.1.now)) × IsScope cut.0) }
+    ensures cut { IfSome result (λ cut. (text.now ≡ comma_if later ++ (compact_text (string (scope_text cut.0)) ++ cut.1.now))
+        × IsScope cut.0) }
     ensures shorter { IfSome result (λ cut. length cut.1.now < length text.now) }
 {
     let item = after_comma(text, later)?;

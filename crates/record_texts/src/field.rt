@@ -69,7 +69,8 @@ fn number_of<N: Whole>(number: u64) -> Result<N, Unread>
 
 /// A number, or null.
 pub(crate) fn maybe_number_at<N: Whole>(value: &Value, name: &str) -> Result<Option<N>, Unread>
-    ensures { (o : Option N) → IfThere N.valid o → get name.now (view value.now) ≡ Some (maybe (λ x. whole (N.number_of x)) o) → Finds result o }
+    ensures { (o : Option N) → IfThere N.valid o → get name.now (view value.now) ≡ Some (maybe (λ x. whole (N.number_of x)) o)
+        → Finds result o }
 {
     let Some(field) = value.get(name) else {
         return Err(Unread::Bad);
@@ -85,7 +86,8 @@ pub(crate) fn maybe_number_at<N: Whole>(value: &Value, name: &str) -> Result<Opt
 
 /// A number, or no member of the name.
 pub(crate) fn lacking_number_at<N: Whole>(value: &Value, name: &str) -> Result<Option<N>, Unread>
-    ensures { (o : Option N) → IfThere N.valid o → get name.now (view value.now) ≡ option_map (λ x. whole (N.number_of x)) o → Finds result o }
+    ensures { (o : Option N) → IfThere N.valid o → get name.now (view value.now) ≡ option_map (λ x. whole (N.number_of x)) o
+        → Finds result o }
 {
     match value.get(name).and_then(Value::as_u64) {
         Some(number) => Ok(Some(number_of(number)?)),
@@ -128,7 +130,8 @@ pub(crate) fn maybe_text_at<T: Textual>(
     value: &Value,
     name: &str,
 ) -> Result<Option<T>, Unread>
-    ensures { (o : Option T) → IfThere T.valid o → get name.now (view value.now) ≡ Some (maybe (λ x. string (T.text_of x)) o) → Finds result o }
+    ensures { (o : Option T) → IfThere T.valid o → get name.now (view value.now) ≡ Some (maybe (λ x. string (T.text_of x)) o)
+        → Finds result o }
 {
     let Some(field) = value.get(name) else {
         return Err(Unread::Bad);
@@ -212,7 +215,8 @@ pub(crate) fn sorted_at<K: Key + Copy + Textual>(
     value: &Value,
     name: &str,
 ) -> Result<Sorted<K>, Unread>
-    ensures { (xs : List K) → AllByRecursion K.valid xs → is_in_order K.Ord.cmp xs ≡ true → get name.now (view value.now) ≡ Some (lines K.text_of xs) → Finds result xs }
+    ensures { (xs : List K) → AllByRecursion K.valid xs → is_in_order K.Ord.cmp xs ≡ true
+        → get name.now (view value.now) ≡ Some (lines K.text_of xs) → Finds result xs }
 {
     sorted(texts_at(alloc, value, name)?)
 }
@@ -228,7 +232,8 @@ fn sorted<K: Key + Copy>(keys: List<K>) -> Result<Sorted<K>, Unread>
 
 /// The scopes of a share.
 pub(crate) fn shared_at(alloc: Global, value: &Value, name: &str) -> Result<SharedScopes, Unread>
-    ensures { (xs : List RawScope) → AllByRecursion IsScope xs → IsInOrder scope_cmp xs → get name.now (view value.now) ≡ Some (lines scope_text xs) → Finds result xs }
+    ensures { (xs : List RawScope) → AllByRecursion IsScope xs → IsInOrder scope_cmp xs
+        → get name.now (view value.now) ≡ Some (lines scope_text xs) → Finds result xs }
 {
     shared(alloc, texts_at(alloc, value, name)?)
 }

@@ -30,7 +30,8 @@ impl Fields {
     }
 
     pub(crate) fn value(self, name: &str, value: Value) -> Result<Fields, AllocError>
-        ensures { IfOk result (λ fields. members_view fields.members.entries ≡ with_member name.now (view value) (members_view self.members.entries)) }
+        ensures { IfOk result (λ fields. members_view fields.members.entries ≡ with_member name.now (view value)
+            (members_view self.members.entries)) }
     {
         let mut members = self.members;
         serde_json::put(&mut members, self.alloc, name, value)?;
@@ -41,7 +42,8 @@ impl Fields {
     }
 
     pub(crate) fn number(self, name: &str, number: u64) -> Result<Fields, AllocError>
-        ensures { IfOk result (λ fields. members_view fields.members.entries ≡ with_member name.now (whole number) (members_view self.members.entries)) }
+        ensures { IfOk result (λ fields. members_view fields.members.entries ≡ with_member name.now (whole number)
+            (members_view self.members.entries)) }
     {
         self.value(name, Value::from(number))
     }
@@ -52,21 +54,24 @@ impl Fields {
         name: &str,
         number: &Option<N>,
     ) -> Result<Fields, AllocError>
-        ensures members { IfOk result (λ fields. members_view fields.members.entries ≡ with_member name.now (maybe (λ x. whole (N.number_of x)) number.now) (members_view self.members.entries)) }
+        ensures members { IfOk result (λ fields. members_view fields.members.entries ≡ with_member name.now
+            (maybe (λ x. whole (N.number_of x)) number.now) (members_view self.members.entries)) }
         ensures valid { OnOk result (IfThere N.valid number.now) }
     {
         self.value(name, maybe_number(number))
     }
 
     pub(crate) fn string(self, name: &str, text: &str) -> Result<Fields, AllocError>
-        ensures { IfOk result (λ fields. members_view fields.members.entries ≡ with_member name.now (string text.now) (members_view self.members.entries)) }
+        ensures { IfOk result (λ fields. members_view fields.members.entries ≡ with_member name.now (string text.now)
+            (members_view self.members.entries)) }
     {
         let value = Value::try_from_str(self.alloc, text)?;
         self.value(name, value)
     }
 
     pub(crate) fn text<T: Textual>(self, name: &str, text: &T) -> Result<Fields, AllocError>
-        ensures members { IfOk result (λ fields. members_view fields.members.entries ≡ with_member name.now (string (T.text_of text.now)) (members_view self.members.entries)) }
+        ensures members { IfOk result (λ fields. members_view fields.members.entries ≡ with_member name.now (string (T.text_of text.now))
+            (members_view self.members.entries)) }
         ensures valid { OnOk result (T.valid text.now) }
     {
         let value = text_value(self.alloc, text)?;
@@ -79,7 +84,8 @@ impl Fields {
         name: &str,
         text: &Option<T>,
     ) -> Result<Fields, AllocError>
-        ensures members { IfOk result (λ fields. members_view fields.members.entries ≡ with_member name.now (maybe (λ x. string (T.text_of x)) text.now) (members_view self.members.entries)) }
+        ensures members { IfOk result (λ fields. members_view fields.members.entries ≡ with_member name.now
+            (maybe (λ x. string (T.text_of x)) text.now) (members_view self.members.entries)) }
         ensures valid { OnOk result (IfThere T.valid text.now) }
     {
         let value = maybe_text(self.alloc, text)?;
@@ -88,7 +94,8 @@ impl Fields {
 
     /// The list of these texts.
     pub(crate) fn texts<T: Textual>(self, name: &str, texts: &[T]) -> Result<Fields, AllocError>
-        ensures members { IfOk result (λ fields. members_view fields.members.entries ≡ with_member name.now (lines T.text_of texts.now) (members_view self.members.entries)) }
+        ensures members { IfOk result (λ fields. members_view fields.members.entries ≡ with_member name.now (lines T.text_of texts.now)
+            (members_view self.members.entries)) }
         ensures valid { OnOk result (AllByRecursion T.valid texts.now) }
     {
         let value = texts_value(self.alloc, texts)?;

@@ -25,7 +25,8 @@ pub fn item_of(alloc: Global, change: &RowChange) -> Result<Item, AllocError>
 
 /// The item that puts a row.
 fn put_of(alloc: Global, row: &Row) -> Result<Item, AllocError>
-    ensures item { IfOk result (λ item. item ≡ Item.Put (row_with (spec.kind_of (key_of row.now)) (spec.key_text (key_of row.now)) (spec.object_of row.now))) }
+    ensures item { IfOk result (λ item. item ≡ Item.Put
+        (row_with (spec.kind_of (key_of row.now)) (spec.key_text (key_of row.now)) (spec.object_of row.now))) }
     ensures valid { OnOk result (spec.IsRow row.now) }
 {
     match row {

@@ -93,8 +93,10 @@ pub fn server_of(row: &Row) -> Option<ServerRow>
 
 /// What stands first in a token's text: the client, and when the token was made and expires.
 fn cut_front(text: &[u8]) -> Option<(Option<&str>, u64, Option<Moment>, &[u8])>
-    ensures text { IfSome result (λ cut. text.now ≡ codes "{\"client\":" ++ (compact_text (maybe (λ text. string text) (option_copied cut.0))
-        ++ (codes ",\"created\":" ++ (compact_text (whole cut.1) ++ (codes ",\"expires_at\":" ++ (compact_text (maybe whole cut.2) ++ cut.3.now)))))) }
+    ensures text { IfSome result (λ cut. text.now ≡ codes "{\"client\":"
+        ++ (compact_text (maybe (λ text. string text) (option_copied cut.0))
+        ++ (codes ",\"created\":" ++ (compact_text (whole cut.1)
+        ++ (codes ",\"expires_at\":" ++ (compact_text (maybe whole cut.2) ++ cut.3.now)))))) }
     ensures valid { IfSome result (λ cut. IfThere IsMoment cut.2) }
 {
     let text = after(text, b"{\"client\":")?;
@@ -113,7 +115,8 @@ fn cut_front(text: &[u8]) -> Option<(Option<&str>, u64, Option<Moment>, &[u8])>
 /// What stands next: the hash, the server that the token was given to, and the note.
 fn cut_middle(text: &[u8]) -> Option<(&str, Option<ServerKey>, &str, &[u8])>
     ensures text { IfSome result (λ cut. text.now ≡ codes ",\"hash\":" ++ (compact_text (string cut.0.now)
-        ++ (codes ",\"issued_for\":" ++ (compact_text (maybe (λ key. string (server_text key)) cut.1) ++ (codes ",\"note\":" ++ (compact_text (string cut.2.now) ++ cut.3.now)))))) }
+        ++ (codes ",\"issued_for\":" ++ (compact_text (maybe (λ key. string (server_text key)) cut.1)
+        ++ (codes ",\"note\":" ++ (compact_text (string cut.2.now) ++ cut.3.now)))))) }
     ensures valid { IfSome result (λ cut. IfThere IsServer cut.1) }
 {
     let text = after(text, b",\"hash\":")?;

@@ -1,6 +1,7 @@
 //! The texts of users, groups, services and roles.
 ghost use Rattle.hub_rows.specs.declared.records.User.{User};
-ghost use Rattle.record_texts.specs.People.{user_object, group_object, service_object, role_object, IsUser, IsGroup, IsService, IsRole, user_plain, group_plain, service_plain, role_plain};
+ghost use Rattle.record_texts.specs.People.{user_object, group_object, service_object, role_object, IsUser, IsGroup, IsService, IsRole};
+ghost use Rattle.record_texts.specs.People.{user_plain, group_plain, service_plain, role_plain};
 
 use crate::field::{bool_at, both, maybe_number_at, number_at, sorted_at, texts_at};
 use crate::fields::Fields;

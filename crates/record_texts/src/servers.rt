@@ -1,6 +1,7 @@
 //! The texts of servers, leases, shares and next numbers.
 ghost use Rattle.key_texts.specs.KeyTexts.{server_text, share_text};
-ghost use Rattle.record_texts.specs.Servers.{server_object, lease_object, share_object, next_object, IsServerRow, IsLease, IsShare, IsNext, server_plain, lease_plain, share_plain, next_plain};
+ghost use Rattle.record_texts.specs.Servers.{server_object, lease_object, share_object, next_object, IsServerRow, IsLease, IsShare, IsNext};
+ghost use Rattle.record_texts.specs.Servers.{server_plain, lease_plain, share_plain, next_plain};
 
 use crate::field::{both, lacking_number_at, maybe_number_at, number_at, shared_at, text_at};
 use crate::fields::Fields;

@@ -1,6 +1,7 @@
 //! The texts of tokens, share codes, and the clients and codes of OAuth.
 ghost use Rattle.std.specs.Prelude.{decimal};
-ghost use Rattle.record_texts.specs.Tokens.{token_object, code_object, client_object, grant_code_object, IsToken, IsCode, IsClient, IsGrantCode, token_plain, code_plain, client_plain, grant_code_plain};
+ghost use Rattle.record_texts.specs.Tokens.{token_object, code_object, client_object, grant_code_object, IsToken, IsCode, IsClient};
+ghost use Rattle.record_texts.specs.Tokens.{IsGrantCode, token_plain, code_plain, client_plain, grant_code_plain};
 
 use crate::field::{both, maybe_number_at, maybe_text_at, number_at, text_at, texts_at};
 use crate::fields::Fields;

@@ -1,5 +1,6 @@
 -- The bytes of a reply (RFC 9112).
-use Rattle.std.specs.Prelude.{ℕ, ◌==◌, ◌&&◌, nat_le, nat_lt, Bool, true, false, if◌then◌else◌, List, [], ◌∷◌, ◌++◌, length, decimal, codes, Option, Some, None}
+use Rattle.std.specs.Prelude.{ℕ, ◌==◌, ◌&&◌, nat_le, nat_lt, Bool, true, false, if◌then◌else◌, List, [], ◌∷◌, ◌++◌, length, decimal, codes}
+use Rattle.std.specs.Prelude.{Option, Some, None}
 use Rattle.http.specs.StatusCode.{reason_phrase}
 use Rattle.json.specs.Print.{print}
 use Rattle.hub_view.specs.Json.{Json, message_body}

@@ -11,4 +11,5 @@ use Rattle.roles.specs.contracts.cache.RightsCache.{the_row}
 
 -- once the grant is let go, the cache is as the look leaves it, and has the right grant of the token
 abbrev pub EndsLooked : MutBor Cache → State → Token → ℕ → Result (Bor Rights) AllocError → Fml
-EndsLooked c t k stamp r = follows_so the_row the_row c.ghost_name none (λ _ _. ⊤) (λ n. IsLooked c.now k.id stamp r n × IsRight n t k stamp)
+EndsLooked c t k stamp r = follows_so the_row the_row c.ghost_name none (λ _ _. ⊤)
+    (λ n. IsLooked c.now k.id stamp r n × IsRight n t k stamp)

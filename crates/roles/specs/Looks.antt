@@ -1,5 +1,6 @@
 -- A cache of grants: what it keeps, and what a look leaves of it.
-use Rattle.std.specs.Prelude.{◌≡◌, ℕ, ◌+◌, ◌-◌, ◌^◌, nat_eq, List, [], Option, Some, None, is_some, IsSomeAnd, Contains, ◌⊎◌, Result, Ok, Err, if◌then◌else◌}
+use Rattle.std.specs.Prelude.{◌≡◌, ℕ, ◌+◌, ◌-◌, ◌^◌, nat_eq, List, [], Option, Some, None, is_some, IsSomeAnd, Contains, ◌⊎◌, Result, Ok}
+use Rattle.std.specs.Prelude.{Err, if◌then◌else◌}
 use Rattle.std.specs.Borrow.{Bor}
 use Rattle.std.specs.Map.{lookup}
 use Rattle.std.specs.declared.alloc.AllocError.{AllocError}
@@ -94,4 +95,5 @@ IsRight c t k stamp = (grant : Rights) → found c k.id stamp ≡ Some grant →
 
 -- something holds of each entry, those in the list and the held one
 abbrev pub OfAll : (ℕ → KeptGrant → Type 0) → Cache → Type 0
-OfAll P c = ((id : ℕ) (kept : KeptGrant) → Contains c.entries (id, kept) → P id kept) × ((id : ℕ) (kept : KeptGrant) → c.held ≡ Some (id, kept) → P id kept)
+OfAll P c = ((id : ℕ) (kept : KeptGrant) → Contains c.entries (id, kept) → P id kept)
+    × ((id : ℕ) (kept : KeptGrant) → c.held ≡ Some (id, kept) → P id kept)

@@ -61,7 +61,8 @@ fixed_scopes t (Own.Service v) = []
 -- the scopes that an owner holds: those of the fixed roles, of each role that the owner holds, and of each share that the owner
 -- received
 abbrev pub scopes_held : State → Owner → List RawScope
-scopes_held t w = (fixed_scopes t w ++ flat_map (λ role. role.scopes) (roles_held t w)) ++ flat_map (λ share. share.scopes) (shares_received t w)
+scopes_held t w = (fixed_scopes t w ++ flat_map (λ role. role.scopes) (roles_held t w)) ++ flat_map (λ share. share.scopes)
+    (shares_received t w)
 
 -- ---- owners
 

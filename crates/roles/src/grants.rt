@@ -48,7 +48,8 @@ pub fn caller_grant(alloc: Global, t: &Tables, token: &Token) -> Result<Grant, A
 /// What the token's scopes mean, within the rights.
 fn within(alloc: Global, t: &Tables, token: &Token, rights: &Grant) -> Result<Grant, AllocError>
     ensures { IfOk result (λ grant. (a : Action) (x : Object) → IsTrue (grant_admits (context t.now) grant a x)
-        ↔ (IsTrue (grant_admits (context t.now) rights.now a x) × IsMeant t.now.scopes token.now.scopes (spec.holder_of token.now) (context t.now) a x)) }
+        ↔ (IsTrue (grant_admits (context t.now) rights.now a x)
+        × IsMeant t.now.scopes token.now.scopes (spec.holder_of token.now) (context t.now) a x)) }
 {
     let holder = Holder {
         owner: token.owner,

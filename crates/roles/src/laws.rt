@@ -10,5 +10,6 @@ ghost use Rattle.roles.specs.Sources.{HaveSameSources};
 /// What a token is allowed depends on nothing but the groups, the roles, the shares, the declared scopes, whether its owner is an admin,
 /// and the token's own scopes and owner. It does nothing: its contract is the law.
 pub fn rights_come_from_their_sources()
-    ensures { (t t' : State) (k k' : Token) → HaveSameSources t t' k k' → (a : Action) (x : Object) → IsAllowed t k a x ↔ IsAllowed t' k' a x }
+    ensures { (t t' : State) (k k' : Token) → HaveSameSources t t' k k' → (a : Action) (x : Object) → IsAllowed t k a x
+        ↔ IsAllowed t' k' a x }
 {}

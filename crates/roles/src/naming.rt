@@ -31,7 +31,8 @@ fn names_naming(alloc: Global, t: &Tables, owner: &Owner) -> Result<Vec<RoleName
 
 /// The names of the roles that name the user, and of those that name each of the user's groups.
 fn names_of_user(alloc: Global, t: &Tables, user: &UserName) -> Result<Vec<RoleName>, AllocError>
-    ensures { IfOk result (λ names. names.items ≡ roles_naming_user t.now user.now ++ flat_map (roles_naming_group t.now) (groups_of t.now user.now)) }
+    ensures { IfOk result (λ names. names.items ≡ roles_naming_user t.now user.now ++ flat_map (roles_naming_group t.now)
+        (groups_of t.now user.now)) }
 {
     let mut names = t.roles_naming_user(alloc, user)?;
     let groups = t.groups_of(alloc, user)?;

@@ -21,7 +21,8 @@ pub(crate) fn push_received(
     t: &Tables,
     user: &UserName,
 ) -> Result<(), AllocError>
-    ensures { OnOk result (scopes.new.items ≡ scopes.old.items ++ flat_map (λ share. share.scopes) (shares_received t.now (Own.User user.now))) }
+    ensures { OnOk result (scopes.new.items ≡ scopes.old.items ++ flat_map (λ share. share.scopes)
+        (shares_received t.now (Own.User user.now))) }
 {
     let keys = Sorted::from_vec(keys_received(alloc, t, user)?);
     t.own_keys();
@@ -30,7 +31,8 @@ pub(crate) fn push_received(
 
 /// The keys of the shares to the user, and of those to each of the user's groups.
 fn keys_received(alloc: Global, t: &Tables, user: &UserName) -> Result<Vec<ShareKey>, AllocError>
-    ensures { IfOk result (λ keys. keys.items ≡ filter (λ key. same_recipient key.to (Recipient.User user.now)) (shares_with t.now (Recipient.User user.now))
+    ensures { IfOk result (λ keys. keys.items ≡ filter (λ key. same_recipient key.to (Recipient.User user.now))
+        (shares_with t.now (Recipient.User user.now))
         ++ flat_map (λ group. shares_with t.now (Recipient.Group group)) (groups_of t.now user.now)) }
 {
     let mut keys = keys_to_user(alloc, t, user)?;
@@ -57,7 +59,8 @@ fn push_to_groups(
 
 /// The keys of the shares to the user.
 fn keys_to_user(alloc: Global, t: &Tables, user: &UserName) -> Result<Vec<ShareKey>, AllocError>
-    ensures { IfOk result (λ keys. keys.items ≡ filter (λ key. same_recipient key.to (Recipient.User user.now)) (shares_with t.now (Recipient.User user.now))) }
+    ensures { IfOk result (λ keys. keys.items ≡ filter (λ key. same_recipient key.to (Recipient.User user.now))
+        (shares_with t.now (Recipient.User user.now))) }
 {
     t.shares_to(alloc, &Recipient::User(*user))
 }

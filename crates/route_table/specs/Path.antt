@@ -1,5 +1,6 @@
 -- Paths of routes, cut at slashes and decoded.
-use Rattle.std.specs.Prelude.{◌≡◌, ◌≢◌, ◌≤◌, ◌<◌, length, slice_index, ℕ, ◌+◌, ◌==◌, Bool, false, ◌&&◌, ◌||◌, ◌++◌, true, List, [], ◌∷◌, map, if◌then◌else◌, Option, Some, None}
+use Rattle.std.specs.Prelude.{◌≡◌, ◌≢◌, ◌≤◌, ◌<◌, length, slice_index, ℕ, ◌+◌, ◌==◌, Bool, false, ◌&&◌, ◌||◌, ◌++◌, true, List, [], ◌∷◌}
+use Rattle.std.specs.Prelude.{map, if◌then◌else◌, Option, Some, None}
 use Rattle.std.specs.Option.{option_map}
 use Rattle.std.specs.List.{flat_map}
 use Rattle.std.specs.Char.{is_ascii_alphanumeric}

@@ -22,7 +22,8 @@ rows_of rows = from_entries (map entry_of rows)
 
 -- the keys rise
 abbrev pub KeysRise : List RowBox → Type 0
-KeysRise rows = (i j : ℕ) (d : RowBox) → i < j → j < length rows → segments_cmp (parts (slice_index_or rows i d).value.key) (parts (slice_index_or rows j d).value.key) ≡ Less
+KeysRise rows = (i j : ℕ) (d : RowBox) → i < j → j < length rows
+    → segments_cmp (parts (slice_index_or rows i d).value.key) (parts (slice_index_or rows j d).value.key) ≡ Less
 
 -- each key is one
 abbrev pub AreKeys : List RowBox → Type 0

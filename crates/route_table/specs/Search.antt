@@ -20,8 +20,10 @@ pub record IsRowAt (rows : List RowBox) (path : List ℕ) (at : ℕ) : Type 0 wh
 -- the rows before the place are below the path, and those from it on are above
 pub record IsGapAt (rows : List RowBox) (path : List ℕ) (at : ℕ) : Type 0 where
   pub within : at ≤ length rows
-  pub below : (i : ℕ) (d : RowBox) → i < at → segments_cmp (parts (slice_index_or rows i d).value.key) (map percent_decode (parts path)) ≡ Less
-  pub above : (i : ℕ) (d : RowBox) → at ≤ i → i < length rows → segments_cmp (parts (slice_index_or rows i d).value.key) (map percent_decode (parts path)) ≡ Greater
+  pub below : (i : ℕ) (d : RowBox) → i < at → segments_cmp (parts (slice_index_or rows i d).value.key) (map percent_decode (parts path))
+      ≡ Less
+  pub above : (i : ℕ) (d : RowBox) → at ≤ i → i < length rows
+      → segments_cmp (parts (slice_index_or rows i d).value.key) (map percent_decode (parts path)) ≡ Greater
 
 -- a route is listed under these segments, in the row at the place
 pub record IsListedAt (rows : List RowBox) (s : List (List ℕ)) (at : ℕ) : Type 0 where

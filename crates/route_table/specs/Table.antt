@@ -1,5 +1,6 @@
 -- The table of routes.
-use Rattle.std.specs.Prelude.{◌≡◌, ℕ, ◌<◌, Bool, true, false, nat_lt, nat_le, List, ◌++◌, length, Option, Some, None, Result, Ok, Err, is_some, if◌then◌else◌}
+use Rattle.std.specs.Prelude.{◌≡◌, ℕ, ◌<◌, Bool, true, false, nat_lt, nat_le, List, ◌++◌, length, Option, Some, None, Result, Ok, Err}
+use Rattle.std.specs.Prelude.{is_some, if◌then◌else◌}
 use Rattle.std.specs.Option.{option_map, option_to_list}
 use Rattle.std.specs.List.{flat_map}
 use Rattle.std.specs.FinMap.{FinMap, get, insert, remove, len, values}
@@ -81,7 +82,8 @@ new_route s entry now = record { path = listed_path s; entry = entry; last_activ
 
 -- the rows with one more route
 abbrev pub with_route : FinMap segments_cmp PathRow → List (List ℕ) → RouteEntry → ℕ → FinMap segments_cmp PathRow
-with_route rows s entry now = insert rows s (record { route = Some (new_route s entry now); seen = seen_after entry.serial (seen_of (get rows s)) })
+with_route rows s entry now = insert rows s
+    (record { route = Some (new_route s entry now); seen = seen_after entry.serial (seen_of (get rows s)) })
 
 abbrev pub added : Table → List (List ℕ) → RouteEntry → ℕ → Table
 added t s entry now = record t { rows = with_route t.rows s entry now }
@@ -115,7 +117,8 @@ IsAnswer refusal (Err e) = refusal ≡ Some e
 abbrev pub IsDeletion : Table → List ℕ → Option ℕ → Result (Unit {0}) RouteRefusal → Type 0
 IsDeletion t path serial (Ok _) = (delete_refusal t path serial ≡ None) × (is_some (listed t.rows (segments path)) ≡ true)
 IsDeletion t path serial (Err NotFound) = (delete_refusal t path serial ≡ None) × (is_some (listed t.rows (segments path)) ≡ false)
-IsDeletion t path serial (Err Memory) = (delete_refusal t path serial ≡ None) × (get t.rows (segments path) ≡ None) × (is_some serial ≡ true)
+IsDeletion t path serial (Err Memory) = (delete_refusal t path serial ≡ None) × (get t.rows (segments path) ≡ None)
+    × (is_some serial ≡ true)
 IsDeletion t path serial (Err e) = delete_refusal t path serial ≡ Some e
 
 -- the table after a deletion: `NotFound` records the serial
@@ -139,7 +142,8 @@ abbrev pub touched : FinMap segments_cmp PathRow → List (List ℕ) → Route �
 touched rows k r now = insert rows k (record { route = Some (touched_route now r); seen = seen_of (get rows k) })
 
 -- a look-up of these segments gave the target of the best route, whose last activity is now
-pub record Looked (rows : FinMap segments_cmp PathRow) (s : List (List ℕ)) (now : ℕ) (target : List ℕ) (rows' : FinMap segments_cmp PathRow) : Type 0 where
+pub record Looked (rows : FinMap segments_cmp PathRow) (s : List (List ℕ)) (now : ℕ) (target : List ℕ)
+    (rows' : FinMap segments_cmp PathRow) : Type 0 where
   pub at : List (List ℕ)
   pub route : Route
   pub is_best : Best rows s at route
@@ -147,7 +151,8 @@ pub record Looked (rows : FinMap segments_cmp PathRow) (s : List (List ℕ)) (no
   pub after : rows' ≡ touched rows at route now
 
 -- what a look-up of segments finds, and what it leaves of the rows
-abbrev pub IsLooked : {E : Type 0} → FinMap segments_cmp PathRow → List (List ℕ) → ℕ → Result (Option (List ℕ)) E → FinMap segments_cmp PathRow → Type 0
+abbrev pub IsLooked : {E : Type 0} → FinMap segments_cmp PathRow → List (List ℕ) → ℕ → Result (Option (List ℕ)) E
+    → FinMap segments_cmp PathRow → Type 0
 IsLooked rows s now (Ok (Some target)) rows' = Looked rows s now target rows'
 IsLooked rows s now (Ok None) rows' = HasNoPrefix rows s × (rows' ≡ rows)
 IsLooked rows s now (Err e) rows' = rows' ≡ rows

@@ -1,10 +1,12 @@
 //! Paths of routes.
-ghost use Rattle.std.specs.Prelude.{◌≡◌, ◌==◌, ◌∷◌, [], if◌then◌else◌, ◌<◌, ◌+◌, ◌++◌, map, None, IfOk, OnOk, length, slice_index, MatchOption};
+ghost use Rattle.std.specs.Prelude.{◌≡◌, ◌==◌, ◌∷◌, [], if◌then◌else◌, ◌<◌, ◌+◌, ◌++◌, map, None, IfOk, OnOk, length, slice_index};
+ghost use Rattle.std.specs.Prelude.{MatchOption};
 ghost use Rattle.std.specs.String.{string_bytes};
 ghost use Rattle.std.specs.Ordering.{nat_cmp};
 ghost use Rattle.std.specs.Cmp.Lexicographic.{slice_cmp};
 ghost use Rattle.percent_encoding.specs.Percent.{percent_decode};
-ghost use Rattle.route_table.specs.Path.{rank, begins_slash_escape, slash_escape, bad_place, trimmed, HasNoSlashFrom, IsKey, decoded_parts, is_plain, written_byte, parts, behind_slashes, ends_empty, listed_path};
+ghost use Rattle.route_table.specs.Path.{rank, begins_slash_escape, slash_escape, bad_place, trimmed, HasNoSlashFrom, IsKey, decoded_parts};
+ghost use Rattle.route_table.specs.Path.{is_plain, written_byte, parts, behind_slashes, ends_empty, listed_path};
 
 use hub_kit::bytes::Bytes;
 use hub_kit::text::Text;

@@ -3,7 +3,8 @@ ghost use Rattle.std.specs.Prelude.{◌≡◌, ℕ, Some, IfOk, IfErr, OnOk, OnE
 ghost use Rattle.std.specs.FinMap.{empty};
 ghost use Rattle.std.specs.List.{filter};
 ghost use Rattle.route_table.specs.Path.{segments, bad_place};
-ghost use Rattle.route_table.specs.Table.{IsFound, IsAnswer, IsDeletion, IsAfterDeletion, add_refusal, added, IsLook, IsLookRefusal, routes_in, is_idle_since};
+ghost use Rattle.route_table.specs.Table.{IsFound, IsAnswer, IsDeletion, IsAfterDeletion, add_refusal, added, IsLook, IsLookRefusal};
+ghost use Rattle.route_table.specs.Table.{routes_in, is_idle_since};
 
 use crate::lists::list_rows;
 use crate::lookup::Lookup;

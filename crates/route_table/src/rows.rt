@@ -33,7 +33,8 @@ fn route_of(alloc: Global, key: &Bytes, entry: RouteEntry, now: Moment) -> Resul
 fn seen_at(rows: &Vec<Box<Row>>, at: usize, path: &[u8]) -> Option<u64>
     requires rows { AreRows rows.now.items }
     requires at { IsRowAt rows.now.items path.now at }
-    ensures { (route : Option Route) × (get (rows_of rows.now.items) (decoded_parts path.now) ≡ Some (record { route = route; seen = result })) }
+    ensures { (route : Option Route)
+        × (get (rows_of rows.now.items) (decoded_parts path.now) ≡ Some (record { route = route; seen = result })) }
 {
     let _ = path;
     row_at(rows.as_slice(), at).seen
@@ -67,7 +68,8 @@ fn change_row(
     requires rows { AreRows rows.old.items }
     requires at { IsRowAt rows.old.items path.now at }
     ensures rows { AreRows rows.new.items }
-    ensures changed { rows_of rows.new.items ≡ insert (rows_of rows.old.items) (decoded_parts path.now) (record { route = route; seen = seen }) }
+    ensures changed { rows_of rows.new.items ≡ insert (rows_of rows.old.items) (decoded_parts path.now)
+        (record { route = route; seen = seen }) }
 {
     let _ = path;
     let row = &mut rows[at];
@@ -87,7 +89,8 @@ fn replace_route(
     requires rows { AreRows rows.old.items }
     requires at { IsRowAt rows.old.items path.now at }
     ensures rows { AreRows rows.new.items }
-    ensures ok { OnOk result (rows_of rows.new.items ≡ insert (rows_of rows.old.items) (decoded_parts path.now) (record { route = Some (new_route (decoded_parts path.now) entry now); seen = seen })) }
+    ensures ok { OnOk result (rows_of rows.new.items ≡ insert (rows_of rows.old.items) (decoded_parts path.now)
+        (record { route = Some (new_route (decoded_parts path.now) entry now); seen = seen })) }
     ensures err { OnErr result (rows.new.items ≡ rows.old.items) }
 {
     let row = row_at(rows.as_slice(), at);
@@ -111,7 +114,8 @@ fn add_row(
     requires key { IsKey key }
     requires parts { parts key ≡ decoded_parts path.now }
     ensures rows { AreRows rows.new.items }
-    ensures ok { OnOk result (rows_of rows.new.items ≡ insert (rows_of rows.old.items) (decoded_parts path.now) (record { route = route; seen = seen })) }
+    ensures ok { OnOk result (rows_of rows.new.items ≡ insert (rows_of rows.old.items) (decoded_parts path.now)
+        (record { route = route; seen = seen })) }
     ensures err { OnErr result (rows.new.items ≡ rows.old.items) }
 {
     let _ = path;
@@ -134,7 +138,8 @@ fn add_route(
     requires key { IsKey path.now }
     requires clear { slash_escape path.now ≡ None }
     ensures rows { AreRows rows.new.items }
-    ensures ok { OnOk result (rows_of rows.new.items ≡ insert (rows_of rows.old.items) (decoded_parts path.now) (record { route = Some (new_route (decoded_parts path.now) entry now); seen = entry.serial })) }
+    ensures ok { OnOk result (rows_of rows.new.items ≡ insert (rows_of rows.old.items) (decoded_parts path.now)
+        (record { route = Some (new_route (decoded_parts path.now) entry now); seen = entry.serial })) }
     ensures err { OnErr result (rows.new.items ≡ rows.old.items) }
 {
     let key = decoded(alloc, path)?;
@@ -157,7 +162,8 @@ fn add_serial(
     requires key { IsKey path.now }
     requires clear { slash_escape path.now ≡ None }
     ensures rows { AreRows rows.new.items }
-    ensures ok { OnOk result (rows_of rows.new.items ≡ insert (rows_of rows.old.items) (decoded_parts path.now) (record { route = None; seen = Some serial })) }
+    ensures ok { OnOk result (rows_of rows.new.items ≡ insert (rows_of rows.old.items) (decoded_parts path.now)
+        (record { route = None; seen = Some serial })) }
     ensures err { OnErr result (rows.new.items ≡ rows.old.items) }
 {
     let key = decoded(alloc, path)?;
@@ -255,7 +261,8 @@ pub(crate) fn drop_route(
     ensures rows { AreRows rows.new.items }
     ensures answer { IsAnswer (drop_refusal limit (rows_of rows.old.items) (decoded_parts path.now) serial) result }
     ensures listed { IfOk result (λ was. was ≡ is_some (listed (rows_of rows.old.items) (decoded_parts path.now))) }
-    ensures wanting { result ≡ Err RouteRefusal.Memory → (get (rows_of rows.old.items) (decoded_parts path.now) ≡ None) × (is_some serial ≡ true) }
+    ensures wanting { result ≡ Err RouteRefusal.Memory → (get (rows_of rows.old.items) (decoded_parts path.now) ≡ None)
+        × (is_some serial ≡ true) }
     ensures ok { OnOk result (rows_of rows.new.items ≡ without (rows_of rows.old.items) (decoded_parts path.now) serial) }
     ensures err { OnErr result (rows.new.items ≡ rows.old.items) }
 {

@@ -47,7 +47,8 @@ fn listed_at(rows: &[Box<Row>], path: &[u8]) -> Option<usize>
     requires keys { AreKeys rows.now }
     requires key { IsKey path.now }
     requires clear { slash_escape path.now ≡ None }
-    ensures { MatchOption result (listed (rows_of rows.now) (decoded_parts path.now) ≡ None) (IsListedAt rows.now (decoded_parts path.now)) }
+    ensures { MatchOption result (listed (rows_of rows.now) (decoded_parts path.now) ≡ None)
+        (IsListedAt rows.now (decoded_parts path.now)) }
 {
     match search(rows, path) {
         Ok(at) => if row_at(rows, at).route.is_some() {

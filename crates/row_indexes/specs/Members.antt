@@ -32,20 +32,25 @@ module _ {M K : Type 0} (Q : M → M → Ordering) (R : K → K → Ordering) wh
   -- an index that wasn't given up has a key under a member exactly where the row of the key has the member
   abbrev pub TellsMembers : {X : Type 0} → (X → List M) → FinMap R X → Option (BTreeMap (OwnedKey M K) (Unit {0})) → Type 0
   TellsMembers members_of rows None = Unit {0}
-  TellsMembers members_of rows (Some index) = IsIndex Q R (λ member row. is_among Q member (members_of row)) rows (map_of (owned_cmp Q R) index)
+  TellsMembers members_of rows (Some index) = IsIndex Q R (λ member row. is_among Q member (members_of row)) rows
+      (map_of (owned_cmp Q R) index)
 
   -- the key stands under the new members in place of the old ones, and all else is as before
   abbrev pub IsFollowedIn : K → (old new : List M) → FinMap (owned_cmp Q R) (Unit {0}) → FinMap (owned_cmp Q R) (Unit {0}) → Type 0
   IsFollowedIn key old new before after = (m : M) (k : K) → contains_key after (under m k)
-      ≡ (((is_among Q m new && not (is_among Q m old)) && eq_by_cmp R k key) || (not ((is_among Q m old && not (is_among Q m new)) && eq_by_cmp R k key) && contains_key before (under m k)))
+      ≡ (((is_among Q m new && not (is_among Q m old)) && eq_by_cmp R k key)
+      || (not ((is_among Q m old && not (is_among Q m new)) && eq_by_cmp R k key) && contains_key before (under m k)))
 
   -- the same of an index that may be given up, but only for a new member
   abbrev pub IsFollowed : K → (old new : List M) → (before after : Option (BTreeMap (OwnedKey M K) (Unit {0}))) → Type 0
   IsFollowed key old new None None = Unit {0}
   IsFollowed key old new None (Some after) = ⊥
   IsFollowed key old new (Some before) None = IsTrue (brings Q old new)
-  IsFollowed key old new (Some before) (Some after) = IsFollowedIn key old new (map_of (owned_cmp Q R) before) (map_of (owned_cmp Q R) after)
+  IsFollowed key old new (Some before) (Some after) = IsFollowedIn key old new (map_of (owned_cmp Q R) before)
+      (map_of (owned_cmp Q R) after)
 
   -- an index that told of rows which are the same but at a key, and which have the old row there, tells of the new rows
-  abbrev pub IsRowFollowed : {X : Type 0} → (X → List M) → K → (old : Option X) → (rows : FinMap R X) → (before after : Option (BTreeMap (OwnedKey M K) (Unit {0}))) → Type 0
-  IsRowFollowed {X = X} members_of key old rows before after = (earlier : FinMap R X) → get earlier key ≡ old → AreSameBut key earlier rows → TellsMembers members_of earlier before → TellsMembers members_of rows after
+  abbrev pub IsRowFollowed : {X : Type 0} → (X → List M) → K → (old : Option X) → (rows : FinMap R X)
+      → (before after : Option (BTreeMap (OwnedKey M K) (Unit {0}))) → Type 0
+  IsRowFollowed {X = X} members_of key old rows before after = (earlier : FinMap R X) → get earlier key ≡ old → AreSameBut key earlier rows
+      → TellsMembers members_of earlier before → TellsMembers members_of rows after

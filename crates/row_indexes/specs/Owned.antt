@@ -21,11 +21,14 @@ options_exact exact None (Some b) h = cc
 options_exact exact (Some a) None h = cc
 options_exact exact (Some a) (Some b) h = ap Some (exact a b h)
 
-pub owned_exact : {O K : Type 0} {Q : O → O → Ordering} {R : K → K → Ordering} → IsAntisymmetric Q → IsAntisymmetric R → IsAntisymmetric (owned_cmp Q R)
+pub owned_exact : {O K : Type 0} {Q : O → O → Ordering} {R : K → K → Ordering} → IsAntisymmetric Q → IsAntisymmetric R
+    → IsAntisymmetric (owned_cmp Q R)
 owned_exact {O} {K} {Q} {R} owners keys a b h =
-    ap (λ (p : O × Option K). record { owner = p.0; key = p.1 }) (exact_pairs Q (option_cmp R) owners (options_exact keys) (a.owner, a.key) (b.owner, b.key) h)
+    ap (λ (p : O × Option K). record { owner = p.0; key = p.1 })
+    (exact_pairs Q (option_cmp R) owners (options_exact keys) (a.owner, a.key) (b.owner, b.key) h)
 
-pub owned_together : {O K : Type 0} (Q : O → O → Ordering) (R : K → K → Ordering) (a b : OwnedKey O K) → owned_cmp Q R a b ≡ Less → is_gt (Q a.owner b.owner) ≡ false
+pub owned_together : {O K : Type 0} (Q : O → O → Ordering) (R : K → K → Ordering) (a b : OwnedKey O K) → owned_cmp Q R a b ≡ Less
+    → is_gt (Q a.owner b.owner) ≡ false
 owned_together Q R a b h = elim (Q a.owner b.owner) as (λ r. ordering_then r (option_cmp R a.key b.key) ≡ Less → is_gt r ≡ false) [
   | Less ↦ λ h. refl
   | Equal ↦ λ h. refl
@@ -50,7 +53,9 @@ module _ {O K : Type 0} (Q : O → O → Ordering) (R : K → K → Ordering) wh
 
   -- one key stands under one owner now, and all else is as before
   abbrev pub IsNoted : O → K → FinMap (owned_cmp Q R) (Unit {0}) → FinMap (owned_cmp Q R) (Unit {0}) → Type 0
-  IsNoted owner key before after = (o : O) (k : K) → contains_key after (under o k) ≡ ((eq_by_cmp Q o owner && eq_by_cmp R k key) || contains_key before (under o k))
+  IsNoted owner key before after = (o : O) (k : K)
+      → contains_key after (under o k) ≡ ((eq_by_cmp Q o owner && eq_by_cmp R k key) || contains_key before (under o k))
 
   abbrev pub IsForgotten : O → K → FinMap (owned_cmp Q R) (Unit {0}) → FinMap (owned_cmp Q R) (Unit {0}) → Type 0
-  IsForgotten owner key before after = (o : O) (k : K) → contains_key after (under o k) ≡ (not (eq_by_cmp Q o owner && eq_by_cmp R k key) && contains_key before (under o k))
+  IsForgotten owner key before after = (o : O) (k : K)
+      → contains_key after (under o k) ≡ (not (eq_by_cmp Q o owner && eq_by_cmp R k key) && contains_key before (under o k))

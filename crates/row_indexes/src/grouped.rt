@@ -29,7 +29,8 @@ pub fn keys_of<O: Key, K: Grouped<O>, X>(
 ) -> Result<Vec<K>, AllocError>
     requires own { K.owner_of first ≡ owner.now }
     requires first { (key : K) → K.owner_of key ≡ owner.now → is_gt (K.Ord.cmp first key) ≡ false }
-    ensures { IfOk result (λ keys. keys.items ≡ filter (λ key. eq_by_cmp O.Ord.cmp (K.owner_of key) owner.now) (map.keys (map_of K.Ord.cmp rows.now))) }
+    ensures { IfOk result (λ keys. keys.items ≡ filter (λ key. eq_by_cmp O.Ord.cmp (K.owner_of key) owner.now)
+        (map.keys (map_of K.Ord.cmp rows.now))) }
 {
     let mut keys = Vec::new(alloc);
     for (key, _) in rows.range(first..) {

@@ -113,7 +113,8 @@ pub fn put_hashed<R: Hashed>(
 
 /// Puts an id under a number, or that several rows have the number where an id stands there.
 fn note_id(ids: &mut BTreeMap<u64, u64>, number: u64, id: u64) -> Result<(), AllocError>
-    ensures ok { OnOk result (map_of nat_cmp ids.new ≡ map.insert (map_of nat_cmp ids.old) number (entry_for id (map.get (map_of nat_cmp ids.old) number))) }
+    ensures ok { OnOk result (map_of nat_cmp ids.new ≡ map.insert (map_of nat_cmp ids.old) number
+        (entry_for id (map.get (map_of nat_cmp ids.old) number))) }
     ensures err { OnErr result (map_of nat_cmp ids.new ≡ map_of nat_cmp ids.old) }
 {
     let entry = entry_for(id, keyed_rows::row_at(ids, &number));

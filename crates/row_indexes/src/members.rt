@@ -63,7 +63,8 @@ pub fn keys_with<M: Key + Copy, K: CopyKey + Copy, R: Keyed<K> + HasMembers<M>>(
 ) -> Result<Vec<K>, AllocError>
     requires own { OwnKeys R.key_of (map_of K.Ord.cmp rows.now) }
     requires told { TellsMembers M.Ord.cmp K.Ord.cmp R.members_of (map_of K.Ord.cmp rows.now) index.now }
-    ensures { IfOk result (λ keys. keys.items ≡ map_list R.key_of (filter (λ row. is_among M.Ord.cmp member.now (R.members_of row)) (map.values (map_of K.Ord.cmp rows.now)))) }
+    ensures { IfOk result (λ keys. keys.items ≡ map_list R.key_of
+        (filter (λ row. is_among M.Ord.cmp member.now (R.members_of row)) (map.values (map_of K.Ord.cmp rows.now)))) }
 {
     match index {
         Some(entries) => owned_keys(alloc, entries, member),
@@ -76,7 +77,8 @@ fn scanned_keys<M: Key + Copy, K: CopyKey + Copy, R: Keyed<K> + HasMembers<M>>(
     rows: &BTreeMap<K, R>,
     member: &M,
 ) -> Result<Vec<K>, AllocError>
-    ensures keys { IfOk result (λ keys. keys.items ≡ map_list R.key_of (filter (λ row. is_among M.Ord.cmp member.now (R.members_of row)) (tree.values rows.now))) }
+    ensures keys { IfOk result (λ keys. keys.items ≡ map_list R.key_of
+        (filter (λ row. is_among M.Ord.cmp member.now (R.members_of row)) (tree.values rows.now))) }
     ensures ordered { IsOrdered K.Ord.cmp rows.now }
 {
     let mut keys = Vec::new(alloc);
@@ -142,7 +144,8 @@ fn forget_others<M: Key + Copy, K: Key + Copy>(
     kept: &Sorted<M>,
 )
     ensures { (m : M) (k : K) → map.contains_key (map_of (owned_cmp M.Ord.cmp K.Ord.cmp) entries.new) (under m k)
-        ≡ (not ((is_among M.Ord.cmp m members.now && not (is_among M.Ord.cmp m kept.now)) && eq_by_cmp K.Ord.cmp k key.now) && map.contains_key (map_of (owned_cmp M.Ord.cmp K.Ord.cmp) entries.old) (under m k)) }
+        ≡ (not ((is_among M.Ord.cmp m members.now && not (is_among M.Ord.cmp m kept.now)) && eq_by_cmp K.Ord.cmp k key.now)
+        && map.contains_key (map_of (owned_cmp M.Ord.cmp K.Ord.cmp) entries.old) (under m k)) }
 {
     for member in members {
         if !kept.contains(member) {
@@ -160,7 +163,8 @@ fn note_others<M: Key + Copy, K: Key + Copy>(
 ) -> Result<(), AllocError>
     ensures err { OnErr result (IsTrue (brings M.Ord.cmp kept.now members.now)) }
     ensures ok { OnOk result ((m : M) (k : K) → map.contains_key (map_of (owned_cmp M.Ord.cmp K.Ord.cmp) entries.new) (under m k)
-        ≡ (((is_among M.Ord.cmp m members.now && not (is_among M.Ord.cmp m kept.now)) && eq_by_cmp K.Ord.cmp k key.now) || map.contains_key (map_of (owned_cmp M.Ord.cmp K.Ord.cmp) entries.old) (under m k))) }
+        ≡ (((is_among M.Ord.cmp m members.now && not (is_among M.Ord.cmp m kept.now)) && eq_by_cmp K.Ord.cmp k key.now)
+        || map.contains_key (map_of (owned_cmp M.Ord.cmp K.Ord.cmp) entries.old) (under m k))) }
 {
     for member in members {
         if !kept.contains(member) {

@@ -37,7 +37,8 @@ pub fn note<O: Key + Copy, K: Key + Copy>(
     owner: &O,
     key: &K,
 ) -> Result<(), AllocError>
-    ensures ok { OnOk result (IsNoted O.Ord.cmp K.Ord.cmp owner.now key.now (map_of (owned_cmp O.Ord.cmp K.Ord.cmp) index.old) (map_of (owned_cmp O.Ord.cmp K.Ord.cmp) index.new)) }
+    ensures ok { OnOk result (IsNoted O.Ord.cmp K.Ord.cmp owner.now key.now (map_of (owned_cmp O.Ord.cmp K.Ord.cmp) index.old)
+        (map_of (owned_cmp O.Ord.cmp K.Ord.cmp) index.new)) }
     ensures err { OnErr result (map_of (owned_cmp O.Ord.cmp K.Ord.cmp) index.new ≡ map_of (owned_cmp O.Ord.cmp K.Ord.cmp) index.old) }
 {
     let entry = OwnedKey {
@@ -53,7 +54,8 @@ pub fn forget<O: Key + Copy, K: Key + Copy>(
     owner: &O,
     key: &K,
 )
-    ensures { IsForgotten O.Ord.cmp K.Ord.cmp owner.now key.now (map_of (owned_cmp O.Ord.cmp K.Ord.cmp) index.old) (map_of (owned_cmp O.Ord.cmp K.Ord.cmp) index.new) }
+    ensures { IsForgotten O.Ord.cmp K.Ord.cmp owner.now key.now (map_of (owned_cmp O.Ord.cmp K.Ord.cmp) index.old)
+        (map_of (owned_cmp O.Ord.cmp K.Ord.cmp) index.new) }
 {
     let entry = OwnedKey {
         owner: *owner,
@@ -68,7 +70,8 @@ pub fn owned_keys<O: Key + Copy, K: Key + Copy>(
     index: &BTreeMap<OwnedKey<O, K>, ()>,
     owner: &O,
 ) -> Result<Vec<K>, AllocError>
-    ensures { IfOk result (λ keys. keys.items ≡ keys_under O.Ord.cmp owner.now (map.keys (map_of (owned_cmp O.Ord.cmp K.Ord.cmp) index.now))) }
+    ensures { IfOk result (λ keys. keys.items ≡ keys_under O.Ord.cmp owner.now
+        (map.keys (map_of (owned_cmp O.Ord.cmp K.Ord.cmp) index.now))) }
 {
     let first = OwnedKey {
         owner: *owner,

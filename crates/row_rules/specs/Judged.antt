@@ -1,5 +1,6 @@
 -- How the rows are put and judged.
-use Rattle.std.specs.Prelude.{◌≡◌, ℕ, ◌<◌, ◌≤◌, Bool, true, false, not, ◌&&◌, ◌||◌, List, [], length, take, codes, Option, Some, None, Result, Ok, Err, if◌then◌else◌}
+use Rattle.std.specs.Prelude.{◌≡◌, ℕ, ◌<◌, ◌≤◌, Bool, true, false, not, ◌&&◌, ◌||◌, List, [], length, take, codes, Option, Some, None}
+use Rattle.std.specs.Prelude.{Result, Ok, Err, if◌then◌else◌}
 use Rattle.std.specs.Option.{is_some}
 use Rattle.std.specs.Ordering.{nat_cmp}
 use Rattle.std.specs.declared.cmp.Ordering.{Ordering}
@@ -15,7 +16,8 @@ use Rattle.hub_tables.specs.Changes.{with_row}
 use Rattle.hub_tables.specs.Hashes.{row_with}
 use Rattle.hub_tables.specs.Lookups.{next_of}
 use Rattle.hub_tables.specs.State.{State}
-use Rattle.row_rules.specs.Across.{rows_put, is_leased, is_new, is_sole, stands, has, token_id, token_hash, code_id, code_hash, leased_server, leased_generation, started_server, passing, sound_rows}
+use Rattle.row_rules.specs.Across.{rows_put, is_leased, is_new, is_sole, stands, has, token_id, token_hash, code_id, code_hash}
+use Rattle.row_rules.specs.Across.{leased_server, leased_generation, started_server, passing, sound_rows}
 use Rattle.row_rules.specs.declared.kept.RowsError.{RowsError}
 use Rattle.row_rules.specs.declared.kept.RowsError.TheVariants.{Broken, Memory}
 use Rattle.row_rules.specs.declared.standing.Ledger.{Ledger}
@@ -44,7 +46,8 @@ abbrev pub with_other : Row → State → State
 with_other row t = if is_hashed row then t else with_row row t
 
 -- the ids and the hashes of kept rows are those of these rows
-pub record Holds {X : Type 0} (hash_of : X → List ℕ) (id : Row → Option ℕ) (hash : Row → Option (List ℕ)) (kept : FinMap nat_cmp X) (rows : List Row) : Type 0 where
+pub record Holds {X : Type 0} (hash_of : X → List ℕ) (id : Row → Option ℕ) (hash : Row → Option (List ℕ)) (kept : FinMap nat_cmp X)
+    (rows : List Row) : Type 0 where
   pub ids : (key : ℕ) → contains_key kept key ≡ has nat_cmp id rows key
   pub hashes : (key : List ℕ) → is_some (row_with hash_of key kept) ≡ has name_cmp hash rows key
 

@@ -83,7 +83,8 @@ fn add_servers<K>(
     leased: &mut BTreeMap<ServerKey, ()>,
     leases: Values<'_, K, Lease>,
 ) -> Result<(), AllocError>
-    ensures { OnOk result ((server : ServerKey) → is_in leased.new server ≡ (is_in leased.old server || spec.is_leased_by leases.entry server)) }
+    ensures { OnOk result ((server : ServerKey)
+        → is_in leased.new server ≡ (is_in leased.old server || spec.is_leased_by leases.entry server)) }
 {
     for lease in leases {
         insert_row(leased, lease.server, ())?;

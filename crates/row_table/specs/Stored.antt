@@ -1,5 +1,6 @@
 -- The rows of the hub in the table `row`.
-use Rattle.std.specs.Prelude.{◌≡◌, ◌≤◌, ℕ, suc, ◌==◌, ℤ, pos, negsuc, Bool, false, ◌&&◌, if◌then◌else◌, List, [], ◌∷◌, bytes_eq, Option, Some, None}
+use Rattle.std.specs.Prelude.{◌≡◌, ◌≤◌, ℕ, suc, ◌==◌, ℤ, pos, negsuc, Bool, false, ◌&&◌, if◌then◌else◌, List, [], ◌∷◌, bytes_eq, Option}
+use Rattle.std.specs.Prelude.{Some, None}
 use Rattle.keeper.specs.Rows.{Rows, AreSame}
 use Rattle.sqlite.specs.Effect.{Database}
 use Rattle.sqlite.specs.Order.{Row, column}

@@ -12,11 +12,19 @@ use Rattle.sqlite_schema.specs.declared.schema.Index.{Index}
 
 -- a column of a STRICT table without a default
 abbrev pub plain_column : List ℕ → Kind → Bool → Column
-plain_column name kind not_null = record { name = name; kind = kind; is_strict = true; not_null = not_null; default = Null; collation = Binary }
+plain_column name kind not_null = record
+    { name = name; kind = kind; is_strict = true; not_null = not_null; default = Null; collation = Binary }
 
 -- the index of a primary key
 abbrev pub plain_index : List ℕ → ℕ → ℕ → List ℕ → Index
-plain_index name tree table columns = record { name = name; tree = tree; table = table; columns = columns; order = record { digits = 0 }; is_unique = true }
+plain_index name tree table columns = record {
+  name = name;
+  tree = tree;
+  table = table;
+  columns = columns;
+  order = record { digits = 0 };
+  is_unique = true;
+}
 
 -- the columns count from 1, since place 0 is that of the rowid
 abbrev pub row_table : Table

@@ -32,4 +32,5 @@ StaysInside old new result = IsTrue old.in_transaction → KeepsCommit old new �
 -- A query that isn't a write leaves what the connection sees, if that is the last commit. This holds also where it fails.
 abbrev pub Leaves : List ℕ → State → State → Type 0
 Leaves sql old new =
-    IsTrue new.is_open → IsTrue old.is_open × (IsPlain (understood old.now.schema sql) → old.now ≡ old.committed → (new.now ≡ old.now) × (new.committed ≡ old.committed))
+    IsTrue new.is_open → IsTrue old.is_open × (IsPlain (understood old.now.schema sql) → old.now ≡ old.committed → (new.now ≡ old.now)
+    × (new.committed ≡ old.committed))

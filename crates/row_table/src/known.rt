@@ -15,12 +15,15 @@ pub fn has_row_store<S: Alter>(conn: &mut Connection<S>) -> Result<bool, Error>
     ensures clean { doubt (state S.Store conn.old).is_clean ≤ doubt (state S.Store conn.new).is_clean }
     ensures mode { conn.old.in_transaction ≡ false → conn.new.in_transaction ≡ false }
     ensures stays { StaysOpen (state S.Store conn.old) (state S.Store conn.new) }
-    ensures open { HasCleanDisk (state S.Store conn.new) → IsTrue (state S.Store conn.old).is_open → IfOk result (λ known. IsTrue (state S.Store conn.new).is_open) }
+    ensures open { HasCleanDisk (state S.Store conn.new) → IsTrue (state S.Store conn.old).is_open
+        → IfOk result (λ known. IsTrue (state S.Store conn.new).is_open) }
     ensures stands { HasCleanDisk (state S.Store conn.new) → IsTrue (state S.Store conn.new).is_open
         → IsTrue (state S.Store conn.old).is_open × ((state S.Store conn.new).now ≡ (state S.Store conn.old).now) }
     ensures apart { IfOk result (λ known. IsTrue known → conn.old.in_transaction ≡ false) }
-    ensures known { HasCleanDisk (state S.Store conn.new) → IsTrue (state S.Store conn.new).is_open → IfOk result (λ known. IsTrue known → IsRowStore (state S.Store conn.new).now) }
-    ensures only { HasCleanDisk (state S.Store conn.new) → conn.old.in_transaction ≡ false → IsRowStore (state S.Store conn.old).now → IfOk result IsTrue }
+    ensures known { HasCleanDisk (state S.Store conn.new) → IsTrue (state S.Store conn.new).is_open
+        → IfOk result (λ known. IsTrue known → IsRowStore (state S.Store conn.new).now) }
+    ensures only { HasCleanDisk (state S.Store conn.new) → conn.old.in_transaction ≡ false → IsRowStore (state S.Store conn.old).now
+        → IfOk result IsTrue }
     ensures unread { HasCleanDisk (state S.Store conn.new) → IfErr result (IsUnread (state S.Store conn.old) (state S.Store conn.new)) }
 {
     if !conn.is_autocommit() || !schema::is_store_schema(conn.schema()) {

@@ -20,8 +20,10 @@ fn is_column(column: &Column, name: &[u8], kind: Kind, not_null: bool) -> bool
 
 /// Whether the table has no check, reference, computed default, stamp or count, and no key but its rowid.
 fn is_bare(table: &Table) -> bool
-    ensures is { IsTrue result → (table.now.key ≡ None) × (table.now.checks ≡ []) × (table.now.references ≡ []) × (table.now.computed ≡ []) × (table.now.stamps ≡ record { places = []; terms = []; formats = [] }) × (table.now.is_counted ≡ false) }
-    ensures only { (table.now.key ≡ None) × (table.now.checks ≡ []) × (table.now.references ≡ []) × (table.now.computed ≡ []) × (table.now.stamps ≡ record { places = []; terms = []; formats = [] }) × (table.now.is_counted ≡ false) → IsTrue result }
+    ensures is { IsTrue result → (table.now.key ≡ None) × (table.now.checks ≡ []) × (table.now.references ≡ []) × (table.now.computed ≡ [])
+        × (table.now.stamps ≡ record { places = []; terms = []; formats = [] }) × (table.now.is_counted ≡ false) }
+    ensures only { (table.now.key ≡ None) × (table.now.checks ≡ []) × (table.now.references ≡ []) × (table.now.computed ≡ [])
+        × (table.now.stamps ≡ record { places = []; terms = []; formats = [] }) × (table.now.is_counted ≡ false) → IsTrue result }
 {
     table.key.is_none()
         && table.checks.roots.is_empty()
@@ -55,8 +57,10 @@ fn has_plain_order(table: &Table) -> bool
 
 /// Whether the primary key of the table is of these columns, and has the one index that SQLite makes.
 fn is_keyed(table: &Table, places: &[usize]) -> bool
-    ensures is { IsTrue result → (table.now.primary ≡ places.now) × (table.now.uniques ≡ places.now ∷ []) × (table.now.orders ≡ (record { digits = 0 }) ∷ []) }
-    ensures only { (table.now.primary ≡ places.now) × (table.now.uniques ≡ places.now ∷ []) × (table.now.orders ≡ (record { digits = 0 }) ∷ []) → IsTrue result }
+    ensures is { IsTrue result → (table.now.primary ≡ places.now) × (table.now.uniques ≡ places.now ∷ [])
+        × (table.now.orders ≡ (record { digits = 0 }) ∷ []) }
+    ensures only { (table.now.primary ≡ places.now) × (table.now.uniques ≡ places.now ∷ [])
+        × (table.now.orders ≡ (record { digits = 0 }) ∷ []) → IsTrue result }
 {
     table.primary.as_slice() == places && has_one_key(table, places) && has_plain_order(table)
 }
@@ -128,8 +132,10 @@ fn has_both_tables(schema: &Schema) -> bool
 }
 
 fn has_both_indexes(schema: &Schema) -> bool
-    ensures is { IsTrue result → schema.now.indexes ≡ plain_index (codes "sqlite_autoindex_row_1") 1 0 (1 ∷ 2 ∷ []) ∷ plain_index (codes "sqlite_autoindex_meta_1") 3 2 (1 ∷ []) ∷ [] }
-    ensures only { schema.now.indexes ≡ plain_index (codes "sqlite_autoindex_row_1") 1 0 (1 ∷ 2 ∷ []) ∷ plain_index (codes "sqlite_autoindex_meta_1") 3 2 (1 ∷ []) ∷ [] → IsTrue result }
+    ensures is { IsTrue result → schema.now.indexes ≡ plain_index (codes "sqlite_autoindex_row_1") 1 0 (1 ∷ 2 ∷ []) ∷ plain_index
+        (codes "sqlite_autoindex_meta_1") 3 2 (1 ∷ []) ∷ [] }
+    ensures only { schema.now.indexes ≡ plain_index (codes "sqlite_autoindex_row_1") 1 0 (1 ∷ 2 ∷ []) ∷ plain_index
+        (codes "sqlite_autoindex_meta_1") 3 2 (1 ∷ []) ∷ [] → IsTrue result }
 {
     let [row, meta] = schema.indexes.as_slice() else {
         return false;

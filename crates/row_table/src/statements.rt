@@ -13,7 +13,8 @@ ghost use Rattle.row_table.specs.Ours.{AreOurs};
 ghost use Rattle.row_table.specs.Shown.{shown, front};
 ghost use Rattle.row_table.specs.Unread.{IsUnread};
 ghost use Rattle.row_table.specs.Stored.{IsRowStore, HasRows, rows_of, whole};
-ghost use Rattle.row_table.specs.Texts.{make_text, raise_text, number_text, put_text, delete_text, select_text, all_text, StaysInside, Leaves};
+ghost use Rattle.row_table.specs.Texts.{make_text, raise_text, number_text, put_text, delete_text, select_text, all_text, StaysInside};
+ghost use Rattle.row_table.specs.Texts.{Leaves};
 
 use sqlite::{Alter, Connection, Error, Row, Transaction, params};
 
@@ -22,9 +23,12 @@ pub fn make_tables<S: Alter>(tx: &mut Transaction<'_, S>) -> Result<(), Error>
     ensures same_reference { tx.new.conn.ghost_name ≡ tx.old.conn.ghost_name }
     ensures clean { doubt (state S.Store tx.old.conn.now).is_clean ≤ doubt (state S.Store tx.new.conn.now).is_clean }
     ensures stays { StaysOpen (state S.Store tx.old.conn.now) (state S.Store tx.new.conn.now) }
-    ensures kept { HasCleanDisk (state S.Store tx.new.conn.now) → StaysInside (state S.Store tx.old.conn.now) (state S.Store tx.new.conn.now) result }
-    ensures made { HasCleanDisk (state S.Store tx.new.conn.now) → (state S.Store tx.old.conn.now).now.schema ≡ no_schema → OnOk result (HasRows (state S.Store tx.new.conn.now).now no_rows) }
-    ensures ran { HasCleanDisk (state S.Store tx.new.conn.now) → OnOk result (ExecutesAllInside S.Store 0 make_text tx.old.conn.now tx.new.conn.now (Ok tt)) }
+    ensures kept { HasCleanDisk (state S.Store tx.new.conn.now)
+        → StaysInside (state S.Store tx.old.conn.now) (state S.Store tx.new.conn.now) result }
+    ensures made { HasCleanDisk (state S.Store tx.new.conn.now) → (state S.Store tx.old.conn.now).now.schema ≡ no_schema
+        → OnOk result (HasRows (state S.Store tx.new.conn.now).now no_rows) }
+    ensures ran { HasCleanDisk (state S.Store tx.new.conn.now)
+        → OnOk result (ExecutesAllInside S.Store 0 make_text tx.old.conn.now tx.new.conn.now (Ok tt)) }
 {
     tx.execute_batch(
         "CREATE TABLE row (kind INTEGER, key TEXT, text TEXT, PRIMARY KEY (kind, key)) STRICT; CREATE TABLE meta (name TEXT PRIMARY KEY, value INTEGER) STRICT; INSERT INTO meta (name, value) VALUES ('schema', 2)",
@@ -36,10 +40,12 @@ pub fn raise_number<S: Alter>(tx: &mut Transaction<'_, S>) -> Result<(), Error>
     ensures same_reference { tx.new.conn.ghost_name ≡ tx.old.conn.ghost_name }
     ensures clean { doubt (state S.Store tx.old.conn.now).is_clean ≤ doubt (state S.Store tx.new.conn.now).is_clean }
     ensures stays { StaysOpen (state S.Store tx.old.conn.now) (state S.Store tx.new.conn.now) }
-    ensures kept { HasCleanDisk (state S.Store tx.new.conn.now) → StaysInside (state S.Store tx.old.conn.now) (state S.Store tx.new.conn.now) result }
+    ensures kept { HasCleanDisk (state S.Store tx.new.conn.now)
+        → StaysInside (state S.Store tx.old.conn.now) (state S.Store tx.new.conn.now) result }
     ensures raised { HasCleanDisk (state S.Store tx.new.conn.now) → IsRowStore (state S.Store tx.old.conn.now).now
         → OnOk result (HasRows (state S.Store tx.new.conn.now).now (rows_of ((state S.Store tx.old.conn.now).now.trees 0))) }
-    ensures ran { HasCleanDisk (state S.Store tx.new.conn.now) → OnOk result (ExecutesAllInside S.Store 0 raise_text tx.old.conn.now tx.new.conn.now (Ok tt)) }
+    ensures ran { HasCleanDisk (state S.Store tx.new.conn.now)
+        → OnOk result (ExecutesAllInside S.Store 0 raise_text tx.old.conn.now tx.new.conn.now (Ok tt)) }
 {
     tx.execute_batch("UPDATE meta SET value = 2 WHERE name = 'schema'")
 }
@@ -49,8 +55,10 @@ pub fn find_number<S: Alter>(tx: &mut Transaction<'_, S>) -> Result<Row, Error>
     ensures same_reference { tx.new.conn.ghost_name ≡ tx.old.conn.ghost_name }
     ensures clean { doubt (state S.Store tx.old.conn.now).is_clean ≤ doubt (state S.Store tx.new.conn.now).is_clean }
     ensures stays { StaysOpen (state S.Store tx.old.conn.now) (state S.Store tx.new.conn.now) }
-    ensures kept { HasCleanDisk (state S.Store tx.new.conn.now) → StaysInside (state S.Store tx.old.conn.now) (state S.Store tx.new.conn.now) result }
-    ensures found { HasCleanDisk (state S.Store tx.new.conn.now) → IfOk result (λ row. QueriesRow number_text [] (state S.Store tx.old.conn.now) (state S.Store tx.new.conn.now) (Ok row)) }
+    ensures kept { HasCleanDisk (state S.Store tx.new.conn.now)
+        → StaysInside (state S.Store tx.old.conn.now) (state S.Store tx.new.conn.now) result }
+    ensures found { HasCleanDisk (state S.Store tx.new.conn.now)
+        → IfOk result (λ row. QueriesRow number_text [] (state S.Store tx.old.conn.now) (state S.Store tx.new.conn.now) (Ok row)) }
 {
     tx.query_row("SELECT value FROM meta WHERE name = 'schema'", &[])
 }
@@ -65,10 +73,13 @@ pub fn put_row<S: Alter>(
     ensures same_reference { tx.new.conn.ghost_name ≡ tx.old.conn.ghost_name }
     ensures clean { doubt (state S.Store tx.old.conn.now).is_clean ≤ doubt (state S.Store tx.new.conn.now).is_clean }
     ensures stays { StaysOpen (state S.Store tx.old.conn.now) (state S.Store tx.new.conn.now) }
-    ensures put { HasCleanDisk (state S.Store tx.new.conn.now) → IsTrue (state S.Store tx.old.conn.now).in_transaction → IsRowStore (state S.Store tx.old.conn.now).now
-        → OnOk result (HasRows (state S.Store tx.new.conn.now).now (with_text kind key.now (Some text.now) (rows_of ((state S.Store tx.old.conn.now).now.trees 0)))) }
+    ensures put { HasCleanDisk (state S.Store tx.new.conn.now) → IsTrue (state S.Store tx.old.conn.now).in_transaction
+        → IsRowStore (state S.Store tx.old.conn.now).now
+        → OnOk result (HasRows (state S.Store tx.new.conn.now).now
+        (with_text kind key.now (Some text.now) (rows_of ((state S.Store tx.old.conn.now).now.trees 0)))) }
     ensures runs { HasCleanDisk (state S.Store tx.new.conn.now) → IsTrue (state S.Store tx.old.conn.now).in_transaction
-        → ExecutesInside 0 put_text (Int (pos kind) ∷ Words key.now ∷ Words text.now ∷ []) (state S.Store tx.old.conn.now) (state S.Store tx.new.conn.now) result }
+        → ExecutesInside 0 put_text (Int (pos kind) ∷ Words key.now ∷ Words text.now ∷ []) (state S.Store tx.old.conn.now)
+        (state S.Store tx.new.conn.now) result }
 {
     tx.execute(
         "INSERT INTO row (kind, key, text) VALUES (?1, ?2, ?3) ON CONFLICT (kind, key) DO UPDATE SET text = excluded.text",
@@ -85,10 +96,13 @@ pub fn delete_row<S: Alter>(
     ensures same_reference { tx.new.conn.ghost_name ≡ tx.old.conn.ghost_name }
     ensures clean { doubt (state S.Store tx.old.conn.now).is_clean ≤ doubt (state S.Store tx.new.conn.now).is_clean }
     ensures stays { StaysOpen (state S.Store tx.old.conn.now) (state S.Store tx.new.conn.now) }
-    ensures deleted { HasCleanDisk (state S.Store tx.new.conn.now) → IsTrue (state S.Store tx.old.conn.now).in_transaction → IsRowStore (state S.Store tx.old.conn.now).now
-        → OnOk result (HasRows (state S.Store tx.new.conn.now).now (with_text kind key.now None (rows_of ((state S.Store tx.old.conn.now).now.trees 0)))) }
+    ensures deleted { HasCleanDisk (state S.Store tx.new.conn.now) → IsTrue (state S.Store tx.old.conn.now).in_transaction
+        → IsRowStore (state S.Store tx.old.conn.now).now
+        → OnOk result (HasRows (state S.Store tx.new.conn.now).now
+        (with_text kind key.now None (rows_of ((state S.Store tx.old.conn.now).now.trees 0)))) }
     ensures runs { HasCleanDisk (state S.Store tx.new.conn.now) → IsTrue (state S.Store tx.old.conn.now).in_transaction
-        → ExecutesInside 0 delete_text (Int (pos kind) ∷ Words key.now ∷ []) (state S.Store tx.old.conn.now) (state S.Store tx.new.conn.now) result }
+        → ExecutesInside 0 delete_text (Int (pos kind) ∷ Words key.now ∷ []) (state S.Store tx.old.conn.now) (state S.Store tx.new.conn.now)
+        result }
 {
     tx.execute(
         "DELETE FROM row WHERE kind = ?1 AND key = ?2",
@@ -103,8 +117,10 @@ pub fn select_rows<S: Alter>(conn: &mut Connection<S>) -> Result<Vec<Row>, Error
     ensures mode { conn.old.in_transaction ≡ false → conn.new.in_transaction ≡ false }
     ensures left { HasCleanDisk (state S.Store conn.new) → Leaves select_text (state S.Store conn.old) (state S.Store conn.new) }
     ensures listed { HasCleanDisk (state S.Store conn.new) → IsRowStore (state S.Store conn.old).now
-        → IfOk result (λ rows. (all : List Kept) → map shown all ≡ map front rows.items → Lists (rows_of ((state S.Store conn.old).now.trees 0)) all) }
-    ensures shown { HasCleanDisk (state S.Store conn.new) → IfOk result (λ rows. Shown select_text [] (state S.Store conn.old) (state S.Store conn.new) rows.items) }
+        → IfOk result (λ rows. (all : List Kept) → map shown all ≡ map front rows.items
+        → Lists (rows_of ((state S.Store conn.old).now.trees 0)) all) }
+    ensures shown { HasCleanDisk (state S.Store conn.new)
+        → IfOk result (λ rows. Shown select_text [] (state S.Store conn.old) (state S.Store conn.new) rows.items) }
 {
     conn.query_all("SELECT kind, key, text FROM row ORDER BY kind, key", &[])
 }
@@ -118,7 +134,8 @@ pub fn select_all<S: Alter>(conn: &mut Connection<S>) -> Result<Vec<Row>, Error>
     ensures whole { HasCleanDisk (state S.Store conn.new) → (state S.Store conn.old).now.schema ≡ store_schema
         → IfOk result (λ rows. IsPermutation (map whole ((state S.Store conn.old).now.trees 0)) rows.items) }
     ensures open { HasCleanDisk (state S.Store conn.new) → IfOk result (λ rows. IsTrue (state S.Store conn.new).is_open) }
-    ensures ours { HasCleanDisk (state S.Store conn.new) → IsRowStore (state S.Store conn.old).now → IfOk result (λ rows. AreOurs rows.items) }
+    ensures ours { HasCleanDisk (state S.Store conn.new) → IsRowStore (state S.Store conn.old).now
+        → IfOk result (λ rows. AreOurs rows.items) }
     ensures unread { HasCleanDisk (state S.Store conn.new) → (state S.Store conn.old).now.schema ≡ store_schema
         → IfErr result (IsUnread (state S.Store conn.old) (state S.Store conn.new)) }
 {

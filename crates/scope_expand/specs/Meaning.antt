@@ -3,7 +3,8 @@ use Rattle.std.specs.Prelude.{List, [], ◌∷◌, Option, Some, None, IsTrue}
 use Rattle.std.specs.List.{flat_map}
 use Rattle.hub_kit.specs.declared.names.ServerKey.{ServerKey}
 use Rattle.scope_names.specs.declared.action.Action.{Action}
-use Rattle.scope_names.specs.declared.action.Action.TheVariants.{AccessServers, ReadShares, ReadUsers, Servers, Tokens, UsersActivity, UsersShares}
+use Rattle.scope_names.specs.declared.action.Action.TheVariants.{AccessServers, ReadShares, ReadUsers, Servers, Tokens, UsersActivity}
+use Rattle.scope_names.specs.declared.action.Action.TheVariants.{UsersShares}
 use Rattle.scope_names.specs.declared.custom.CustomRow.{CustomRow}
 use Rattle.scope_names.specs.Coverage.{Covers}
 use Rattle.scope_filters.specs.declared.filter.Filter.{Filter}
@@ -65,4 +66,5 @@ plain_scopes scopes holder = flat_map (λ scope. means scope holder) scopes
 
 -- some scope means, for the holder, one that covers the action and admits it on the object
 abbrev pub IsMeant : List CustomRow → List RawScope → Holder → Context → Action → Object → Type 0
-IsMeant table scopes holder m a x = OneOf (λ scope. Covers table scope.action a × IsTrue (admits a m scope.filter x)) (plain_scopes scopes holder)
+IsMeant table scopes holder m a x = OneOf (λ scope. Covers table scope.action a × IsTrue (admits a m scope.filter x))
+    (plain_scopes scopes holder)

@@ -42,7 +42,8 @@ pub fn expand(
     scopes: &[RawScope],
     holder: &Holder,
 ) -> Result<Grant, AllocError>
-    ensures admits { IfOk result (λ grant. (m : Context) (a : Action) (x : Object) → IsTrue (grant_admits m grant a x) ↔ IsMeant table.now scopes.now holder.now m a x) }
+    ensures admits { IfOk result (λ grant. (m : Context) (a : Action) (x : Object) → IsTrue (grant_admits m grant a x)
+        ↔ IsMeant table.now scopes.now holder.now m a x) }
     ensures rows { IfOk result (GrantsCovered table.now (plain_scopes scopes.now holder.now)) }
     ensures owners { IfOk result HasNoOwnerOf }
 {
@@ -51,7 +52,8 @@ pub fn expand(
 
 /// Adds to a grant all that another grants. Without memory the grant is as it was.
 pub fn join(into: &mut Grant, other: &Grant) -> Result<(), AllocError>
-    ensures admits { OnOk result ((m : Context) (a : Action) (x : Object) → grant_admits m into.new a x ≡ (grant_admits m into.old a x || grant_admits m other.now a x)) }
+    ensures admits { OnOk result ((m : Context) (a : Action) (x : Object)
+        → grant_admits m into.new a x ≡ (grant_admits m into.old a x || grant_admits m other.now a x)) }
     ensures owners { OnOk result (HasNoOwnerOf into.old → HasNoOwnerOf other.now → HasNoOwnerOf into.new) }
     ensures kept { OnErr result (into.new ≡ into.old) }
 {
@@ -192,7 +194,8 @@ fn server_of_issue(issued_for: &Option<ServerKey>) -> Option<Filter>
 
 /// Adds a filter under each of the actions.
 fn add_each(grant: &mut Grant, actions: &[Action], filter: &Filter) -> Result<(), AllocError>
-    ensures { OnOk result ((p : Filter → Bool) (a : Action) → passes p grant.new a ≡ (passes p grant.old a || (is_among a actions.now && p filter.now))) }
+    ensures { OnOk result ((p : Filter → Bool) (a : Action)
+        → passes p grant.new a ≡ (passes p grant.old a || (is_among a actions.now && p filter.now))) }
 {
     for action in actions {
         grant.add(*action, *filter)?;
@@ -221,7 +224,8 @@ fn add_all(into: &mut Grant, other: &Grant) -> Result<(), AllocError>
 
 /// Adds filters under an action.
 fn add_filters(into: &mut Grant, action: &Action, filters: &Filters) -> Result<(), AllocError>
-    ensures { OnOk result ((p : Filter → Bool) (a : Action) → passes p into.new a ≡ (passes p into.old a || row_passes p a (action.now, filters.now))) }
+    ensures { OnOk result ((p : Filter → Bool) (a : Action)
+        → passes p into.new a ≡ (passes p into.old a || row_passes p a (action.now, filters.now))) }
 {
     for filter in filters.iter() {
         into.add(*action, *filter)?;

@@ -35,4 +35,5 @@ with_filter g a f = insert g a (with_one (get g a) f)
 
 -- the second grant admits what the first does, and under one action what a filter does, and nothing else
 abbrev pub AdmitsMore : Rights → Action → Filter → Rights → Type 0
-AdmitsMore g a f h = (m : Context) (b : Action) (x : Object) → grant_admits m h b x ≡ ((same_action b a && admits b m f x) || grant_admits m g b x)
+AdmitsMore g a f h = (m : Context) (b : Action) (x : Object)
+    → grant_admits m h b x ≡ ((same_action b a && admits b m f x) || grant_admits m g b x)

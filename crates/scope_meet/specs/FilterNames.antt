@@ -49,7 +49,8 @@ one_where : (b : Bool) (x u : List ℕ) → is_among name_cmp x (if b then u ∷
 one_where true x u = one x u
 one_where false x u = refl
 
-pub users_are_named : (a : Action) (m : Context) (f : Filter) (x : List ℕ) → is_all f ≡ false → is_among name_cmp x (users_named a m f) ≡ admits a m f (Ob.User x)
+pub users_are_named : (a : Action) (m : Context) (f : Filter) (x : List ℕ) → is_all f ≡ false
+    → is_among name_cmp x (users_named a m f) ≡ admits a m f (Ob.User x)
 users_are_named a m Fi.All x h = cc
 users_are_named a m (Fi.User u) x h = one x u
 users_are_named a m (Fi.Group g) x h = among_same x (m g)
@@ -57,7 +58,8 @@ users_are_named a m (Fi.Server k) x h = one_where (reads_names a) x k.user
 users_are_named a m (Fi.Service v) x h = refl
 users_are_named a m (Fi.OwnerOf u) x h = one x u
 
-pub groups_are_named : (a : Action) (m : Context) (f : Filter) (x : List ℕ) → is_all f ≡ false → is_among name_cmp x (groups_named a m f) ≡ admits a m f (Ob.Group x)
+pub groups_are_named : (a : Action) (m : Context) (f : Filter) (x : List ℕ) → is_all f ≡ false
+    → is_among name_cmp x (groups_named a m f) ≡ admits a m f (Ob.Group x)
 groups_are_named a m Fi.All x h = cc
 groups_are_named a m (Fi.User u) x h = refl
 groups_are_named a m (Fi.Group g) x h = one x g
@@ -65,7 +67,8 @@ groups_are_named a m (Fi.Server k) x h = refl
 groups_are_named a m (Fi.Service v) x h = refl
 groups_are_named a m (Fi.OwnerOf u) x h = refl
 
-pub services_are_named : (a : Action) (m : Context) (f : Filter) (x : List ℕ) → is_all f ≡ false → is_among name_cmp x (services_named a m f) ≡ admits a m f (Ob.Service x)
+pub services_are_named : (a : Action) (m : Context) (f : Filter) (x : List ℕ) → is_all f ≡ false
+    → is_among name_cmp x (services_named a m f) ≡ admits a m f (Ob.Service x)
 services_are_named a m Fi.All x h = cc
 services_are_named a m (Fi.User u) x h = refl
 services_are_named a m (Fi.Group g) x h = refl

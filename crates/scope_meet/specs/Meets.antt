@@ -53,4 +53,5 @@ AreGroupMeets m gs hs met = (a : Action) (x : Object) → any_admits a m met x
 
 -- the grant admits what it did, and under an action what both the filters and a further grant do
 abbrev pub IsMetUnder : Context → Action → List Filter → Rights → Rights → Rights → Type 0
-IsMetUnder m b fs h old new = (a : Action) (x : Object) → grant_admits m new a x ≡ (grant_admits m old a x || (same_action a b && (any_admits b m fs x && grant_admits m h b x)))
+IsMetUnder m b fs h old new = (a : Action) (x : Object)
+    → grant_admits m new a x ≡ (grant_admits m old a x || (same_action a b && (any_admits b m fs x && grant_admits m h b x)))

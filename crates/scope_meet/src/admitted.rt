@@ -47,7 +47,8 @@ pub trait Named: Key + Copy {
         ensures { OnOk result (names.new.items ≡ names.old.items ++ named_by action.now (M.context members.now) filter.now) };
 
     /// A name is among them exactly where the filter admits its object, unless it admits every one.
-    ghost named: { (a : Action) (m : Context) (f : Filter) (x : Self) → spec.is_all f ≡ false → is_among Self.Ord.cmp x (named_by a m f) ≡ admits a m f (object_of x) };
+    ghost named: { (a : Action) (m : Context) (f : Filter) (x : Self) → spec.is_all f ≡ false
+        → is_among Self.Ord.cmp x (named_by a m f) ≡ admits a m f (object_of x) };
 }
 
 impl Named for UserName {
@@ -121,7 +122,8 @@ pub fn those_admitted<K: Named, M: Members>(
     action: Action,
     members: &M,
 ) -> Result<Admitted<K>, AllocError>
-    ensures { IfOk result (λ who. (name : K) → is_admitted K.Ord.cmp who name ≡ grant_admits (M.context members.now) grant.now action (K.object_of name)) }
+    ensures { IfOk result (λ who. (name : K) → is_admitted K.Ord.cmp who name ≡ grant_admits (M.context members.now) grant.now action
+        (K.object_of name)) }
 {
     match grant.at(&action) {
         Some(filters) => admitted_by(alloc, filters, action, members),
@@ -136,7 +138,8 @@ fn admitted_by<K: Named, M: Members>(
     action: Action,
     members: &M,
 ) -> Result<Admitted<K>, AllocError>
-    ensures { IfOk result (λ who. (name : K) → is_admitted K.Ord.cmp who name ≡ any_admits action (M.context members.now) (map.keys filters.now) (K.object_of name)) }
+    ensures { IfOk result (λ who. (name : K) → is_admitted K.Ord.cmp who name ≡ any_admits action (M.context members.now)
+        (map.keys filters.now) (K.object_of name)) }
 {
     if has_all(filters) {
         return Ok(Admitted::Every);

@@ -185,7 +185,8 @@ fn sorted_members<M: Members>(
     members: &M,
 ) -> Result<Vec<UserName>, AllocError>
     ensures sorted { IfOk result (λ users. IsSorted name_cmp users.items) }
-    ensures same { IfOk result (λ users. (p : List ℕ → Bool) → list_any p users.items ≡ list_any p (flat_map (M.context members.now) groups.now)) }
+    ensures same { IfOk result (λ users. (p : List ℕ → Bool)
+        → list_any p users.items ≡ list_any p (flat_map (M.context members.now) groups.now)) }
 {
     let mut users = members_of(alloc, groups, members)?;
     users.sort_unstable();
@@ -214,7 +215,8 @@ fn push_common<M: Members>(
     members: &M,
 ) -> Result<(), AllocError>
     requires { IsSorted name_cmp users.now }
-    ensures { OnOk result (met.new.items ≡ met.old.items ++ flat_map (λ g. map Fi.User (filter (spec.is_among users.now) (M.context members.now g))) groups.now) }
+    ensures { OnOk result (met.new.items ≡ met.old.items
+        ++ flat_map (λ g. map Fi.User (filter (spec.is_among users.now) (M.context members.now g))) groups.now) }
 {
     for group in groups {
         push_users(met, members.members(group), users)?;

@@ -58,7 +58,8 @@ fn least_outside<M: Members>(
     ensures { let is_one = (λ (f : Filter). list_any (same_filter f) (map.keys filters.now)) in
         let held = (λ (f : Filter). list_any (within action.now (M.context members.now) f) (filters_at b.now action.now)) in
         MatchOption result ((f : Filter) → IsTrue (is_one f) → IsTrue (held f))
-        (λ first. IsTrue (is_one first) × IsFalse (held first) × ((f : Filter) → IsTrue (is_one f) → IsFalse (held f) → IsTrue (is_le (spec.text_cmp first f)))) }
+        (λ first. IsTrue (is_one first) × IsFalse (held first)
+        × ((f : Filter) → IsTrue (is_one f) → IsFalse (held f) → IsTrue (is_le (spec.text_cmp first f)))) }
 {
     let mut least = None;
     for filter in filters.iter() {

@@ -77,7 +77,9 @@ fn add_met<M: Members>(
     requires { AreGroupMeets (M.context members.now) groups.old.ours.items groups.old.theirs.items groups.old.met.items }
     ensures kept { AreGroupMeets (M.context members.now) groups.new.ours.items groups.new.theirs.items groups.new.met.items }
     ensures met { OnOk result ((a : Action) (x : Object) → grant_admits (M.context members.now) both.new a x
-        ≡ (grant_admits (M.context members.now) both.old a x || (same_action a action.now && (any_admits action.now (M.context members.now) (map.keys filters.now) x && any_admits action.now (M.context members.now) (map.keys others.now) x)))) }
+        ≡ (grant_admits (M.context members.now) both.old a x
+        || (same_action a action.now && (any_admits action.now (M.context members.now) (map.keys filters.now) x
+        && any_admits action.now (M.context members.now) (map.keys others.now) x)))) }
 {
     let ours = split(alloc, filters)?;
     let theirs = split(alloc, others)?;
@@ -90,7 +92,8 @@ fn add_met<M: Members>(
 
 /// Adds filters under an action.
 fn add_under(both: &mut Grant, action: &Action, filters: &[Filter]) -> Result<(), AllocError>
-    ensures { OnOk result ((p : Filter → Bool) (a : Action) → passes p both.new a ≡ (passes p both.old a || (same_action a action.now && list_any p filters.now))) }
+    ensures { OnOk result ((p : Filter → Bool) (a : Action)
+        → passes p both.new a ≡ (passes p both.old a || (same_action a action.now && list_any p filters.now))) }
 {
     for filter in filters {
         both.add(*action, *filter)?;
@@ -138,7 +141,8 @@ fn pairs_met<M: Members>(
     requires ours { IsFalse (list_any spec.is_group ours.now.others.items) }
     requires theirs { IsFalse (list_any spec.is_group theirs.now.others.items) }
     ensures { IfOk result (λ met. let any = any_admits action.now (M.context members.now) in (x : Object) → any met.items x
-        ≡ (((any ours.now.others.items x && any theirs.now.others.items x) || (any ours.now.groups.items x && any theirs.now.others.items x))
+        ≡ (((any ours.now.others.items x && any theirs.now.others.items x)
+        || (any ours.now.groups.items x && any theirs.now.others.items x))
         || (any ours.now.others.items x && any theirs.now.groups.items x))) }
 {
     let mut met = Vec::new(alloc);
@@ -191,7 +195,8 @@ fn push_meet<M: Members>(
     members: &M,
 ) -> Result<(), AllocError>
     requires { IsFalse (spec.is_group f.now && spec.is_group g.now) }
-    ensures { OnOk result (let one = admits action.now (M.context members.now) in (x : Object) → any_admits action.now (M.context members.now) met.new.items x
+    ensures { OnOk result (let one = admits action.now (M.context members.now) in (x : Object)
+        → any_admits action.now (M.context members.now) met.new.items x
         ≡ (any_admits action.now (M.context members.now) met.old.items x || (one f.now x && one g.now x))) }
 {
     match meet_of(action, f, g, members) {
@@ -206,7 +211,8 @@ fn push_meet<M: Members>(
 /// The filter that admits exactly what two filters both admit, of which one at most is a group.
 fn meet_of<M: Members>(action: &Action, f: &Filter, g: &Filter, members: &M) -> Option<Filter>
     requires { IsFalse (spec.is_group f.now && spec.is_group g.now) }
-    ensures { let one = admits action.now (M.context members.now) in MatchOption result ((x : Object) → IsFalse (one f.now x && one g.now x))
+    ensures { let one = admits action.now (M.context members.now)
+        in MatchOption result ((x : Object) → IsFalse (one f.now x && one g.now x))
         (λ both. (x : Object) → one both x ≡ (one f.now x && one g.now x)) }
 {
     if is_within(action, f, g, members) {

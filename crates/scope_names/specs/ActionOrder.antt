@@ -9,7 +9,15 @@ use Rattle.std.proofs.lemmas.Map.Lookups.{exact_bytes}
 use Rattle.std.specs.declared.cmp.Ordering.{Ordering}
 use Rattle.hub_kit.specs.KeyOrder.{name_cmp}
 use Rattle.scope_names.specs.declared.action.Action.{Action}
-use Rattle.scope_names.specs.declared.action.Action.TheVariants.{AccessServers, AccessServices, AdminUi, AdminAuthState, AdminGroups, AdminRoles, AdminServerState, AdminServers, AdminServices, AdminUsers, Custom, DeleteGroups, DeleteServers, DeleteUsers, Groups, GroupsShares, ListGroups, ListServices, ListUsers, Proxy, ReadGroups, ReadGroupsName, ReadGroupsShares, ReadHub, ReadMetrics, ReadRoles, ReadRolesGroups, ReadRolesServices, ReadRolesUsers, ReadServers, ReadServices, ReadServicesName, ReadShares, ReadTokens, ReadUsers, ReadUsersActivity, ReadUsersGroups, ReadUsersName, ReadUsersShares, Servers, Shares, Shutdown, Tokens, Users, UsersActivity, UsersShares}
+use Rattle.scope_names.specs.declared.action.Action.TheVariants.{AccessServers, AccessServices, AdminUi, AdminAuthState, AdminGroups}
+use Rattle.scope_names.specs.declared.action.Action.TheVariants.{AdminRoles, AdminServerState, AdminServers, AdminServices, AdminUsers}
+use Rattle.scope_names.specs.declared.action.Action.TheVariants.{Custom, DeleteGroups, DeleteServers, DeleteUsers, Groups, GroupsShares}
+use Rattle.scope_names.specs.declared.action.Action.TheVariants.{ListGroups, ListServices, ListUsers, Proxy, ReadGroups, ReadGroupsName}
+use Rattle.scope_names.specs.declared.action.Action.TheVariants.{ReadGroupsShares, ReadHub, ReadMetrics, ReadRoles, ReadRolesGroups}
+use Rattle.scope_names.specs.declared.action.Action.TheVariants.{ReadRolesServices, ReadRolesUsers, ReadServers, ReadServices}
+use Rattle.scope_names.specs.declared.action.Action.TheVariants.{ReadServicesName, ReadShares, ReadTokens, ReadUsers, ReadUsersActivity}
+use Rattle.scope_names.specs.declared.action.Action.TheVariants.{ReadUsersGroups, ReadUsersName, ReadUsersShares, Servers, Shares, Shutdown}
+use Rattle.scope_names.specs.declared.action.Action.TheVariants.{Tokens, Users, UsersActivity, UsersShares}
 use Rattle.scope_names.specs.Actions.{place_of, name_of}
 
 -- what tells an action from every other
@@ -29,7 +37,12 @@ actions_total = on_total rank nat_list_cmp_total
 
 -- all actions, at their places
 placed : List ℕ → List Action
-placed name = AccessServers ∷ AccessServices ∷ AdminUi ∷ AdminAuthState ∷ AdminGroups ∷ AdminRoles ∷ AdminServerState ∷ AdminServers ∷ AdminServices ∷ AdminUsers ∷ Custom name ∷ DeleteGroups ∷ DeleteServers ∷ DeleteUsers ∷ Groups ∷ GroupsShares ∷ ListGroups ∷ ListServices ∷ ListUsers ∷ Proxy ∷ ReadGroups ∷ ReadGroupsName ∷ ReadGroupsShares ∷ ReadHub ∷ ReadMetrics ∷ ReadRoles ∷ ReadRolesGroups ∷ ReadRolesServices ∷ ReadRolesUsers ∷ ReadServers ∷ ReadServices ∷ ReadServicesName ∷ ReadShares ∷ ReadTokens ∷ ReadUsers ∷ ReadUsersActivity ∷ ReadUsersGroups ∷ ReadUsersName ∷ ReadUsersShares ∷ Servers ∷ Shares ∷ Shutdown ∷ Tokens ∷ Users ∷ UsersActivity ∷ UsersShares ∷ []
+placed name = AccessServers ∷ AccessServices ∷ AdminUi ∷ AdminAuthState ∷ AdminGroups ∷ AdminRoles ∷ AdminServerState ∷ AdminServers ∷
+    AdminServices ∷ AdminUsers ∷ Custom name ∷ DeleteGroups ∷ DeleteServers ∷ DeleteUsers ∷ Groups ∷ GroupsShares ∷ ListGroups ∷
+    ListServices ∷ ListUsers ∷ Proxy ∷ ReadGroups ∷ ReadGroupsName ∷ ReadGroupsShares ∷ ReadHub ∷ ReadMetrics ∷ ReadRoles ∷ ReadRolesGroups
+    ∷ ReadRolesServices ∷ ReadRolesUsers ∷ ReadServers ∷ ReadServices ∷ ReadServicesName ∷ ReadShares ∷ ReadTokens ∷ ReadUsers ∷
+    ReadUsersActivity ∷ ReadUsersGroups ∷ ReadUsersName ∷ ReadUsersShares ∷ Servers ∷ Shares ∷ Shutdown ∷ Tokens ∷ Users ∷ UsersActivity ∷
+    UsersShares ∷ []
 
 -- the action of a rank
 unranked : List ℕ → Action

@@ -5,7 +5,15 @@ use Rattle.std.specs.Cmp.Lexicographic.{pointwise}
 use Rattle.std.specs.List.{find}
 use Rattle.scope_names.specs.Custom.{custom_read, is_custom_name}
 use Rattle.scope_names.specs.declared.action.Action.{Action}
-use Rattle.scope_names.specs.declared.action.Action.TheVariants.{AccessServers, AccessServices, AdminUi, AdminAuthState, AdminGroups, AdminRoles, AdminServerState, AdminServers, AdminServices, AdminUsers, Custom, DeleteGroups, DeleteServers, DeleteUsers, Groups, GroupsShares, ListGroups, ListServices, ListUsers, Proxy, ReadGroups, ReadGroupsName, ReadGroupsShares, ReadHub, ReadMetrics, ReadRoles, ReadRolesGroups, ReadRolesServices, ReadRolesUsers, ReadServers, ReadServices, ReadServicesName, ReadShares, ReadTokens, ReadUsers, ReadUsersActivity, ReadUsersGroups, ReadUsersName, ReadUsersShares, Servers, Shares, Shutdown, Tokens, Users, UsersActivity, UsersShares}
+use Rattle.scope_names.specs.declared.action.Action.TheVariants.{AccessServers, AccessServices, AdminUi, AdminAuthState, AdminGroups}
+use Rattle.scope_names.specs.declared.action.Action.TheVariants.{AdminRoles, AdminServerState, AdminServers, AdminServices, AdminUsers}
+use Rattle.scope_names.specs.declared.action.Action.TheVariants.{Custom, DeleteGroups, DeleteServers, DeleteUsers, Groups, GroupsShares}
+use Rattle.scope_names.specs.declared.action.Action.TheVariants.{ListGroups, ListServices, ListUsers, Proxy, ReadGroups, ReadGroupsName}
+use Rattle.scope_names.specs.declared.action.Action.TheVariants.{ReadGroupsShares, ReadHub, ReadMetrics, ReadRoles, ReadRolesGroups}
+use Rattle.scope_names.specs.declared.action.Action.TheVariants.{ReadRolesServices, ReadRolesUsers, ReadServers, ReadServices}
+use Rattle.scope_names.specs.declared.action.Action.TheVariants.{ReadServicesName, ReadShares, ReadTokens, ReadUsers, ReadUsersActivity}
+use Rattle.scope_names.specs.declared.action.Action.TheVariants.{ReadUsersGroups, ReadUsersName, ReadUsersShares, Servers, Shares, Shutdown}
+use Rattle.scope_names.specs.declared.action.Action.TheVariants.{Tokens, Users, UsersActivity, UsersShares}
 
 -- one row of the table
 pub record Row : Type 0 where
@@ -77,7 +85,11 @@ name_of _ = []
 
 -- the actions of the table, in order
 unfoldable pub listed : List Action
-listed = AccessServers ∷ AccessServices ∷ AdminUi ∷ AdminAuthState ∷ AdminGroups ∷ AdminRoles ∷ AdminServerState ∷ AdminServers ∷ AdminServices ∷ AdminUsers ∷ DeleteGroups ∷ DeleteServers ∷ DeleteUsers ∷ Groups ∷ GroupsShares ∷ ListGroups ∷ ListServices ∷ ListUsers ∷ Proxy ∷ ReadGroups ∷ ReadGroupsName ∷ ReadGroupsShares ∷ ReadHub ∷ ReadMetrics ∷ ReadRoles ∷ ReadRolesGroups ∷ ReadRolesServices ∷ ReadRolesUsers ∷ ReadServers ∷ ReadServices ∷ ReadServicesName ∷ ReadShares ∷ ReadTokens ∷ ReadUsers ∷ ReadUsersActivity ∷ ReadUsersGroups ∷ ReadUsersName ∷ ReadUsersShares ∷ Servers ∷ Shares ∷ Shutdown ∷ Tokens ∷ Users ∷ UsersActivity ∷ UsersShares ∷ []
+listed = AccessServers ∷ AccessServices ∷ AdminUi ∷ AdminAuthState ∷ AdminGroups ∷ AdminRoles ∷ AdminServerState ∷ AdminServers ∷
+    AdminServices ∷ AdminUsers ∷ DeleteGroups ∷ DeleteServers ∷ DeleteUsers ∷ Groups ∷ GroupsShares ∷ ListGroups ∷ ListServices ∷ ListUsers
+    ∷ Proxy ∷ ReadGroups ∷ ReadGroupsName ∷ ReadGroupsShares ∷ ReadHub ∷ ReadMetrics ∷ ReadRoles ∷ ReadRolesGroups ∷ ReadRolesServices ∷
+    ReadRolesUsers ∷ ReadServers ∷ ReadServices ∷ ReadServicesName ∷ ReadShares ∷ ReadTokens ∷ ReadUsers ∷ ReadUsersActivity ∷
+    ReadUsersGroups ∷ ReadUsersName ∷ ReadUsersShares ∷ Servers ∷ Shares ∷ Shutdown ∷ Tokens ∷ Users ∷ UsersActivity ∷ UsersShares ∷ []
 
 -- a program's custom actions have names of custom scopes
 abbrev pub is_action : Action → Bool

@@ -1,6 +1,7 @@
 -- The names of custom scopes: `custom:` and then 1 to 57 bytes of a-z, 0-9, '_', '-', '*', ':', of which the first is a
 -- letter or a digit, and the last neither '-' nor ':'.
-use Rattle.std.specs.Prelude.{ℕ, ◌-◌, Bool, not, ◌||◌, ◌&&◌, ◌==◌, nat_le, nat_eq, List, length, take, drop, slice_index, codes, Option, Some, None, if◌then◌else◌}
+use Rattle.std.specs.Prelude.{ℕ, ◌-◌, Bool, not, ◌||◌, ◌&&◌, ◌==◌, nat_le, nat_eq, List, length, take, drop, slice_index, codes, Option}
+use Rattle.std.specs.Prelude.{Some, None, if◌then◌else◌}
 use Rattle.std.specs.List.{list_all}
 use Rattle.std.specs.Cmp.Lexicographic.{pointwise}
 use Rattle.hub_kit.specs.Names.{is_letter_or_digit}

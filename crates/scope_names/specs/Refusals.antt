@@ -49,7 +49,9 @@ IsFirstOrNone P (Some i) = IsFirst P i
 abbrev pub IsAnswer : List CustomRow → Result (List CustomRow) TableError → Type 0
 IsAnswer rows (Err Full) = IsTrue (is_full rows)
 IsAnswer rows (Err (Repeated i)) = IsFalse (is_full rows) × IsFirst (Repeats rows) i
-IsAnswer rows (Err (Unknown row index)) = IsFalse (is_full rows) × IsNever (Repeats rows) × IsFirst (HasUnknown rows) row × IsFirst (IsUnknown rows row) index
+IsAnswer rows (Err (Unknown row index)) = IsFalse (is_full rows) × IsNever (Repeats rows) × IsFirst (HasUnknown rows) row
+    × IsFirst (IsUnknown rows row) index
 IsAnswer rows (Err (Cycle i)) = IsFalse (is_full rows) × IsNever (Repeats rows) × IsNever (HasUnknown rows) × IsFirst (IsOnCycle rows) i
 IsAnswer rows (Err Memory) = Unit {0}
-IsAnswer rows (Ok table) = IsFalse (is_full rows) × IsNever (Repeats rows) × IsNever (HasUnknown rows) × IsNever (IsOnCycle rows) × (table ≡ rows)
+IsAnswer rows (Ok table) = IsFalse (is_full rows) × IsNever (Repeats rows) × IsNever (HasUnknown rows) × IsNever (IsOnCycle rows)
+    × (table ≡ rows)

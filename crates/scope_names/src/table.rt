@@ -7,7 +7,8 @@ ghost use Rattle.std.specs.BTreeMap.{get};
 ghost use Rattle.scope_names.specs.declared.action.Action.{Action};
 ghost use Rattle.scope_names.specs.ActionOrder.{action_cmp};
 ghost use Rattle.scope_names.specs.Coverage.{Covers, IsCoverage};
-ghost use Rattle.scope_names.specs.Refusals.{is_declared, is_full, Repeats, IsUnknown, HasUnknown, IsOnCycle, IsNever, IsFirst, IsFirstOrNone, IsAnswer};
+ghost use Rattle.scope_names.specs.Refusals.{is_declared, is_full, Repeats, IsUnknown, HasUnknown, IsOnCycle, IsNever, IsFirst};
+ghost use Rattle.scope_names.specs.Refusals.{IsFirstOrNone, IsAnswer};
 
 use crate::action::Action;
 use crate::coverage;
@@ -152,7 +153,8 @@ fn first_repeated(rows: &[CustomRow]) -> Option<usize>
 
 /// The first subscope that is no row's name: its row and its place there.
 fn first_unknown(rows: &[CustomRow]) -> Option<(usize, usize)>
-    ensures { MatchOption result (IsNever (HasUnknown rows.now)) (λ p. IsFirst (HasUnknown rows.now) p.0 × IsFirst (IsUnknown rows.now p.0) p.1) }
+    ensures { MatchOption result (IsNever (HasUnknown rows.now))
+        (λ p. IsFirst (HasUnknown rows.now) p.0 × IsFirst (IsUnknown rows.now p.0) p.1) }
 {
     for (i, row) in rows.iter().enumerate() {
         if let Some(k) = first_unknown_of(row.subscopes.as_slice(), rows) {

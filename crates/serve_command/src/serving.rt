@@ -153,7 +153,8 @@ fn run_over<K: ProgramStore + Send, H: Threads + Wait + Copy + Send + Sync>(
     outside: &mut ServeOutside<ServeSystem<K, H>>,
     closer: &Closer,
 ) -> u8
-    requires read { IsPlanOf (serve_read words.now) (files_told ⟦<SystemFiles as Files>⟧.files ⟦<SystemFiles as Files>⟧.faults files.now) plan.now }
+    requires read { IsPlanOf (serve_read words.now) (files_told ⟦<SystemFiles as Files>⟧.files ⟦<SystemFiles as Files>⟧.faults files.now)
+        plan.now }
     requires store { IsSome outside.old.store }
     requires kits { 0 < length outside.old.kits.items }
 {
@@ -174,7 +175,8 @@ fn serve_plan<K: ProgramStore + Send, H: Threads + Wait + Copy + Send + Sync>(
     plan: &Plan,
     store: K,
 ) -> ExitCode
-    requires read { IsPlanOf (serve_read words.now) (files_told ⟦<SystemFiles as Files>⟧.files ⟦<SystemFiles as Files>⟧.faults files.now) plan.now }
+    requires read { IsPlanOf (serve_read words.now) (files_told ⟦<SystemFiles as Files>⟧.files ⟦<SystemFiles as Files>⟧.faults files.now)
+        plan.now }
 {
     let Ok((listener, closer)) = open_listener(rt, &handle, &plan.listen) else {
         drop(store);
@@ -206,7 +208,8 @@ fn serve_in_memory<H: Threads + Wait + Copy + Send + Sync>(
     files: &SystemFiles,
     plan: &Plan,
 ) -> ExitCode
-    requires read { IsPlanOf (serve_read words.now) (files_told ⟦<SystemFiles as Files>⟧.files ⟦<SystemFiles as Files>⟧.faults files.now) plan.now }
+    requires read { IsPlanOf (serve_read words.now) (files_told ⟦<SystemFiles as Files>⟧.files ⟦<SystemFiles as Files>⟧.faults files.now)
+        plan.now }
 {
     let alloc = rt.alloc();
     match MemKeeper::new(alloc, Vec::new(alloc), Vec::new(alloc)) {
@@ -231,7 +234,8 @@ fn serve_in_file<S: Start + Send + 'static, H: Threads + Wait + Copy + Send + Sy
     plan: &Plan,
     start: S,
 ) -> ExitCode
-    requires read { IsPlanOf (serve_read words.now) (files_told ⟦<SystemFiles as Files>⟧.files ⟦<SystemFiles as Files>⟧.faults files.now) plan.now }
+    requires read { IsPlanOf (serve_read words.now) (files_told ⟦<SystemFiles as Files>⟧.files ⟦<SystemFiles as Files>⟧.faults files.now)
+        plan.now }
 {
     let Ok((store, thread)) = far_store(rt.alloc(), handle) else {
         drop(start);
@@ -249,7 +253,8 @@ fn serve_in_file<S: Start + Send + 'static, H: Threads + Wait + Copy + Send + Sy
 
 /// The plan of these words and their file, which is read here and nowhere else.
 fn planned(alloc: Global, files: &mut SystemFiles, words: &[Text]) -> Result<Plan, NotServed>
-    ensures { IfOk result (IsPlanOf (serve_read words.now) (files_told ⟦<SystemFiles as Files>⟧.files ⟦<SystemFiles as Files>⟧.faults files.new)) }
+    ensures { IfOk result (IsPlanOf (serve_read words.now)
+        (files_told ⟦<SystemFiles as Files>⟧.files ⟦<SystemFiles as Files>⟧.faults files.new)) }
 {
     read_plan(alloc, files, words)
 }

@@ -24,16 +24,17 @@ generation_in h = h.generation
 abbrev pub server_in : Held → ServerKey
 server_in h = h.server
 
-pub record IsIndexed (t : LeaseTable) (free : List (ℕ × Unit {0})) (generations : List (ℕ × ℕ)) (servers : List (ServerKey × ℕ)) : Type 0 where
-  pub one : IsOneToOne t
-  pub free_rise : T (is_sorted nat_cmp free)
-  pub free_places : IsFreeIndex t.leased free
-  pub generations_rise : T (is_sorted nat_cmp generations)
-  pub of_generations : IsIndex nat_cmp generation_in t.leased generations
-  pub servers_rise : T (is_sorted key_cmp servers)
-  pub of_servers : IsIndex key_cmp server_in t.leased servers
-  pub all_generations : length generations + length free ≡ length t.pool
-  pub all_servers : length servers + length free ≡ length t.pool
+pub record IsIndexed (t : LeaseTable) (free : List (ℕ × Unit {0})) (generations : List (ℕ × ℕ)) (servers : List (ServerKey × ℕ)) : Type 0
+  where
+    pub one : IsOneToOne t
+    pub free_rise : T (is_sorted nat_cmp free)
+    pub free_places : IsFreeIndex t.leased free
+    pub generations_rise : T (is_sorted nat_cmp generations)
+    pub of_generations : IsIndex nat_cmp generation_in t.leased generations
+    pub servers_rise : T (is_sorted key_cmp servers)
+    pub of_servers : IsIndex key_cmp server_in t.leased servers
+    pub all_generations : length generations + length free ≡ length t.pool
+    pub all_servers : length servers + length free ≡ length t.pool
 
 -- what a search among the servers asks at a place
 abbrev pub is_below : ServerKey → Option (Option Held) → Bool
@@ -66,4 +67,5 @@ pub record AreServersAt (leased : List (Option Held)) (places : List ℕ) (serve
   pub index : IsIndex key_cmp server_in leased servers
 
 abbrev pub HasLookUps : LeaseTable → List (ℕ × Unit {0}) → List (ℕ × ℕ) → List ℕ → Type 0
-HasLookUps t free generations places = (servers : List (ServerKey × ℕ)) × (places ≡ map place_in servers) × IsIndexed t free generations servers
+HasLookUps t free generations places = (servers : List (ServerKey × ℕ)) × (places ≡ map place_in servers)
+    × IsIndexed t free generations servers

@@ -5,7 +5,8 @@ use Rattle.server_life.specs.declared.life.Phase.TheVariants.{Stopped, Adopting,
 use Rattle.server_life.specs.declared.life.ParkedAt.TheVariants.{Unroute, Stop}
 use Rattle.server_life.specs.declared.life.Life.{Life}
 use Rattle.server_life.specs.declared.life.LifeEvent.{LifeEvent}
-use Rattle.server_life.specs.declared.life.LifeEvent.TheVariants.{Begin, AskStop, Spawned, SpawnFailed, Routed, RouteFailed, Unrouted, UnrouteFailed, Ended, StopFailed, EndUnkept, Alive, Dead, PollFailed}
+use Rattle.server_life.specs.declared.life.LifeEvent.TheVariants.{Begin, AskStop, Spawned, SpawnFailed, Routed, RouteFailed, Unrouted}
+use Rattle.server_life.specs.declared.life.LifeEvent.TheVariants.{UnrouteFailed, Ended, StopFailed, EndUnkept, Alive, Dead, PollFailed}
 use Rattle.server_life.specs.declared.life.Todo.{Todo}
 use Rattle.server_life.specs.declared.life.Todo.TheVariants.{Nothing, Start, AddRoute, DeleteRoute, StopProgram}
 use Rattle.server_life.specs.declared.life.LifeRefusal.{LifeRefusal}
@@ -77,4 +78,5 @@ or_refused None refusal = Err refusal
 abbrev pub life_after : Life → ℕ → LifeEvent → Result (Life × Todo) LifeRefusal
 life_after life g Begin = or_refused (row g life.phase Begin life.stop_asked) (begin_refusal life.phase life.stop_asked)
 life_after life g AskStop = or_refused (row g life.phase AskStop life.stop_asked) (stop_refusal life.phase)
-life_after life g event = if is_generation g (generation_of life.phase) then or_refused (row g life.phase event life.stop_asked) NotNow else Err (OldGeneration g)
+life_after life g event = if is_generation g (generation_of life.phase) then or_refused (row g life.phase event life.stop_asked) NotNow
+    else Err (OldGeneration g)

@@ -4,7 +4,8 @@ use Rattle.server_life.specs.declared.life.Phase.{Phase}
 use Rattle.server_life.specs.declared.life.Phase.TheVariants.{Adopting, Spawning, Routing}
 use Rattle.server_life.specs.declared.life.Life.{Life}
 use Rattle.server_life.specs.declared.life.LifeEvent.{LifeEvent}
-use Rattle.server_life.specs.declared.life.LifeEvent.TheVariants.{Begin, AskStop, SpawnFailed, RouteFailed, UnrouteFailed, StopFailed, EndUnkept, PollFailed}
+use Rattle.server_life.specs.declared.life.LifeEvent.TheVariants.{Begin, AskStop, SpawnFailed, RouteFailed, UnrouteFailed, StopFailed}
+use Rattle.server_life.specs.declared.life.LifeEvent.TheVariants.{EndUnkept, PollFailed}
 use Rattle.server_life.specs.declared.life.Todo.{Todo}
 use Rattle.server_life.specs.LifeTable.{life_after}
 

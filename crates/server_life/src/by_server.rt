@@ -61,7 +61,8 @@ pub fn place_of(leased: &[Option<Held>], places: &[usize], key: &ServerKey) -> O
 /// Adds the place of a server that isn't there yet, where there is room.
 pub fn add_server(leased: &[Option<Held>], places: &mut Vec<usize>, key: &ServerKey, place: usize)
     requires room { vec_len places.old < vec_capacity places.old }
-    ensures places { (es : List (ServerKey × ℕ)) → AreServersAt leased.now places.old.items es → find key_cmp key.now es ≡ None → places.new.items ≡ map place_in (put_entry key_cmp key.now place es) }
+    ensures places { (es : List (ServerKey × ℕ)) → AreServersAt leased.now places.old.items es → find key_cmp key.now es ≡ None
+        → places.new.items ≡ map place_in (put_entry key_cmp key.now place es) }
     ensures capacity { vec_capacity places.new ≡ vec_capacity places.old }
 {
     let at = rank(leased, places.as_slice(), key);
@@ -70,7 +71,8 @@ pub fn add_server(leased: &[Option<Held>], places: &mut Vec<usize>, key: &Server
 
 /// Takes the place of a server out.
 pub fn remove_server(leased: &[Option<Held>], places: &mut Vec<usize>, key: &ServerKey)
-    ensures places { (es : List (ServerKey × ℕ)) → AreServersAt leased.now places.old.items es → IsSome (find key_cmp key.now es) → places.new.items ≡ map place_in (where_key key_cmp (λ k. not (eq_by_cmp key_cmp key.now k)) es) }
+    ensures places { (es : List (ServerKey × ℕ)) → AreServersAt leased.now places.old.items es → IsSome (find key_cmp key.now es)
+        → places.new.items ≡ map place_in (where_key key_cmp (λ k. not (eq_by_cmp key_cmp key.now k)) es) }
     ensures capacity { vec_capacity places.new ≡ vec_capacity places.old }
 {
     let at = rank(leased, places.as_slice(), key);
@@ -101,7 +103,8 @@ fn is_of_user(leased: &[Option<Held>], place: usize, user: &UserName) -> bool
 
 /// Whether a server of this user is there. The servers of a user stand together, and a search by halves finds where.
 pub fn has_user(leased: &[Option<Held>], places: &[usize], user: &UserName) -> bool
-    ensures { (es : List (ServerKey × ℕ)) → AreServersAt leased.now places.now es → result ≡ list_any (λ e. eq_by_cmp name_cmp e.0.user user.now) es }
+    ensures { (es : List (ServerKey × ℕ)) → AreServersAt leased.now places.now es
+        → result ≡ list_any (λ e. eq_by_cmp name_cmp e.0.user user.now) es }
 {
     let at = places.partition_point(|place| is_user_below(leased, *place, user));
     at < places.len() && is_of_user(leased, places[at], user)

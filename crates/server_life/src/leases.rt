@@ -1,6 +1,7 @@
 //! The leases of targets: which generation holds which target, for which server.
 
-ghost use Rattle.std.specs.Prelude.{◌≡◌, ◌≢◌, ℕ, ◌+◌, ◌-◌, ◌<◌, ◌≤◌, ◌^◌, length, slice_get, slice_set, All, IfOk, MatchOption, MatchResult, MatchBool, replicate, Some, None};
+ghost use Rattle.std.specs.Prelude.{◌≡◌, ◌≢◌, ℕ, ◌+◌, ◌-◌, ◌<◌, ◌≤◌, ◌^◌, length, slice_get, slice_set, All, IfOk, MatchOption};
+ghost use Rattle.std.specs.Prelude.{MatchResult, MatchBool, replicate, Some, None};
 ghost use Rattle.hub_kit.specs.declared.names.ServerKey.{ServerKey};
 ghost use Rattle.server_life.specs.LeaseTable.{IsOneToOne};
 ghost use Rattle.server_life.specs.LeaseIndex.{server_of};
@@ -70,7 +71,8 @@ impl Model for Leases {
 
     ghost view = { λ a. record { pool = a.pool; leased = a.leased.items; next = a.next } };
 
-    ghost invariant = { λ a. HasLookUps (record { pool = a.pool; leased = a.leased.items; next = a.next }) a.free.items a.generations.items a.servers.items
+    ghost invariant = { λ a. HasLookUps (record { pool = a.pool; leased = a.leased.items; next = a.next }) a.free.items a.generations.items
+        a.servers.items
         × (length a.pool ≤ vec_capacity a.free) × (length a.pool ≤ vec_capacity a.generations) × (length a.pool ≤ vec_capacity a.servers) };
 }
 
@@ -136,7 +138,12 @@ impl Leases {
         requires unleased { IsUnleased self.old.leased key }
         requires next { self.old.next < 2 ^ 64 - 1 }
         ensures { (i : ℕ) × IsFirstFree self.old.leased i
-            × (self.new ≡ record { pool = self.old.pool; leased = slice_set self.old.leased i (Some (record { generation = self.old.next; server = key })); next = self.old.next + 1 }) }
+            × (self.new ≡ record {
+              pool = self.old.pool;
+              leased = slice_set self.old.leased i
+                  (Some (record { generation = self.old.next; server = key }));
+              next = self.old.next + 1;
+            }) }
     {
         let at = self.free[0].0;
         let generation = self.next;
@@ -150,7 +157,12 @@ impl Leases {
         requires below { g < self.old.next }
         requires not_live { IsNotLive self.old.leased g }
         requires unleased { IsUnleased self.old.leased key }
-        ensures { self.new ≡ record { pool = self.old.pool; leased = slice_set self.old.leased at (Some (record { generation = g; server = key })); next = self.old.next } }
+        ensures { self.new ≡ record {
+          pool = self.old.pool;
+          leased = slice_set self.old.leased at
+              (Some (record { generation = g; server = key }));
+          next = self.old.next;
+        } }
     {
         remove(&mut self.free, &at);
         put(&mut self.generations, &g, at);
@@ -213,7 +225,8 @@ impl Leases {
     /// Ends the lease of a generation, and says whether there was one.
     pub fn free(&mut self, g: u64) -> bool
         ensures { MatchBool result
-            ((i : ℕ) × (key : ServerKey) × HoldsLease self.old.leased i g key × (self.new ≡ record { pool = self.old.pool; leased = slice_set self.old.leased i None; next = self.old.next }))
+            ((i : ℕ) × (key : ServerKey) × HoldsLease self.old.leased i g key
+            × (self.new ≡ record { pool = self.old.pool; leased = slice_set self.old.leased i None; next = self.old.next }))
             (IsNotLive self.old.leased g × (self.new ≡ self.old)) }
     {
         let Some(at) = get(self.generations.as_slice(), &g) else {

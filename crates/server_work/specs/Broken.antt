@@ -1,5 +1,6 @@
 -- Why a chain breaks: what the entries of others do to a life that waits for an outcome.
-use Rattle.std.specs.Prelude.{◌≡◌, ◌≢◌, ◌<◌, ℕ, Bool, true, false, if◌then◌else◌, List, [], ◌∷◌, ◌++◌, length, Option, Some, None, Ok, Err, nat_eq}
+use Rattle.std.specs.Prelude.{◌≡◌, ◌≢◌, ◌<◌, ℕ, Bool, true, false, if◌then◌else◌, List, [], ◌∷◌, ◌++◌, length, Option, Some, None, Ok, Err}
+use Rattle.std.specs.Prelude.{nat_eq}
 use Rattle.server_life.specs.declared.life.Phase.{Phase}
 use Rattle.server_life.specs.declared.life.Phase.TheVariants.{Adopting, Spawning, Routing, Unrouting, Stopping}
 use Rattle.server_life.specs.declared.life.Life.{Life}
@@ -57,7 +58,8 @@ pub record Waits (lives : Lives) (g : ℕ) (owed : Todo) : Type 0 where
 
 -- one of the entries is an event of the generation's life, other than a wish to stop
 abbrev pub HasOutcome : ℕ → List LifeEntry → Type 0
-HasOutcome g xs = (before : List LifeEntry) × (x : LifeEntry) × (after : List LifeEntry) × (xs ≡ before ++ x ∷ after) × (is_outcome_of g x ≡ true)
+HasOutcome g xs = (before : List LifeEntry) × (x : LifeEntry) × (after : List LifeEntry) × (xs ≡ before ++ x ∷ after)
+    × (is_outcome_of g x ≡ true)
 
 -- where an outcome that is waited for is refused, such an entry came in between
 abbrev pub BrokenByOther : Type 0
@@ -66,7 +68,8 @@ BrokenByOther = (lives after : Lives) (xs : List LifeEntry) (g : ℕ) (o : LifeE
 
 -- after an outcome that owes something, the life waits for the outcome of that
 abbrev pub WaitsAfter : Type 0
-WaitsAfter = (lives after : Lives) (g : ℕ) (o : LifeEvent) (made : Life) (owes : Todo) → todo_of o ≢ Nothing → step_at lives g o ≡ Ok (made, owes)
+WaitsAfter = (lives after : Lives) (g : ℕ) (o : LifeEvent) (made : Life) (owes : Todo) → todo_of o ≢ Nothing
+    → step_at lives g o ≡ Ok (made, owes)
     → owes ≢ Nothing → IsSet g (left_of made) lives after → Waits after g owes
 
 -- ---- chains of a pass
@@ -89,7 +92,8 @@ module _ {E A : Type 0} (reached : Option A → List E → Lives → Type 0) (is
     pub at : reached base h lives
     pub waits : Waits lives g owed
 
-  -- past the place that the pass had seen, and so past all its own entries, stands an event of the generation's life other than a wish to stop
+  -- past the place that the pass had seen, and so past all its own entries, stands an event of the generation's life other than a wish to
+  -- stop
   pub record OthersCame (g : ℕ) (seen later : List E) (mine : List (ℕ × E)) : Type 0 where
     pub since : List E
     pub later_is : later ≡ seen ++ since
@@ -98,7 +102,8 @@ module _ {E A : Type 0} (reached : Option A → List E → Lives → Type 0) (is
     pub outcome : HasOutcome g events
     pub own : (n : ℕ) → Owns n mine → n < length seen
 
-module _ {E A : Type 0} (reached : Option A → List E → Lives → Type 0) (notes : E → ℕ → LifeEvent → Type 0) (is_entry : E → LifeEntry → Type 0) where
+module _ {E A : Type 0} (reached : Option A → List E → Lives → Type 0) (notes : E → ℕ → LifeEvent → Type 0)
+    (is_entry : E → LifeEntry → Type 0) where
   -- a chain that was waited for breaks only where another pass made such an entry after the last one of the chain
   abbrev pub BrokenByOthers : Type 0
   BrokenByOthers = (w : Work) (x y : At E A) (first : Todo) (k : Chain E) → StandIn x.pass.seen x.pass.mine

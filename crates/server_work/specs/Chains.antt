@@ -1,5 +1,6 @@
 -- A chain of calls: its entries at their places in the one history, and the calls, with what they told.
-use Rattle.std.specs.Prelude.{◌≡◌, ◌≢◌, ◌≤◌, ℕ, ◌+◌, Bool, true, ltb, if◌then◌else◌, List, [], ◌∷◌, ◌++◌, length, map, Option, Some, None, Ok, Err}
+use Rattle.std.specs.Prelude.{◌≡◌, ◌≢◌, ◌≤◌, ℕ, ◌+◌, Bool, true, ltb, if◌then◌else◌, List, [], ◌∷◌, ◌++◌, length, map, Option, Some, None}
+use Rattle.std.specs.Prelude.{Ok, Err}
 use Rattle.std.specs.List.{flat_map}
 use mathlib.Core.List.{IsPrefix}
 use Rattle.desk.specs.Passes.{PassState, IsSamePass}
@@ -36,8 +37,8 @@ Comes alone seen found = IsPrefix seen.entries found.entries × (seen.faults ≤
 
 -- ---- the steps of a chain
 
--- an entry of a chain: what the visit found, and the lives there; the outcome; what the life became, and what it owes then; whether an end was kept; and
--- the lives and the book's count of faults afterwards
+-- an entry of a chain: what the visit found, and the lives there; the outcome; what the life became, and what it owes then; whether an end
+-- was kept; and the lives and the book's count of faults afterwards
 pub record Step (E : Type 0) : Type 0 where
   pub found : Sight E
   pub lives : Lives
@@ -87,7 +88,8 @@ pub record At (E A : Type 0) : Type 0 where
   pub spawner : Option (List (Spawning × Told))
   pub routes : Option (List (Routing × Told))
 
--- `reached a h lives`: from the base a the entries h lead to these lives; `notes e g event`: the entry e is this event of the life of the generation g
+-- `reached a h lives`: from the base a the entries h lead to these lives; `notes e g event`: the entry e is this event of the life of the
+-- generation g
 module _ {E A : Type 0} (reached : Option A → List E → Lives → Type 0) (notes : E → ℕ → LifeEvent → Type 0) where
   -- the life at the place of the step takes the outcome of the call that it owes, and becomes what the life table makes of what is noted
   pub record IsStep (base : Option A) (g : ℕ) (owed : Todo) (s : Step E) : Type 0 where
@@ -108,15 +110,16 @@ module _ {E A : Type 0} (reached : Option A → List E → Lives → Type 0) (no
   Goes base alone g seen owed (s ∷ ss) seen' owed' =
       Comes alone seen s.found × IsStep base g owed s × Goes base alone g (left_by s) s.owes ss seen' owed'
 
-  -- from what was owed first to what is owed now: the pass's own entries grew by the steps' alone and the devices' calls by those of the steps, and of
-  -- the outcomes without a step; it had seen this after the last step
-  pub record Drove (w : Work) (x y : At E A) (first owes : Todo) (seen : Sight E) (steps : List (Step E)) (extra : List LifeEvent) : Type 0 where
-    pub goes : Goes x.pass.base x.pass.alone w.generation (sight x.pass) first steps seen owes
-    pub same : IsSamePass x.pass y.pass
-    pub mine : y.pass.mine ≡ x.pass.mine ++ map own steps
-    pub failed : y.pass.failed ≡ x.pass.failed + fails steps
-    pub spawner : Grows x.spawner (flat_map (spawner_did w) (map outcome_of steps ++ extra)) y.spawner
-    pub routes : Grows x.routes (flat_map (routes_did w) (map outcome_of steps ++ extra)) y.routes
+  -- from what was owed first to what is owed now: the pass's own entries grew by the steps' alone and the devices' calls by those of the
+  -- steps, and of the outcomes without a step; it had seen this after the last step
+  pub record Drove (w : Work) (x y : At E A) (first owes : Todo) (seen : Sight E) (steps : List (Step E)) (extra : List LifeEvent) : Type 0
+    where
+      pub goes : Goes x.pass.base x.pass.alone w.generation (sight x.pass) first steps seen owes
+      pub same : IsSamePass x.pass y.pass
+      pub mine : y.pass.mine ≡ x.pass.mine ++ map own steps
+      pub failed : y.pass.failed ≡ x.pass.failed + fails steps
+      pub spawner : Grows x.spawner (flat_map (spawner_did w) (map outcome_of steps ++ extra)) y.spawner
+      pub routes : Grows x.routes (flat_map (routes_did w) (map outcome_of steps ++ extra)) y.routes
 
   -- the life at the place that the pass came to doesn't take the outcome
   pub record Refused (p q : PassState E A) (g : ℕ) (seen : Sight E) (outcome : LifeEvent) : Type 0 where

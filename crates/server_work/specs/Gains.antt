@@ -23,7 +23,13 @@ no_gain = record { entries = []; failed = 0; spawner = []; routes = [] }
 
 -- the one gain and then the other
 abbrev pub plus : {E : Type 0} → Gain E → Gain E → Gain E
-plus a b = record { entries = a.entries ++ b.entries; failed = a.failed + b.failed; spawner = a.spawner ++ b.spawner; routes = a.routes ++ b.routes }
+plus a b = record {
+  entries = a.entries ++ b.entries;
+  failed = a.failed + b.failed;
+  spawner = a.spawner ++ b.spawner;
+  routes = a.routes
+      ++ b.routes;
+}
 
 abbrev pub sum_of : {E : Type 0} → List (Gain E) → Gain E
 sum_of [] = no_gain

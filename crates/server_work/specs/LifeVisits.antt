@@ -23,6 +23,7 @@ module _ {E : Type 0} (notes : E → ℕ → LifeEvent → Type 0) where
     pub longer : l.length ≡ length h'
 
   -- where the life doesn't take the outcome all is as before
-  abbrev pub LifeVisited : (h h' : List E) → (lives lives' : Lives) → (faults faults' : ℕ) → ℕ → LifeEvent → Result Lived LifeRefusal → Type 0
+  abbrev pub LifeVisited : (h h' : List E) → (lives lives' : Lives) → (faults faults' : ℕ) → ℕ → LifeEvent → Result Lived LifeRefusal
+      → Type 0
   LifeVisited h h' lives lives' faults faults' g outcome (Ok l) = Stepped h h' lives lives' faults faults' g outcome l
   LifeVisited h h' lives lives' faults faults' g outcome (Err e) = (h' ≡ h) × (faults' ≡ faults) × (step_at lives g outcome ≡ Err e)

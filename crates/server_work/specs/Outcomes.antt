@@ -9,7 +9,8 @@ use Rattle.hub_devices.specs.declared.calls.Told.TheVariants.{Done, Runs}
 use Rattle.hub_devices.specs.declared.calls.Told.TheVariants as Tell
 use Rattle.hub_devices.specs.Faults.{Rises}
 use Rattle.server_life.specs.declared.life.LifeEvent.{LifeEvent}
-use Rattle.server_life.specs.declared.life.LifeEvent.TheVariants.{Spawned, SpawnFailed, Routed, RouteFailed, Unrouted, UnrouteFailed, Ended, StopFailed, EndUnkept, Alive, Dead, PollFailed}
+use Rattle.server_life.specs.declared.life.LifeEvent.TheVariants.{Spawned, SpawnFailed, Routed, RouteFailed, Unrouted, UnrouteFailed, Ended}
+use Rattle.server_life.specs.declared.life.LifeEvent.TheVariants.{StopFailed, EndUnkept, Alive, Dead, PollFailed}
 use Rattle.server_life.specs.declared.life.Todo.{Todo}
 use Rattle.server_life.specs.declared.life.Todo.TheVariants.{Nothing, Start, AddRoute, DeleteRoute, StopProgram, Poll}
 use Rattle.server_work.specs.declared.work.Work.{Work}
@@ -85,7 +86,8 @@ noted event K.Kept = event
 noted event K.KeeperFault = EndUnkept
 noted event K.Memory = EndUnkept
 
--- only ends are kept, and for others the book's count of faults stands still; the keeper's fault comes only where that count rose from the one number to the other
+-- only ends are kept, and for others the book's count of faults stands still; the keeper's fault comes only where that count rose from the
+-- one number to the other
 abbrev pub KeptAs : Bool → ℕ → ℕ → Kept → Type 0
 KeptAs true before after K.NotAsked = ⊥
 KeptAs true before after K.Kept = Unit {0}

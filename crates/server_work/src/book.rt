@@ -12,7 +12,8 @@ use crate::work::Kept;
 use desk::Booked;
 use server_life::{LifeEvent, LifeRefusal, Todo};
 
-/// What an outcome that was taken leaves: the call that is owed next, whether an end was kept, and the length of the history with its entry.
+/// What an outcome that was taken leaves: the call that is owed next, whether an end was kept, and the length of the history with its
+/// entry.
 #[derive(Clone, Copy)]
 pub struct Lived {
     pub todo: Todo,
@@ -34,7 +35,8 @@ pub trait LifeBook: Booked {
     fn life(&mut self, generation: u64, outcome: LifeEvent) -> Result<Lived, LifeRefusal>
         ensures found { reached (Some (Self.base self.old)) (Self.entries self.old) (lives self.old) }
         ensures left { reached (Some (Self.base self.new)) (Self.entries self.new) (lives self.new) }
-        ensures visited { todo_of outcome ≢ Nothing → LifeVisited notes (Self.entries self.old) (Self.entries self.new) (lives self.old) (lives self.new) (Self.faults self.old) (Self.faults self.new) generation outcome result }
+        ensures visited { todo_of outcome ≢ Nothing → LifeVisited notes (Self.entries self.old) (Self.entries self.new) (lives self.old)
+            (lives self.new) (Self.faults self.old) (Self.faults self.new) generation outcome result }
         ensures appends { IsPrefix (Self.entries self.old) (Self.entries self.new) }
         ensures base { Self.base self.new ≡ Self.base self.old }
         ensures counted { Self.faults self.old ≤ Self.faults self.new };

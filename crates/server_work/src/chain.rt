@@ -44,7 +44,8 @@ impl<B: LifeBook> Job<B> for LifeJob {
 
     ghost does = { λ j b r j' b'. B.reached (Some (B.base b)) (B.entries b) (B.lives b)
         × B.reached (Some (B.base b')) (B.entries b') (B.lives b')
-        × (todo_of j.outcome ≢ Nothing → LifeVisited B.notes (B.entries b) (B.entries b') (B.lives b) (B.lives b') (B.faults b) (B.faults b') j.generation j.outcome r) };
+        × (todo_of j.outcome ≢ Nothing → LifeVisited B.notes (B.entries b) (B.entries b') (B.lives b) (B.lives b') (B.faults b)
+        (B.faults b') j.generation j.outcome r) };
 
     fn act(&mut self, book: &mut B) -> Result<Lived, LifeRefusal> {
         self.acted = true;
@@ -151,8 +152,10 @@ pub fn drive<B: LifeBook, S: Spawner, P: RouteLink, R: Wait>(
     ensures spawner_counted { S.faults spawner.old ≤ S.faults spawner.new }
     ensures routes_counted { P.faults routes.old ≤ P.faults routes.new }
     ensures others { KeepsOthers (S.may_run spawner.old) work.now.generation (S.may_run spawner.new) }
-    ensures gone { IfSome result (λ tale. tale.stopped ≡ true → Sets (S.may_run spawner.old) work.now.generation false (S.may_run spawner.new)) }
-    ensures spawner_cause { IfSome result (λ tale. tale.failed ≡ Some Device.Spawner → Rises (S.faults spawner.old) (S.faults spawner.new)) }
+    ensures gone { IfSome result (λ tale. tale.stopped ≡ true
+        → Sets (S.may_run spawner.old) work.now.generation false (S.may_run spawner.new)) }
+    ensures spawner_cause { IfSome result (λ tale. tale.failed ≡ Some Device.Spawner
+        → Rises (S.faults spawner.old) (S.faults spawner.new)) }
     ensures routes_cause { IfSome result (λ tale. tale.failed ≡ Some Device.Proxy → Rises (P.faults routes.old) (P.faults routes.new)) }
 {
     let mut owed = first;

@@ -11,7 +11,8 @@ use Rattle.service_doors.specs.Tending.{Attended, ServicesTold}
 -- leads to the target of its own service
 abbrev pub AttendedAreLawful : Type 0
 AttendedAreLawful =
-    (managed : List Managed) (s s' : ServicesTold) (given given' : Option ℕ) → length managed < 2 ^ 32 → ((i : ℕ) → ¬ (IsRepeated managed i))
+    (managed : List Managed) (s s' : ServicesTold) (given given' : Option ℕ) → length managed < 2 ^ 32
+    → ((i : ℕ) → ¬ (IsRepeated managed i))
     → s.runs ≡ Some [] → s.routes ≡ Some [] → (a : Attended managed s given s' given')
     → ((runs : List RunCall) → s'.runs ≡ Some runs
     → OnePerService (may_run runs) × StartsAlone nobody runs × NumbersRise 0 runs × AllHeld a.ended.places (may_run runs))

@@ -41,7 +41,8 @@ make_code server scopes life text id now =
 abbrev pub accepted : State → (user : List ℕ) → (now : ℕ) → Option ShareCode → Result Share ShareError
 accepted t user now None = Err CodeUnknown
 accepted t user now (Some code) =
-    by_rules (if_so (is_over now (Some code.expires_at)) (CodeExpired code.expires_at) ∷ []) (granted_share t now code.server (To.User user) code.scopes)
+    by_rules (if_so (is_over now (Some code.expires_at)) (CodeExpired code.expires_at) ∷ [])
+    (granted_share t now code.server (To.User user) code.scopes)
 
 -- the share that the code of a text grants a user
 abbrev pub accept_code : State → (user text : List ℕ) → (now : ℕ) → Result Share ShareError

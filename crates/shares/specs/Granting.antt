@@ -63,4 +63,5 @@ remains gone None = None
 remains gone (Some kept) = share_of kept (left gone kept.scopes)
 
 abbrev pub revoke_share : State → ServerKey → Option Recipient → List RawScope → Result (Option Share) ShareError
-revoke_share t server to scopes = for_recipient (checked t server to scopes) (λ who. remains scopes (get t.shares (record { server = server; to = who })))
+revoke_share t server to scopes = for_recipient (checked t server to scopes)
+    (λ who. remains scopes (get t.shares (record { server = server; to = who })))

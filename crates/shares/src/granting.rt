@@ -153,5 +153,6 @@ fn left(alloc: Global, gone: &[RawScope], kept: &SharedScopes) -> Result<SharedS
 
 /// Granting twice is granting once: the share that a grant left is what the same grant leaves of it, at any later moment.
 pub fn granting_twice()
-    ensures { (key : ShareKey) (scopes : List RawScope) (kept : Option Share) (now later : ℕ) → granted later key scopes (Some (granted now key scopes kept)) ≡ granted now key scopes kept }
+    ensures { (key : ShareKey) (scopes : List RawScope) (kept : Option Share) (now later : ℕ)
+        → granted later key scopes (Some (granted now key scopes kept)) ≡ granted now key scopes kept }
 {}

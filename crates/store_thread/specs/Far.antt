@@ -1,5 +1,6 @@
 -- What a far store is, by what it has heard.
-use Rattle.std.specs.Prelude.{◌≡◌, ◌⊎◌, ℕ, List, [], ◌∷◌, ◌++◌, Option, Some, None, Result, Ok, Err, IfOk, OnOk, OnErr, IsTrue, is_some, Vec}
+use Rattle.std.specs.Prelude.{◌≡◌, ◌⊎◌, ℕ, List, [], ◌∷◌, ◌++◌, Option, Some, None, Result, Ok, Err, IfOk, OnOk, OnErr, IsTrue, is_some}
+use Rattle.std.specs.Prelude.{Vec}
 use Rattle.std.specs.declared.alloc.Global.{Global}
 use Rattle.store_thread.specs.declared.calls.Call.{Call}
 use Rattle.store_thread.specs.declared.calls.Call.TheVariants.{Open, Stay}
@@ -44,10 +45,12 @@ IsHeard before call done after = WasHeard before call done after ⊎ Unheard bef
 -- the rows were read so: where rows are told, they were told before, and these are they
 abbrev pub IsLoaded : Talk → Result (Vec Row Global) KeeperError → Talk → Type 0
 IsLoaded before read after =
-    IsTrue (is_some (told_in after)) → IsTrue (is_some (told_in before)) × AreSame (rows_in after) (rows_in before) × IfOk read (λ all. Lists (rows_in before) all.items)
+    IsTrue (is_some (told_in after)) → IsTrue (is_some (told_in before)) × AreSame (rows_in after) (rows_in before)
+    × IfOk read (λ all. Lists (rows_in before) all.items)
 
 -- a batch was kept, or wasn't: where rows are told, they were told before
 abbrev pub IsCommitted : Talk → List Item → Result (Unit {0}) KeeperError → Talk → Type 0
 IsCommitted before items done after =
     IsTrue (is_some (told_in after))
-    → IsTrue (is_some (told_in before)) × OnOk done (AreSame (rows_in after) (after_items items (rows_in before))) × OnErr done (AreSame (rows_in after) (rows_in before))
+    → IsTrue (is_some (told_in before)) × OnOk done (AreSame (rows_in after) (after_items items (rows_in before)))
+    × OnErr done (AreSame (rows_in after) (rows_in before))

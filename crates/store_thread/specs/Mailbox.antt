@@ -36,7 +36,8 @@ abbrev pub Between : List Parcel → Talk → Talk → Type 0
 Between [] far near = far ≡ near
 Between (Question call ∷ []) far near = (near.asked ≡ None) × (far ≡ with_call call near)
 Between (Reply answer ∷ []) far near =
-    (call : Call) × (told : Bool) × (far.asked ≡ Some call) × (near ≡ with_answer call answer told far) × IsFaithful (known_of far.seen) (exchange call answer told)
+    (call : Call) × (told : Bool) × (far.asked ≡ Some call) × (near ≡ with_answer call answer told far)
+    × IsFaithful (known_of far.seen) (exchange call answer told)
 Between (p ∷ q ∷ ps) far near = ⊥
 
 -- one end at most asks and one at most answers, and each knows what was said
@@ -45,7 +46,8 @@ Fits far near f n seat v = (v.asks ≡ true → (seat ≡ far) × (v.talk ≡ f)
 
 abbrev pub Mailed : List Parcel → List View → Type 0
 Mailed parcels views =
-    (far : ℕ) × (near : ℕ) × (f : Talk) × (n : Talk) × Between parcels f n × ((seat : ℕ) (v : View) → get_elem? views seat ≡ some v → Fits far near f n seat v)
+    (far : ℕ) × (near : ℕ) × (f : Talk) × (n : Talk) × Between parcels f n
+    × ((seat : ℕ) (v : View) → get_elem? views seat ≡ some v → Fits far near f n seat v)
 
 -- what each step tells an end: of what it knew, the parcel, and what it knows then
 abbrev pub Put : View → Parcel → View → Type 0
@@ -59,7 +61,8 @@ Gave told v (Reply answer) w =
 
 -- an answer that nobody had heard was taken back
 abbrev pub IsTakenBack : Talk → Talk → Type 0
-IsTakenBack before after = (call : Call) × (answer : Answer) × (told : Bool) × (before ≡ with_answer call answer told after) × (after.asked ≡ Some call)
+IsTakenBack before after = (call : Call) × (answer : Answer) × (told : Bool) × (before ≡ with_answer call answer told after)
+    × (after.asked ≡ Some call)
 
 -- the one that answers finds its own answer where nobody heard it
 abbrev pub Took : View → Parcel → View → Type 0
@@ -76,7 +79,8 @@ Heard v (Reply answer) w =
 -- what a call that was asked came to: it was answered, faithfully; or it wasn't, and nothing was said, or it is still to be answered
 abbrev pub IsAnswered : Talk → Call → Answer → Talk → Type 0
 IsAnswered before call answer after =
-    (told : Bool) × (before.asked ≡ None) × (after ≡ with_answer call answer told before) × IsFaithful (known_of before.seen) (exchange call answer told)
+    (told : Bool) × (before.asked ≡ None) × (after ≡ with_answer call answer told before)
+    × IsFaithful (known_of before.seen) (exchange call answer told)
 
 abbrev pub IsUnanswered : Talk → Talk → Type 0
 IsUnanswered before after = (after.seen ≡ before.seen) × (after.asked ≡ None → before.asked ≡ None)

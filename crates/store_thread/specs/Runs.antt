@@ -13,7 +13,8 @@ use Rattle.store_thread.specs.declared.mailbox.Exchange.{Exchange}
 use Rattle.store_thread.specs.declared.mailbox.Talk.{Talk}
 use Rattle.store_thread.specs.Told.{Read}
 
-module _ {K : Type 0} (Tells : K → Type 0) (rows : K → Rows) (is_told : K → Bool) (faults : K → ℕ) (Chooses : K → Option (List ℕ) → K → Type 0) where
+module _ {K : Type 0} (Tells : K → Type 0) (rows : K → Rows) (is_told : K → Bool) (faults : K → ℕ) (Chooses : K → Option (List ℕ) → K
+    → Type 0) where
   -- the rows stay, and where they are told they were told before
   abbrev pub Stays : K → K → Type 0
   Stays k k' = Tells k' → Tells k × AreSame (rows k') (rows k)
@@ -38,7 +39,8 @@ module _ {K : Type 0} (Tells : K → Type 0) (rows : K → Rows) (is_told : K �
 
   abbrev pub Commits : K → List Item → Result (Unit {0}) KeeperError → K → Type 0
   Commits k items done k' =
-      (Tells k' → Tells k) × (Tells k' → OnOk done (AreSame (rows k') (after_items items (rows k)))) × (Tells k' → OnErr done (AreSame (rows k') (rows k))) × IsCaused done k k'
+      (Tells k' → Tells k) × (Tells k' → OnOk done (AreSame (rows k') (after_items items (rows k))))
+      × (Tells k' → OnErr done (AreSame (rows k') (rows k))) × IsCaused done k k'
 
   abbrev pub Calls : Call → K → Result (Unit {0}) KeeperError → Read → K → Type 0
   Calls (Open place) k done read k' = Opens k place done read k'

@@ -36,7 +36,9 @@ impl<W: Wait + Copy> Model for FarEnd<W> {
 
     ghost view = { λ e. (passes.view e.pass).talk };
 
-    ghost invariant = { λ e. IsPassOf (arc_value e.mailbox) e.pass × (ruled_capacity (arc_value e.mailbox) ≡ 1) × ((passes.view e.pass).asks ≡ true) × ((passes.view e.pass).answers ≡ false) × (e.waits ≡ false → (passes.view e.pass).talk.asked ≡ None) };
+    ghost invariant = { λ e. IsPassOf (arc_value e.mailbox) e.pass × (ruled_capacity (arc_value e.mailbox) ≡ 1)
+        × ((passes.view e.pass).asks ≡ true) × ((passes.view e.pass).answers ≡ false)
+        × (e.waits ≡ false → (passes.view e.pass).talk.asked ≡ None) };
 }
 
 /// What answers.
@@ -60,7 +62,8 @@ impl<W: Wait + Copy> Model for NearEnd<W> {
 
     ghost view = { λ e. (passes.view e.pass).talk };
 
-    ghost invariant = { λ e. IsPassOf (arc_value e.mailbox) e.pass × (ruled_capacity (arc_value e.mailbox) ≡ 1) × ((passes.view e.pass).asks ≡ false) × ((passes.view e.pass).answers ≡ true) };
+    ghost invariant = { λ e. IsPassOf (arc_value e.mailbox) e.pass × (ruled_capacity (arc_value e.mailbox) ≡ 1)
+        × ((passes.view e.pass).asks ≡ false) × ((passes.view e.pass).answers ≡ true) };
 }
 
 /// Both ends of a mailbox in which nothing lay yet.
@@ -156,7 +159,8 @@ impl<W: Wait + Copy> FarEnd<W> {
 impl<W: Wait + Copy> NearEnd<W> {
     /// Waits for a call.
     pub(crate) fn take(&mut self) -> Option<Call>
-        ensures { MatchOption result ((self.new ≡ self.old) ⊎ IsTakenBack self.old self.new) (λ call. (self.old.asked ≡ None) × (self.new ≡ with_call call self.old)) }
+        ensures { MatchOption result ((self.new ≡ self.old) ⊎ IsTakenBack self.old self.new)
+            (λ call. (self.old.asked ≡ None) × (self.new ≡ with_call call self.old)) }
     {
         if self.rung.recv(&self.wait).is_err() {
             return None;
@@ -172,7 +176,8 @@ impl<W: Wait + Copy> NearEnd<W> {
     /// Puts in the answer of a store that tells its rows, or doesn't, as the caller picks.
     pub(crate) fn give_as<N: Telling>(&mut self, answer: Answer) -> bool
         requires { (call : Call) × (self.old.asked ≡ Some call) × IsFaithful (known_of self.old.seen) (exchange call answer N.told) }
-        ensures { MatchBool result ((call : Call) → self.old.asked ≡ Some call → self.new ≡ with_answer call answer N.told self.old) (self.new ≡ self.old) }
+        ensures { MatchBool result ((call : Call) → self.old.asked ≡ Some call → self.new ≡ with_answer call answer N.told self.old)
+            (self.new ≡ self.old) }
     {
         match self
             .mailbox

@@ -11,12 +11,13 @@ ghost use Rattle.store_thread.specs.declared.mailbox.View.{View};
 
 use keeper::keeper::Keeper;
 
-/// At any moment the rows that the end tells which asks are those of the store, which tells them then: of a store that went through what the
-/// end knows which answers (`answer_all`).
+/// At any moment the rows that the end tells which asks are those of the store, which tells them then: of a store that went through what
+/// the end knows which answers (`answer_all`).
 pub fn rows_are_the_stores<K: Keeper>()
     ensures { (parcels : List Parcel) (views : List View) (i j : ℕ) (far near : View) (began k : K) (rows : Rows)
         → Mailed parcels views → get_elem? views i ≡ some far → get_elem? views j ≡ some near → far.asks ≡ true → near.answers ≡ true
-        → WentAt K.Tells K.rows K.is_told K.faults K.Chooses began near.talk k → told_in far.talk ≡ Some rows → K.Tells k × AreSame rows (K.rows k) }
+        → WentAt K.Tells K.rows K.is_told K.faults K.Chooses began near.talk k → told_in far.talk ≡ Some rows
+        → K.Tells k × AreSame rows (K.rows k) }
 {}
 
 /// And it tells rows wherever the store does, once a place was taken and its rows were read, unless it waits for an answer.

@@ -119,7 +119,8 @@ fn give<N: Telling, K: ProgramStore, W: Wait + Copy>(
     answer: Answer,
 ) -> bool
     requires { (call : Call) × (end.old.asked ≡ Some call) × IsFaithful (known_of end.old.seen) (exchange call answer N.told) }
-    ensures { MatchBool result ((call : Call) → end.old.asked ≡ Some call → end.new ≡ with_answer call answer N.told end.old) (end.new ≡ end.old) }
+    ensures { MatchBool result ((call : Call) → end.old.asked ≡ Some call → end.new ≡ with_answer call answer N.told end.old)
+        (end.new ≡ end.old) }
 {
     // the caller picks from it what is told
     let _ = store;
@@ -129,7 +130,8 @@ fn give<N: Telling, K: ProgramStore, W: Wait + Copy>(
 /// Waits for one call, answers it, and says whether another one may come.
 fn answer_one<K: ProgramStore, W: Wait + Copy>(end: &mut NearEnd<W>, store: &mut K) -> bool
     requires { (began : K) × WentAt K.Tells K.rows K.is_told K.faults K.Chooses began end.old store.old }
-    ensures { (began : K) → WentAt K.Tells K.rows K.is_told K.faults K.Chooses began end.old store.old → WentAt K.Tells K.rows K.is_told K.faults K.Chooses began end.new store.new }
+    ensures { (began : K) → WentAt K.Tells K.rows K.is_told K.faults K.Chooses began end.old store.old
+        → WentAt K.Tells K.rows K.is_told K.faults K.Chooses began end.new store.new }
 {
     let Some(call) = end.take() else {
         return false;
@@ -138,8 +140,8 @@ fn answer_one<K: ProgramStore, W: Wait + Copy>(end: &mut NearEnd<W>, store: &mut
     give::<Brand, K, W>(end, store, said) && end.ring()
 }
 
-/// Answers calls until there is nobody to call. Each call that was asked was made once, in that order, and answered as it went, and no other
-/// was made; the last one may have stayed without an answer.
+/// Answers calls until there is nobody to call. Each call that was asked was made once, in that order, and answered as it went, and no
+/// other was made; the last one may have stayed without an answer.
 fn answer_all<K: ProgramStore, W: Wait + Copy>(wait: W, end: &mut NearEnd<W>, store: &mut K)
     requires { end.old ≡ no_talk }
     ensures { WentAt K.Tells K.rows K.is_told K.faults K.Chooses store.old end.new store.new }

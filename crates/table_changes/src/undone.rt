@@ -16,8 +16,10 @@ use std::alloc::{AllocError, Global};
 pub fn way_back(tables: &Tables, alloc: Global, change: &RowChange) -> Result<RowChange, AllocError>
     ensures value { IfOk result (λ back. back ≡ spec.way_back tables.now change.now) }
     ensures undoes { IfOk result (λ back. row_done back (row_done change.now tables.now) ≡ tables.now) }
-    ensures fits { IfOk result (λ back. is_put change.now ≡ true → FitsRow tables.now change.now → FitsRow (row_done change.now tables.now) back) }
-    ensures kept { IfOk result (λ back. is_put change.now ≡ true → is_put back ≡ true → has_row (row_done change.now tables.now) back ≡ true) }
+    ensures fits { IfOk result (λ back. is_put change.now ≡ true → FitsRow tables.now change.now
+        → FitsRow (row_done change.now tables.now) back) }
+    ensures kept { IfOk result (λ back. is_put change.now ≡ true → is_put back ≡ true
+        → has_row (row_done change.now tables.now) back ≡ true) }
 {
     tables.own_keys();
     back_of(tables, alloc, change)

@@ -1,5 +1,6 @@
 -- What a new token is issued as, and which rule refuses it first.
-use Rattle.std.specs.Prelude.{◌≡◌, ℕ, ◌+◌, Bool, true, false, IsTrue, List, [], ◌∷◌, Option, Some, None, Result, Ok, Err, option_map, is_some}
+use Rattle.std.specs.Prelude.{◌≡◌, ℕ, ◌+◌, Bool, true, false, IsTrue, List, [], ◌∷◌, Option, Some, None, Result, Ok, Err, option_map}
+use Rattle.std.specs.Prelude.{is_some}
 use Rattle.std.specs.Ordering.{is_le}
 use Rattle.hub_kit.specs.Hashes.{hash_text}
 use Rattle.hub_kit.specs.Moments.{capped}
@@ -64,12 +65,15 @@ asking owner = record { owner = owner; issued_for = None }
 -- one of the asked scopes means this filter, under an action that it covers, and the rights don't hold that whole
 abbrev pub IsMissing : State → Rights → Owner → List RawScope → Action → Filter → Type 0
 IsMissing t rights owner scopes action filter =
-    OneOf (IsCovering t.scopes (same_filter filter) action) (plain_scopes scopes (asking owner)) × IsOutside (members_of t.groups) rights action filter
+    OneOf (IsCovering t.scopes (same_filter filter) action) (plain_scopes scopes (asking owner))
+    × IsOutside (members_of t.groups) rights action filter
 
--- all that the asked scopes mean lies within the rights; or else this is the first row that doesn't, by the texts of the action and then of the filter
+-- all that the asked scopes mean lies within the rights; or else this is the first row that doesn't, by the texts of the action and then of
+-- the filter
 abbrev pub AreWithin : State → Rights → Owner → List RawScope → Inside → Type 0
 AreWithin t rights owner scopes Yes =
-    (action : Action) (x : Object) → IsObject x → IsMeant t.scopes scopes (asking owner) (members_of t.groups) action x → IsTrue (grant_admits (members_of t.groups) rights action x)
+    (action : Action) (x : Object) → IsObject x → IsMeant t.scopes scopes (asking owner) (members_of t.groups) action x
+    → IsTrue (grant_admits (members_of t.groups) rights action x)
 AreWithin t rights owner scopes (NotHeld action filter) =
     IsMissing t rights owner scopes action filter
     × ((other : Action) (wider : Filter) → IsMissing t rights owner scopes other wider → IsTrue (is_le (row_cmp action filter other wider)))
@@ -89,7 +93,8 @@ Passes t rights ask = (unknown_text t ask.scopes ≡ None) × AreWithin t rights
 
 -- issuing tells the token, or the first rule that refuses it; but at any time there may be no memory
 abbrev pub Issues : State → Rights → TokenAsk → (text : List ℕ) → (id now : ℕ) → Result Token IssueError → Type 0
-Issues t rights ask text id now (Ok token) = Passes t rights ask × (is_hash_kept t (hash_text text) ≡ false) × (token ≡ issued ask (hash_text text) id now)
+Issues t rights ask text id now (Ok token) = Passes t rights ask × (is_hash_kept t (hash_text text) ≡ false)
+    × (token ≡ issued ask (hash_text text) id now)
 Issues t rights ask text id now (Err (No.UnknownScope scope)) = unknown_text t ask.scopes ≡ Some scope
 Issues t rights ask text id now (Err (No.NotHeld action filter)) =
     (unknown_text t ask.scopes ≡ None) × AreWithin t rights (Of.User ask.owner) ask.scopes (NotHeld action filter)

@@ -78,5 +78,6 @@ pub fn expired_tokens(
 
 /// A text finds a kept token that has its hash and isn't over.
 pub fn found_token_has_the_hash()
-    ensures { (t : State) (text : List ℕ) (now id : ℕ) → AreOwn t → find t text now ≡ Ok id → (token : Token) × (get t.tokens id ≡ Some token) × (token.hash ≡ hash_text text) × (is_over now token.expires_at ≡ false) }
+    ensures { (t : State) (text : List ℕ) (now id : ℕ) → AreOwn t → find t text now ≡ Ok id
+        → (token : Token) × (get t.tokens id ≡ Some token) × (token.hash ≡ hash_text text) × (is_over now token.expires_at ≡ false) }
 {}

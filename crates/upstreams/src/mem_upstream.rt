@@ -1,5 +1,6 @@
 //! An upstream in memory.
-ghost use Rattle.std.specs.Prelude.{◌≡◌, ℕ, ◌<◌, ◌≤◌, ◌-◌, List, [], ◌∷◌, ◌++◌, length, take, drop, min, max, Option, Some, None, false, true, is_err, IfOk, OnOk, OnErr, IsErr};
+ghost use Rattle.std.specs.Prelude.{◌≡◌, ℕ, ◌<◌, ◌≤◌, ◌-◌, List, [], ◌∷◌, ◌++◌, length, take, drop, min, max, Option, Some, None, false};
+ghost use Rattle.std.specs.Prelude.{true, is_err, IfOk, OnOk, OnErr, IsErr};
 ghost use Rattle.hub_devices.specs.FailingCalls.{is_failing, after_call, new_script};
 ghost use Rattle.hub_devices.specs.Faults.{Rises};
 ghost use Rattle.upstreams.specs.Upstream.{Told, IsOpen, Connects, Misses, Moves, Finishes, IsSpent};

@@ -66,7 +66,8 @@ pub record IsReopened (old new : LiveServers) : Type 0 where
 
 pub data Step : World → World → Type 0 where
   -- the hub starts a server that has no lease, or notes the wish for a stop
-  begin : {w : World} (server : ServerKey) (secret : List ℕ) → lease_of w.live.lives server ≡ None → free_target w.live.pool w.live.lives ≢ None
+  begin : {w : World} (server : ServerKey) (secret : List ℕ) → lease_of w.live.lives server ≡ None
+      → free_target w.live.pool w.live.lives ≢ None
       → Step w (begun server secret w)
   ask_stop : {w : World} (g : ℕ) (l : Leased) (made : Life × Todo) → get w.live.lives g ≡ Some l → life_after l.life g AskStop ≡ Ok made
       → Step w (lived g l made w)

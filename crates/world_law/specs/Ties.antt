@@ -12,7 +12,8 @@ use Rattle.world_law.specs.World.{What, Spawn, Route}
 
 -- the calls of which an outcome tells
 abbrev pub asked : Work → LifeEvent → List What
-asked w outcome = map (λ (c : Spawning × Told). Spawn c.0) (spawner_did w outcome) ++ map (λ (c : Routing × Told). Route c.0) (routes_did w outcome)
+asked w outcome = map (λ (c : Spawning × Told). Spawn c.0) (spawner_did w outcome) ++ map (λ (c : Routing × Told). Route c.0)
+    (routes_did w outcome)
 
 -- the live servers of a hub's state
 abbrev pub live_of : Hub → LiveServers

@@ -21,7 +21,8 @@ impl<K: Keeper, T: Trail<Entry = Change>> Book<K, T> {
         ensures counted { self.old.faults ≤ self.new.faults }
         ensures reached { IsReached self.new }
         // the same in words of places: the outcome is taken in the state that the entries before it left
-        ensures placed { LivedAt self.old.start (entries_of self.old) (entries_of self.new) self.old.faults self.new.faults generation event result }
+        ensures placed { LivedAt self.old.start (entries_of self.old) (entries_of self.new) self.old.faults self.new.faults generation event
+            result }
     {
         self.machine.step(
             self.alloc,

@@ -70,7 +70,8 @@ impl Machine {
         requires room { is_past_trail self.old (Begin (next_generation self.old.tables) server.now rows.now) ≡ false }
         requires written { IsOfRows rows.now written.now }
         requires fits { (target : List ℕ) × FitsBegin self.old (next_generation self.old.tables) server.now rows.now target }
-        ensures carried { IfOk result (λ done. self.new ≡ (if done then apply (Begin (next_generation self.old.tables) server.now rows.now) self.old else self.old)) }
+        ensures carried { IfOk result (λ done. self.new
+            ≡ (if done then apply (Begin (next_generation self.old.tables) server.now rows.now) self.old else self.old)) }
         ensures err { OnErr result (self.new ≡ self.old) }
         ensures told { K.Tells keeper.new → K.Tells keeper.old }
         ensures kept { K.Tells keeper.new → RowsKept written.now.batch result (K.rows keeper.old) (K.rows keeper.new) }

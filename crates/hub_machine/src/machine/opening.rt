@@ -15,7 +15,15 @@ impl Machine {
         requires few { lives.next ≤ opening_next lives.pool }
         requires kept { KeepsLeases tables lives.lives }
         requires owed { owed lives.lives ≤ 4 * length lives.pool }
-        ensures { result ≡ record { tables = tables; lives = lives.lives; length = 0; cost = 0; pool = lives.pool; hub_url = hub_url; no_trail = no_trail } }
+        ensures { result ≡ record {
+          tables = tables;
+          lives = lives.lives;
+          length = 0;
+          cost = 0;
+          pool = lives.pool;
+          hub_url = hub_url;
+          no_trail = no_trail;
+        } }
     {
         // it tells that the targets are few
         lives.are_apart();

@@ -29,8 +29,10 @@ fn is_end(event: LifeEvent) -> bool
 impl Machine {
     /// That the history has room for each outcome, and is owed less after it. It does nothing.
     fn has_room(&self)
-        ensures room { (g : ℕ) (event : LifeEvent) → is_outcome event ≡ true → IsOk (step_at self.now.lives g event) → is_past self.now (Life g event) ≡ false }
-        ensures fewer { (g : ℕ) (event : LifeEvent) → is_outcome event ≡ true → IsOk (step_at self.now.lives g event) → owed (lived g event self.now).lives < owed self.now.lives }
+        ensures room { (g : ℕ) (event : LifeEvent) → is_outcome event ≡ true → IsOk (step_at self.now.lives g event)
+            → is_past self.now (Life g event) ≡ false }
+        ensures fewer { (g : ℕ) (event : LifeEvent) → is_outcome event ≡ true → IsOk (step_at self.now.lives g event)
+            → owed (lived g event self.now).lives < owed self.now.lives }
     {
         let _length = self.length;
         life_laws();
@@ -133,7 +135,8 @@ impl Machine {
     ) -> Result<Step, LifeRefusal>
         requires outcome { is_outcome event ≡ true }
         requires room { owed self.old.lives ≤ T.spare trail.old }
-        ensures steps { spec.Steps generation event result self.old self.new (T.told trail.old) (T.told trail.new) (K.faults keeper.old) (K.faults keeper.new) }
+        ensures steps { spec.Steps generation event result self.old self.new (T.told trail.old) (T.told trail.new) (K.faults keeper.old)
+            (K.faults keeper.new) }
         ensures room { owed self.new.lives ≤ T.spare trail.new }
         ensures told { K.Tells keeper.new → K.Tells keeper.old }
         ensures keeps { K.Tells keeper.new → Keeps (K.rows keeper.old) self.old.tables → Keeps (K.rows keeper.new) self.new.tables }

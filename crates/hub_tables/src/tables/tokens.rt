@@ -80,7 +80,8 @@ impl Tables {
 
     /// Whether neither the id nor the hash of a token is kept, so that a new one may stand under them.
     pub fn token_is_new(&self, id: u64, hash: &Text) -> bool
-        ensures value { result ≡ not (map.contains_key self.now.tokens id || is_some (row_with (λ row. row.hash) hash.now self.now.tokens)) }
+        ensures value { result ≡ not (map.contains_key self.now.tokens id
+            || is_some (row_with (λ row. row.hash) hash.now self.now.tokens)) }
         ensures fits { IsTrue result → (row : Token) → row.id ≡ id → row.hash ≡ hash.now → FitsToken self.now.tokens row }
     {
         neither(self.token(id).is_some(), self.token_of_hash(hash).is_some())
