@@ -34,7 +34,7 @@ unmapped f (x ∷ xs) y (inr later) = let more = unmapped f xs y later in (more.
 abbrev pub AreApart : List Row → Type 0
 AreApart rows = (id : ℤ) → count_at id rows ≤ 1
 
-counts_more : (b : Bool) (n : ℕ) → n ≤ cond b (suc n) n
+pub counts_more : (b : Bool) (n : ℕ) → n ≤ cond b (suc n) n
 counts_more true n = omega arith
 counts_more false n = omega arith
 
@@ -47,14 +47,14 @@ pub count_none : (id : ℤ) (rows : List Row) → ((x : Row) → Has rows x → 
 count_none id [] h = refl
 count_none id (r ∷ rows) h = rw (h r (inl refl)) (count_none id rows (λ x there. h x (inr there)))
 
-fewer : (b : Bool) (n : ℕ) → cond b (suc n) n ≤ 1 → n ≤ 1
+pub fewer : (b : Bool) (n : ℕ) → cond b (suc n) n ≤ 1 → n ≤ 1
 fewer true n h = omega (arith, h)
 fewer false n h = h
 
 pub apart_tail : (r : Row) (rows : List Row) → AreApart (r ∷ rows) → AreApart rows
 apart_tail r rows apart id = fewer (has_rowid id r) (count_at id rows) (apart id)
 
-never_two : (b : Bool) (n : ℕ) → b ≡ true → 1 ≤ n → cond b (suc n) n ≤ 1 → ⊥
+pub never_two : (b : Bool) (n : ℕ) → b ≡ true → 1 ≤ n → cond b (suc n) n ≤ 1 → ⊥
 never_two true n is some h = omega (arith, some, h)
 never_two false n is some h = absurd cc
 

@@ -13,6 +13,8 @@ pub mod Deleted
 pub mod Placed
 pub mod Loaded
 pub mod Asked
+pub mod Answered
+pub mod Props
 pub mod Schemas
 pub mod Rising
 pub mod Found

@@ -20,10 +20,10 @@ use Rattle.row_table.proofs.Ordered.{by_id, listed_ours}
 use Rattle.row_table.proofs.Words.{listed, in_list, IsListing}
 use Rattle.row_table.proofs.Upsert.{select_is, select_unlisted, select_plain, by_rowid, all_is, all_unlisted, all_plain}
 
-abbrev alone : Row → List Env
+abbrev pub alone : Row → List Env
 alone r = ([] ∷ r ∷ []) ∷ []
 
-all_rows : (rs : List Row) → map (output listed) (flat_map alone rs) ≡ map in_list rs
+pub all_rows : (rs : List Row) → map (output listed) (flat_map alone rs) ≡ map in_list rs
 all_rows [] = refl
 all_rows (r ∷ rs) = ap (λ os. in_list r ∷ os) (all_rows rs)
 

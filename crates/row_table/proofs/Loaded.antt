@@ -32,10 +32,10 @@ use Rattle.row_table.proofs.Tests.{rowid_itself, same_option, at_is, at_itself}
 use Rattle.row_table.proofs.Trees.{held, found}
 
 -- what is sorted and shown of a row of the hub
-abbrev out : Kept → Output
+abbrev pub out : Kept → Output
 out k = (Int (pos k.kind) ∷ Text k.key ∷ [], shown k)
 
-abbrev number_in : Value → ℕ
+abbrev pub number_in : Value → ℕ
 number_in Null = 0
 number_in (Int (pos n)) = n
 number_in (Int (negsuc n)) = 0
@@ -43,7 +43,7 @@ number_in (Real x) = 0
 number_in (Text t) = 0
 number_in (Blob b) = 0
 
-abbrev bytes_in : Value → List ℕ
+abbrev pub bytes_in : Value → List ℕ
 bytes_in Null = []
 bytes_in (Int n) = []
 bytes_in (Real x) = []
@@ -51,7 +51,7 @@ bytes_in (Text t) = t
 bytes_in (Blob b) = []
 
 -- the row that is shown so
-abbrev back : Output → Kept
+abbrev pub back : Output → Kept
 back o = record { kind = number_in (column o.1 0); key = bytes_in (column o.1 1); text = bytes_in (column o.1 2) }
 
 back_all : (all : List Kept) → map back (map out all) ≡ all
@@ -74,13 +74,13 @@ outputs_are (o ∷ os) (k ∷ all) each h =
     ap (λ x. x ∷ os) (first.1 ∙ ap out same) ∙ ap (λ xs. out k ∷ xs) (outputs_are os all (λ x there. each x (inr there)) tails)
 
 -- the rows of a tree
-abbrev kept_row : Row → Kept
+abbrev pub kept_row : Row → Kept
 kept_row r = back (in_list r)
 
 abbrev kept_of : (id : ℤ) (kind : ℕ) (key text : List ℕ) → Kept
 kept_of id kind key text = record { kind = kind; key = key; text = text }
 
-shown_rows : (tree : List Row) → ((r : Row) → Has tree r → IsStored r) → map in_list tree ≡ map out (map kept_row tree)
+pub shown_rows : (tree : List Row) → ((r : Row) → Has tree r → IsStored r) → map in_list tree ≡ map out (map kept_row tree)
 shown_rows [] formed = refl
 shown_rows (r ∷ tree) formed =
     let s = formed r (inl refl) in
@@ -92,10 +92,10 @@ shown_rows (r ∷ tree) formed =
 abbrev one_if : Bool → ℕ
 one_if b = cond b 1 0
 
-abbrev here : ℕ → List ℕ → Kept → Bool
+abbrev pub here : ℕ → List ℕ → Kept → Bool
 here kind key k = is_at kind key k.kind k.key
 
-abbrev count : ℕ → List ℕ → List Kept → ℕ
+abbrev pub count : ℕ → List ℕ → List Kept → ℕ
 count kind key [] = 0
 count kind key (k ∷ ks) = cond (here kind key k) (suc (count kind key ks)) (count kind key ks)
 
@@ -107,11 +107,11 @@ count_is : (kind : ℕ) (key : List ℕ) (ks : List Kept) → sum_by (λ k. one_
 count_is kind key [] = refl
 count_is kind key (k ∷ ks) = sum_by-cons (λ k. one_if (here kind key k)) k ks ∙ ap (λ n. one_if (here kind key k) + n) (count_is kind key ks) ∙ add_if (here kind key k) (count kind key ks)
 
-count_moved : (kind : ℕ) (key : List ℕ) (xs ys : List Kept) → IsPermutation xs ys → count kind key ys ≡ count kind key xs
+pub count_moved : (kind : ℕ) (key : List ℕ) (xs ys : List Kept) → IsPermutation xs ys → count kind key ys ≡ count kind key xs
 count_moved kind key xs ys same = sym (count_is kind key ys) ∙ sum_by-IsPermutation (λ k. one_if (here kind key k)) xs ys same ∙ count_is kind key xs
 
 -- no kind and key comes twice
-abbrev AreFew : List Kept → Type 0
+abbrev pub AreFew : List Kept → Type 0
 AreFew all = (kind : ℕ) (key : List ℕ) → count kind key all ≤ 1
 
 none_there : (kind : ℕ) (key : List ℕ) (rs : List Row) → ((r : Row) → Has rs r → here kind key (kept_row r) ≡ false) → count kind key (map kept_row rs) ≡ 0
@@ -138,7 +138,7 @@ few_rows (r ∷ tree) apart formed once kind key = elim (cases_Bool (here kind k
 
 -- ---- the order
 
-row_cmp_total : IsTotalOrder row_cmp
+pub row_cmp_total : IsTotalOrder row_cmp
 row_cmp_total = then_total (on_total (λ (k : Kept). k.kind) nat_cmp_total) (on_total (λ (k : Kept). k.key) nat_list_cmp_total)
 
 int_cmp-pos : (m n : ℕ) → int_cmp (pos m) (pos n) ≡ nat_cmp m n
@@ -148,12 +148,12 @@ pub ordered_as : (a b : Kept) → output_cmp listed (out a) (out b) ≡ row_cmp 
 ordered_as a b = rw (value_cmp-Int (pos a.kind) (pos b.kind), int_cmp-pos a.kind b.kind, value_cmp-Text a.key b.key, then-Equal (slice_cmp nat_cmp a.key b.key)) refl
 
 -- each row is not above the next
-abbrev Rises : List Kept → Type 0
+abbrev pub Rises : List Kept → Type 0
 Rises [] = Unit {0}
 Rises (a ∷ []) = Unit {0}
 Rises (a ∷ b ∷ more) = (is_lt (row_cmp b a) ≡ false) × Rises (b ∷ more)
 
-rises_from : (all : List Kept) → IsSorted (output_cmp listed) (map out all) → Rises all
+pub rises_from : (all : List Kept) → IsSorted (output_cmp listed) (map out all) → Rises all
 rises_from [] up = tt
 rises_from (a ∷ []) up = tt
 rises_from (a ∷ b ∷ more) up = (
@@ -195,7 +195,7 @@ strict (a ∷ b ∷ more) few up =
 
 -- ---- which rows the list has
 
-abbrev row_at : ℕ → List ℕ → List ℕ → Kept
+abbrev pub row_at : ℕ → List ℕ → List ℕ → Kept
 row_at kind key text = record { kind = kind; key = key; text = text }
 
 module _ (kind : ℕ) (key : List ℕ) where
@@ -204,7 +204,7 @@ module _ (kind : ℕ) (key : List ℕ) where
       let p = at_is k.kind k.key kind key h in
       ap (λ n. row_at n key text) (sym p.0) ∙ ap (λ t. row_at k.kind t text) (sym p.1) ∙ ap (row_at k.kind k.key) (sym e)
 
-  from_list : (all : List Kept) (m : Rows) (text : List ℕ) → after_items (map Put all) m kind key ≡ Some text → Has all (row_at kind key text) ⊎ (m kind key ≡ Some text)
+  pub from_list : (all : List Kept) (m : Rows) (text : List ℕ) → after_items (map Put all) m kind key ≡ Some text → Has all (row_at kind key text) ⊎ (m kind key ≡ Some text)
   from_list [] m text h = inr h
   from_list (k ∷ all) m text h = elim (from_list all (with_text k.kind k.key (Some k.text) m) text h) [
     | inl later ↦ inl (inr later)
@@ -227,7 +227,7 @@ module _ (kind : ℕ) (key : List ℕ) where
   none_else [] m h = refl
   none_else (k ∷ all) m h = one_else k all m (none_else all (with_text k.kind k.key (Some k.text) m)) (here kind key k) refl h
 
-  in_list_found : (all : List Kept) (m : Rows) (text : List ℕ) → count kind key all ≤ 1 → Has all (row_at kind key text) → after_items (map Put all) m kind key ≡ Some text
+  pub in_list_found : (all : List Kept) (m : Rows) (text : List ℕ) → count kind key all ≤ 1 → Has all (row_at kind key text) → after_items (map Put all) m kind key ≡ Some text
   in_list_found [] m text few h = absurd h
   in_list_found (k ∷ all) m text few (inl first) =
       let at : here kind key k ≡ true = subst (λ r. here kind key r ≡ true) first (at_itself kind key) in
@@ -241,19 +241,12 @@ module _ (kind : ℕ) (key : List ℕ) where
       rest false n e h = absurd (true≢false (sym e))
   in_list_found (k ∷ all) m text few (inr later) = in_list_found all (with_text k.kind k.key (Some k.text) m) text (fewer (here kind key k) (count kind key all) few) later
 
-pub all_listed : (tree sql : List Row) (all : List Kept) → IsRowTable tree → IsListing tree sql → map shown all ≡ map front sql → Lists (rows_of tree) all
-all_listed tree sql all table list same =
-    let formed_out : (o : Output) → Has list.ordered o → (k : Kept) × (o ≡ out k) = λ o there.
-    let from = unmapped in_list tree o (moved list.ordered (map in_list tree) o (IsPermutation-sym _ _ list.same) there) in
-    let s = table.formed from.0 from.1 in
-    (row_at s.1 s.2 s.3, from.2 ∙ ap in_list s.4) in
-    let shown_same : map shown all ≡ map (λ (o : Output). front o.1) list.ordered = same ∙ ap (map front) list.shown ∙ fronts list.ordered in
-    let ordered : list.ordered ≡ map out all = outputs_are list.ordered all formed_out shown_same in
-    let outs : IsPermutation (map out (map kept_row tree)) (map out all) = subst (λ x. IsPermutation x (map out all)) (shown_rows tree table.formed) (subst (IsPermutation (map in_list tree)) ordered list.same) in
-    let rows_same : IsPermutation (map kept_row tree) all = subst (λ x. IsPermutation x all) (back_all (map kept_row tree)) (subst (IsPermutation (map back (map out (map kept_row tree)))) (back_all all) (IsPermutation-map back _ _ outs)) in
+-- rows of the table that rise by kind and key are all its rows, in order
+pub ordered_lists : (tree : List Row) (all : List Kept) → IsRowTable tree → IsPermutation (map kept_row tree) all → Rises all → Lists (rows_of tree) all
+ordered_lists tree all table rows_same up =
     let few : AreFew all = λ kind key. subst (λ n. n ≤ 1) (sym (count_moved kind key (map kept_row tree) all rows_same)) (few_rows tree table.apart table.formed table.once kind key) in
     record {
-      in_order = strict all few (rises_from all (subst (IsSorted (output_cmp listed)) ordered list.sorted));
+      in_order = strict all few up;
       same = λ kind key. same_option (rows.rows_of all kind key) (rows_of tree kind key)
           (λ text h. elim (from_list kind key all no_rows text h) [
             | inl there ↦
@@ -268,6 +261,18 @@ all_listed tree sql all table list same =
           let there = held kind key text tree table.formed h in
           in_list_found kind key all no_rows text (few kind key) (moved (map kept_row tree) all _ rows_same (mapped kept_row tree _ there.1)));
     }
+
+pub all_listed : (tree sql : List Row) (all : List Kept) → IsRowTable tree → IsListing tree sql → map shown all ≡ map front sql → Lists (rows_of tree) all
+all_listed tree sql all table list same =
+    let formed_out : (o : Output) → Has list.ordered o → (k : Kept) × (o ≡ out k) = λ o there.
+    let from = unmapped in_list tree o (moved list.ordered (map in_list tree) o (IsPermutation-sym _ _ list.same) there) in
+    let s = table.formed from.0 from.1 in
+    (row_at s.1 s.2 s.3, from.2 ∙ ap in_list s.4) in
+    let shown_same : map shown all ≡ map (λ (o : Output). front o.1) list.ordered = same ∙ ap (map front) list.shown ∙ fronts list.ordered in
+    let ordered : list.ordered ≡ map out all = outputs_are list.ordered all formed_out shown_same in
+    let outs : IsPermutation (map out (map kept_row tree)) (map out all) = subst (λ x. IsPermutation x (map out all)) (shown_rows tree table.formed) (subst (IsPermutation (map in_list tree)) ordered list.same) in
+    let rows_same : IsPermutation (map kept_row tree) all = subst (λ x. IsPermutation x all) (back_all (map kept_row tree)) (subst (IsPermutation (map back (map out (map kept_row tree)))) (back_all all) (IsPermutation-map back _ _ outs)) in
+    ordered_lists tree all table rows_same (rises_from all (subst (IsSorted (output_cmp listed)) ordered list.sorted))
   where
     fronts : (os : List Output) → map front (map (λ (o : Output). o.1) os) ≡ map (λ (o : Output). front o.1) os
     fronts [] = refl
