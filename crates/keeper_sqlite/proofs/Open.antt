@@ -1,9 +1,11 @@
 -- What keeps a keeper telling.
-use Rattle.std.proofs.Common.{◌≡◌, ◌⊎◌, inl, inr, true, false, Bool, Result, Ok, Err, OnOk, IsTrue, refl, sym, subst}
+use Rattle.std.proofs.Common.{◌≡◌, ◌⊎◌, inl, inr, ℕ, List, true, false, Bool, Result, Ok, Err, OnOk, IsTrue, refl, sym, subst}
 use Rattle.sqlite.specs.Held.{Held, state}
-use Rattle.sqlite.specs.State.{HasCleanDisk}
+use Rattle.sqlite.specs.Order.{Row}
+use Rattle.sqlite.specs.State.{State, HasCleanDisk, QueriesRow}
 use Rattle.sqlite.specs.Store.{Ghosts}
 use Rattle.row_table.specs.Open.{StaysOpen}
+use Rattle.row_table.proofs.Open.{shown_open}
 use Rattle.keeper_sqlite.specs.Own.{IsTold, IsShutByFault}
 
 pub on_ok : {A E : Type 0} {P : Type 0} (r : Result A E) → P → OnOk r P
@@ -13,6 +15,12 @@ on_ok (Err e) h = tt
 is_or_not : (b : Bool) → IsTrue b ⊎ (b ≡ false)
 is_or_not true = inl refl
 is_or_not false = inr refl
+
+-- a query that found a row leaves the connection open
+pub queried_open : (sql : List ℕ) (params row : Row) (old new : State) → QueriesRow sql params old new (Ok row) → IsTrue new.is_open
+unfolding QueriesRow
+queried_open sql params row old new (inl h) = h.1.0.is_open
+queried_open sql params row old new (inr h) = shown_open sql params old new h.0 h.1
 
 module _ {S : Type 0} (g : Ghosts S) where
   -- a transaction that begins leaves the store as it is

@@ -1,22 +1,25 @@
 -- What is done to a store that this keeper made, in rows.
-use Rattle.std.proofs.Common.{◌≡◌, inl, inr, ℕ, ◌≤◌, arith, Bool, true, false, not, cond, IsTrue, List, [], ◌∷◌, Option, Some, None, Result, Ok, Err, OnOk, IfOk, OnErr, refl, sym, ap, subst, ◌∙◌}
+use Rattle.std.proofs.Common.{◌≡◌, inl, inr, ℕ, ◌≤◌, arith, Bool, true, false, not, cond, IsTrue, List, [], ◌∷◌, map, Option, Some, None, IfSome, IsSome, IsSomeAnd, Result, Ok, Err, OnOk, IfOk, OnErr, refl, sym, ap, subst, ◌∙◌}
 use Rattle.keeper.specs.Rows.{Rows, AreSame, Lists, with_text, no_rows, after_item, after_items, is_at}
 use Rattle.keeper.specs.declared.keeper.Item.{Item}
 use Rattle.keeper.specs.declared.keeper.Item.TheVariants.{Put, Delete}
 use Rattle.keeper.specs.declared.keeper.Row.{Row as Kept}
-use Rattle.std.specs.List.Sorted.{IsStrictlySortedBy}
+use Rattle.std.specs.List.Sorted.{IsPermutation, IsStrictlySortedBy}
 use Rattle.sqlite.specs.declared.error.Error.{Error}
 use Rattle.sqlite.specs.Effect.{Database}
 use Rattle.sqlite.specs.Given.{IsPlain}
 use Rattle.sqlite.specs.Held.{Held, state}
 use Rattle.sqlite.specs.Listing.{understood}
+use Rattle.sqlite.specs.Order.{Row}
 use Rattle.sqlite.specs.Schema.{Schema}
 use Rattle.sqlite.specs.State.{State, HasCleanDisk, Executes}
 use Rattle.sqlite.specs.Store.{Ghosts}
 use Rattle.sqlite.specs.View.{doubt}
-use Rattle.row_table.specs.Stored.{rows_of, IsRowStore, HasRows}
+use Rattle.row_table.specs.Stored.{rows_of, whole, IsRowStore, HasRows}
 use Rattle.row_table.specs.Tables.{no_schema, store_schema}
 use Rattle.row_table.specs.Texts.{number_text, select_text, Leaves}
+use Rattle.row_table.specs.Shown.{shown, IsInOrder}
+use Rattle.row_table.proofs.Answered.{shown_again, front_shown, lists_whole}
 use Rattle.row_table.proofs.Asked.{query_same}
 use Rattle.row_table.proofs.Deleted.{deletes_row}
 use Rattle.row_table.proofs.Placed.{puts_row}
@@ -27,7 +30,7 @@ use Rattle.row_table.proofs.Lists.{lists}
 use Rattle.row_table.proofs.Loaded.{all_listed}
 use Rattle.keeper_sqlite.specs.declared.store.Form.{Form}
 use Rattle.keeper_sqlite.specs.declared.store.Form.TheVariants.{Old, New}
-use Rattle.keeper_sqlite.specs.Own.{IsOwnStore, rows_in, IsOwned, told_rows, Stands}
+use Rattle.keeper_sqlite.specs.Own.{AreAll, IsOwnStore, rows_in, IsOwned, told_rows, Stands}
 use Rattle.keeper_sqlite.specs.Statements.{text_of, values_of, HasNoTables, AreDone, IsOfForm, IsRaised, IsKnown, IsRenewed, IsCommitted, IsListed, IsLoaded}
 
 same_texts : (kind : ℕ) (key : List ℕ) (text : Option (List ℕ)) (a b : Rows) → AreSame a b → AreSame (with_text kind key text a) (with_text kind key text b)
@@ -44,7 +47,7 @@ abbrev item_rows : Item → State → Rows
 item_rows item s = after_item item (rows_of (s.now.trees 0))
 
 -- a store of this schema has no tables only where it is empty
-never_empty : (schema : Schema) → schema ≡ store_schema → HasNoTables schema → ⊥
+pub never_empty : (schema : Schema) → schema ≡ store_schema → HasNoTables schema → ⊥
 never_empty schema is none = let e : store_schema.tables ≡ [] = ap (λ (s : Schema). s.tables) (sym is) ∙ none.0 in cc
 
 empty_has_none : (schema : Schema) → schema ≡ no_schema → HasNoTables schema
@@ -147,6 +150,44 @@ module _ {S : Type 0} (g : Ghosts S) where
         let schema : (state g found).now.schema ≡ store_schema = ap (λ (d : Database). d.schema) before.1 ∙ store.0 in
         let same = was.1 (subst (λ s. IsPlain (understood s select_text)) (sym schema) select_plain) before.2 in
         (before.0, same.0 ∙ before.1)
+
+  -- rows that were read with their rowids, and put in order, are all rows of the store
+  pub read_all : {V W : Type 0} (items : V → List Row) (kept : W → List Kept) (old new : Held S) (rows : Option V) (read : Option W)
+      → (HasCleanDisk (state g new) → IsTrue (state g new).is_open → IsTrue (state g old).is_open × ((state g new).now ≡ (state g old).now))
+      → (HasCleanDisk (state g new) → IsTrue (state g new).is_open → IsSome rows → IsRowStore (state g new).now)
+      → (HasCleanDisk (state g new) → IfSome rows (λ v. IsPermutation (map whole ((state g old).now.trees 0)) (items v)))
+      → IfSome read (λ all. IsSomeAnd rows (λ v. IsInOrder (items v) (kept all))) → IfSome read (λ all. AreAll g new (kept all))
+  read_all items kept old new rows None stands known same order = tt
+  read_all items kept old new None (Some all) stands known same order = absurd order
+  read_all items kept old new (Some v) (Some all) stands known same order = λ clean open_now.
+      let store = known clean open_now refl in
+      let rows = subst (λ (d : Database). IsPermutation (map whole (d.trees 0)) (items v)) (sym (stands clean open_now).1) (same clean) in
+      (store, subst (λ r. Lists r (kept all)) (sym (rows_of_store (state g new).now store.0)) (lists_whole ((state g new).now.trees 0) (items v) (kept all) store.1 rows order))
+
+  -- rows that were read are what the selection would give
+  pub loaded_again : (form : Form) (old new : Held S) (all : List Kept) → IsTrue (state g new).is_open → IsRowStore (state g old).now → Lists (told_rows g old) all → IsOfForm g form old new
+      → IsLoaded g old new all
+  loaded_again form old new all open_now store listing is_of =
+      let same = found_same form old new store.0 is_of in
+      let rows = subst (λ r. Lists r all) (rows_of_store (state g old).now store.0) listing in
+      inr (
+        never_empty _ store.0,
+        record {
+          form = form;
+          found = new;
+          is_of = is_of;
+          rows = map shown all;
+          selected = shown_again (state g new) all open_now (subst IsRowStore (sym same) store) (subst (λ (d : Database). Lists (rows_of (d.trees 0)) all) (sym same) rows);
+          same = sym (front_shown all);
+        },
+      )
+
+  -- asking for the number leaves a store that has tables
+  pub again_stands : (old found : Held S) → IsOwned g old → HasCleanDisk (state g old) → (IsTrue (state g old).is_open → IsRowStore (state g old).now)
+      → (IsTrue (state g old).is_open → (state g old).now ≡ (state g old).committed) → Leaves number_text (state g old) (state g found) → Stands g old found
+  again_stands old found own clean store settled asked open_now =
+      let was = (asked open_now).0 in
+      number_stands old found own clean (never_empty _ (store was).0) settled asked open_now
 
   -- what is loaded from a store of one's own
   pub loaded_listed : {V : Type 0} (old new : Held S) (items : V → List Kept) (r : Result V Error) → IsOwned g old → HasCleanDisk (state g old) → IsTrue (state g old).is_open

@@ -1,7 +1,8 @@
 -- A store that this keeper made: which rows are in it.
 use Rattle.std.specs.Prelude.{◌≡◌, ◌⊎◌, ℕ, false, ◌==◌, ◌&&◌, Bool, IsTrue, List, [], ◌∷◌}
 use Rattle.std.proofs.Common.{rules}
-use Rattle.keeper.specs.Rows.{Rows, no_rows}
+use Rattle.keeper.specs.Rows.{Rows, Lists, no_rows}
+use Rattle.keeper.specs.declared.keeper.Row.{Row as Kept}
 use Rattle.sqlite.specs.Disk.{MoreFaults}
 use Rattle.sqlite.specs.Effect.{Database}
 use Rattle.sqlite.specs.Held.{Held, state}
@@ -47,6 +48,10 @@ module _ {S : Type 0} (g : Ghosts S) where
 
   abbrev pub told_rows : Held S → Rows
   told_rows h = rows_in (state g h).now
+
+  -- these are all rows of the store, which has tables, in order, unless it is shut
+  abbrev pub AreAll : Held S → List Kept → Type 0
+  AreAll h all = HasCleanDisk (state g h) → IsTrue (state g h).is_open → IsRowStore (state g h).now × Lists (told_rows h) all
 
   -- the disk failed, which was counted, and that shut the connection
   abbrev pub IsShutByFault : Held S → Held S → Type 0

@@ -70,7 +70,7 @@ module _ {S : Type 0} (g : Ghosts S) where
     pub committed : (state g new).committed ≡ (state g last).now
     pub now : (state g new).now ≡ (state g last).now
 
-  -- these are the rows that the selection gave, each of them once, in its order and value for value
+  -- these are the rows that the selection gives, each of them once, in its order and value for value
   pub record IsListed (old new : Held S) (all : List Kept) : Type 0 where
     pub form : Form
     pub found : Held S

@@ -1,5 +1,5 @@
 //! A keeper over a database.
-ghost use Rattle.std.specs.Prelude.{◌≡◌, ◌≤◌, ◌⊎◌, false, Ok, IsTrue, IfOk, IfErr, IsOkAnd, MatchResult, OnOk, OnErr};
+ghost use Rattle.std.specs.Prelude.{◌≡◌, ◌≤◌, ◌⊎◌, false, Ok, IsTrue, IfOk, IfErr, IsOkAnd, IfSome, MatchResult, OnOk, OnErr};
 ghost use Rattle.hub_devices.specs.FailingCalls.{one_more};
 ghost use Rattle.hub_devices.specs.Faults.{Rises};
 ghost use Rattle.keeper.specs.Rows.{AreSame, Lists, no_rows, after_items, place_of};
@@ -9,7 +9,8 @@ ghost use Rattle.sqlite.specs.View.{doubt};
 ghost use Rattle.sqlite.specs.Steps.{over_memory};
 ghost use Rattle.row_table.specs.Open.{StaysOpen};
 ghost use Rattle.row_table.specs.Tables.{no_schema};
-ghost use Rattle.keeper_sqlite.specs.Own.{IsOwned, IsOwnStore, IsShutByFault, IsTold, Stands, decided, is_told, told_rows, undecided};
+ghost use Rattle.keeper_sqlite.specs.Own.{AreAll, IsOwned, IsOwnStore, IsShutByFault, IsTold, Stands, decided, is_told, undecided};
+ghost use Rattle.keeper_sqlite.specs.Own.{told_rows};
 ghost use Rattle.keeper_sqlite.specs.Statements.{IsCommitted, IsLoaded};
 ghost use Rattle.keeper_sqlite.specs.Causes.{cause_of, counted, faults_after, IsNotRead};
 
@@ -39,7 +40,10 @@ pub struct SqliteKeeper<S: Alter> {
     faults: u64,
     /// Whether the store was found to be one of this program.
     is_own: bool,
+    /// Its rows, where they were read then, until they are loaded or changed.
+    read: Option<Vec<Row>>,
     ghost owned: { ∥ (IsTrue is_own → IsOwned S.Store connection) ∥₁ },
+    ghost held: { ∥ IfSome read (λ all. AreAll S.Store connection all.items) ∥₁ },
 }
 
 impl<S: Alter + Drop> Drop for SqliteKeeper<S> {
@@ -49,6 +53,7 @@ impl<S: Alter + Drop> Drop for SqliteKeeper<S> {
             connection: _,
             faults: _,
             is_own: _,
+            read: _,
         } = self;
     }
 }
@@ -77,12 +82,13 @@ impl<S: Alter + Drop> SqliteKeeper<S> {
             connection,
             faults: 0,
             is_own,
+            read: None,
         }
     }
 
-    /// A keeper over the store of a connection, which may have tables. Reads every row of a store that has them: its rows are told
-    /// where the tables and the rows are those of this program, or the store is empty, and of no other store. Where the rows can't
-    /// be read the connection comes back with the cause.
+    /// A keeper over the store of a connection, which may have tables. Reads every row of a store that has them, and keeps its rows
+    /// until they are loaded: they are told where the tables and the rows are those of this program, or the store is empty, and of
+    /// no other store. Where the rows can't be read the connection comes back with the cause.
     pub fn resume(
         alloc: Global,
         connection: Connection<S>,
@@ -104,12 +110,13 @@ impl<S: Alter + Drop> SqliteKeeper<S> {
             → IsNotRead (state S.Store connection) (state S.Store e.1) e.0) }
     {
         let mut connection = connection;
-        match store::is_own(&mut connection) {
-            Ok(is_own) => Ok(SqliteKeeper {
+        match store::find(alloc, &mut connection) {
+            Ok(found) => Ok(SqliteKeeper {
                 alloc,
                 connection,
                 faults: 0,
-                is_own,
+                is_own: found.is_own,
+                read: found.read,
             }),
             Err(error) => Err((cause_of(error), connection)),
         }
@@ -131,6 +138,7 @@ impl<S: Alter + Drop> SqliteKeeper<S> {
             connection,
             faults: _,
             is_own: _,
+            read: _,
         } = self;
         connection
     }
@@ -179,7 +187,8 @@ impl<S: Alter + Drop> Keeper for SqliteKeeper<S> {
         Ok(())
     }
 
-    /// All rows, in the order of kind and key. A store without tables has none, and one of another form than 1 and 2 is refused.
+    /// All rows, in the order of kind and key: the first time those that `resume` read. A store without tables has none, and one of
+    /// another form than 1 and 2 is refused.
     /// A store of this program stays as it is, whether it could be read or not.
     fn load(&mut self) -> Result<Vec<Row>, KeeperError>
         ensures counted { self.old.faults ≤ self.new.faults }
@@ -200,7 +209,8 @@ impl<S: Alter + Drop> Keeper for SqliteKeeper<S> {
         ensures loaded { HasCleanDisk (state S.Store self.new.connection)
             → IfOk result (λ all. IsLoaded S.Store self.old.connection self.new.connection all.items) }
     {
-        match store::load_rows(self.alloc, &mut self.connection) {
+        let read = self.read.take();
+        match store::all_rows(self.alloc, &mut self.connection, read) {
             Ok(rows) => Ok(rows),
             Err(error) => Err(self.refused(error)),
         }
@@ -230,6 +240,7 @@ impl<S: Alter + Drop> Keeper for SqliteKeeper<S> {
             → OnErr result (((state S.Store self.new.connection).now ≡ (state S.Store self.old.connection).now)
             × ((state S.Store self.new.connection).committed ≡ (state S.Store self.old.connection).committed)) }
     {
+        self.read = None;
         match store::commit_items(&mut self.connection, batch.as_slice()) {
             Ok(()) => Ok(()),
             Err(error) => Err(self.refused(error)),

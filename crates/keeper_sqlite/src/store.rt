@@ -1,5 +1,5 @@
 //! The store: of what form it is, and a batch in one transaction.
-ghost use Rattle.std.specs.Prelude.{◌≡◌, ◌≢◌, ◌≤◌, ◌⊎◌, true, false, pos, Ok, IsTrue, IfOk, IfErr, OnOk, OnErr};
+ghost use Rattle.std.specs.Prelude.{◌≡◌, ◌≢◌, ◌≤◌, ◌⊎◌, false, pos, Ok, IsTrue, IsOkAnd, IfSome, IfOk, IfErr, OnOk, OnErr};
 ghost use Rattle.sqlite.specs.View.{doubt};
 ghost use Rattle.sqlite.specs.Order.{column};
 ghost use Rattle.sqlite.specs.declared.types.Value.TheVariants.{Int};
@@ -11,7 +11,7 @@ ghost use Rattle.row_table.specs.Tables.{no_schema};
 ghost use Rattle.row_table.specs.Texts.{number_text, StaysInside, Leaves};
 ghost use Rattle.row_table.specs.Unread.{IsUnread};
 ghost use Rattle.keeper_sqlite.specs.Forms.{number_of};
-ghost use Rattle.keeper_sqlite.specs.Own.{IsOwned, IsOwnStore, Stands, told_rows};
+ghost use Rattle.keeper_sqlite.specs.Own.{IsOwned, IsOwnStore, AreAll, Stands, told_rows};
 ghost use Rattle.keeper_sqlite.specs.Statements.{text_of, values_of, HasNoTables, IsOfForm, IsRaised, IsRenewed, AreDone, IsCommitted};
 ghost use Rattle.keeper_sqlite.specs.Statements.{IsLoaded};
 
@@ -68,24 +68,39 @@ pub(crate) fn is_fresh<S: Alter>(conn: &Connection<S>) -> bool
     conn.is_autocommit() & has_no_names
 }
 
-/// Whether the store has nothing at all, or the tables and rows of this program alone, and no transaction is under way. An error
-/// says that it couldn't be read, which tells neither.
-pub(crate) fn is_own<S: Alter>(conn: &mut Connection<S>) -> Result<bool, Error>
+/// What was found of a store: whether it has nothing at all, or the tables and rows of this program alone, and no transaction is
+/// under way; and its rows, where they were read and there was memory for them.
+#[derive(Drop)]
+pub(crate) struct Found {
+    pub(crate) is_own: bool,
+    pub(crate) read: Option<Vec<Row>>,
+}
+
+/// Reads the store. An error says that it couldn't be read, which tells nothing of it.
+pub(crate) fn find<S: Alter>(alloc: Global, conn: &mut Connection<S>) -> Result<Found, Error>
     ensures clean { doubt (state S.Store conn.old).is_clean ≤ doubt (state S.Store conn.new).is_clean }
     ensures stays { StaysOpen (state S.Store conn.old) (state S.Store conn.new) }
     ensures open { HasCleanDisk (state S.Store conn.new) → IsTrue (state S.Store conn.old).is_open
-        → IfOk result (λ own. IsTrue (state S.Store conn.new).is_open) }
+        → IfOk result (λ found. IsTrue (state S.Store conn.new).is_open) }
     ensures stands { HasCleanDisk (state S.Store conn.new) → Stands S.Store conn.old conn.new }
-    ensures own { IfOk result (λ own. IsTrue own → IsOwned S.Store conn.new) }
+    ensures own { IfOk result (λ found. IsTrue found.is_own → IsOwned S.Store conn.new) }
     ensures only { HasCleanDisk (state S.Store conn.new) → conn.old.in_transaction ≡ false → IsOwnStore (state S.Store conn.old).now
-        → IfOk result IsTrue }
-    ensures fresh { conn.old.in_transaction ≡ false → conn.old.schema ≡ no_schema → result ≡ Ok true }
+        → IfOk result (λ found. IsTrue found.is_own) }
+    ensures fresh { conn.old.in_transaction ≡ false → conn.old.schema ≡ no_schema → IsOkAnd result (λ found. IsTrue found.is_own) }
     ensures unread { HasCleanDisk (state S.Store conn.new) → IfErr result (IsUnread (state S.Store conn.old) (state S.Store conn.new)) }
+    ensures read { IfOk result (λ found. IfSome found.read (λ all. AreAll S.Store conn.new all.items)) }
 {
     if is_fresh(conn) {
-        return Ok(true);
+        return Ok(Found {
+            is_own: true,
+            read: None,
+        });
     }
-    known::has_row_store(conn)
+    let rows = known::own_rows(conn)?;
+    Ok(Found {
+        is_own: rows.is_some(),
+        read: reading::any_in_order(alloc, rows),
+    })
 }
 
 /// Marks a store of this form as of the newest.
@@ -184,11 +199,8 @@ fn find_form<S: Alter>(conn: &mut Connection<S>) -> Result<Form, Error>
     form_in(&row)
 }
 
-/// All rows, in the order of kind and key. A store without tables has none.
-pub(crate) fn load_rows<S: Alter>(
-    alloc: Global,
-    conn: &mut Connection<S>,
-) -> Result<Vec<Row>, Error>
+/// The rows that the store gives, in the order of kind and key. One without tables has none.
+fn load_rows<S: Alter>(alloc: Global, conn: &mut Connection<S>) -> Result<Vec<Row>, Error>
     ensures clean { doubt (state S.Store conn.old).is_clean ≤ doubt (state S.Store conn.new).is_clean }
     ensures stays { StaysOpen (state S.Store conn.old) (state S.Store conn.new) }
     ensures ended { conn.old.in_transaction ≡ false → conn.new.in_transaction ≡ false }
@@ -206,4 +218,46 @@ pub(crate) fn load_rows<S: Alter>(
     }
     let _form = find_form(conn)?;
     reading::rows_of(alloc, statements::select_rows(conn)?)
+}
+
+/// The rows that were read already, over a store that still has a form that is known.
+fn rows_again<S: Alter>(conn: &mut Connection<S>, read: Vec<Row>) -> Result<Vec<Row>, Error>
+    requires { AreAll S.Store conn.old read.items }
+    ensures clean { doubt (state S.Store conn.old).is_clean ≤ doubt (state S.Store conn.new).is_clean }
+    ensures stays { StaysOpen (state S.Store conn.old) (state S.Store conn.new) }
+    ensures ended { conn.old.in_transaction ≡ false → conn.new.in_transaction ≡ false }
+    ensures loaded { HasCleanDisk (state S.Store conn.new) → IfOk result (λ all. IsLoaded S.Store conn.old conn.new all.items) }
+    ensures open { HasCleanDisk (state S.Store conn.new) → IsTrue (state S.Store conn.old).is_open
+        → OnOk result (IsTrue (state S.Store conn.new).is_open) }
+    ensures stands { HasCleanDisk (state S.Store conn.new) → IsOwned S.Store conn.old → Stands S.Store conn.old conn.new }
+    ensures listed { HasCleanDisk (state S.Store conn.new) → IsTrue (state S.Store conn.new).is_open → IsOwned S.Store conn.old
+        → IfOk result (λ all. Lists (told_rows S.Store conn.old) all.items) }
+{
+    // Tells the proof that outside a transaction the last commit is what is seen.
+    let _settled = conn.is_autocommit();
+    let _form = find_form(conn)?;
+    Ok(read)
+}
+
+/// All rows, in the order of kind and key: those that were read already, where they were, and else those that the store gives.
+pub(crate) fn all_rows<S: Alter>(
+    alloc: Global,
+    conn: &mut Connection<S>,
+    read: Option<Vec<Row>>,
+) -> Result<Vec<Row>, Error>
+    requires { IfSome read (λ all. AreAll S.Store conn.old all.items) }
+    ensures clean { doubt (state S.Store conn.old).is_clean ≤ doubt (state S.Store conn.new).is_clean }
+    ensures stays { StaysOpen (state S.Store conn.old) (state S.Store conn.new) }
+    ensures ended { conn.old.in_transaction ≡ false → conn.new.in_transaction ≡ false }
+    ensures loaded { HasCleanDisk (state S.Store conn.new) → IfOk result (λ all. IsLoaded S.Store conn.old conn.new all.items) }
+    ensures open { HasCleanDisk (state S.Store conn.new) → IsTrue (state S.Store conn.old).is_open
+        → OnOk result (IsTrue (state S.Store conn.new).is_open) }
+    ensures stands { HasCleanDisk (state S.Store conn.new) → IsOwned S.Store conn.old → Stands S.Store conn.old conn.new }
+    ensures listed { HasCleanDisk (state S.Store conn.new) → IsTrue (state S.Store conn.new).is_open → IsOwned S.Store conn.old
+        → IfOk result (λ all. Lists (told_rows S.Store conn.old) all.items) }
+{
+    match read {
+        Some(read) => rows_again(conn, read),
+        None => load_rows(alloc, conn),
+    }
 }

@@ -1,5 +1,5 @@
 //! Whether the rows of a table are rows of the hub.
-ghost use Rattle.std.specs.Prelude.{◌≡◌, ◌≢◌, ℕ, ℤ, List, None, IsTrue, IfSome};
+ghost use Rattle.std.specs.Prelude.{◌≡◌, ◌≢◌, ℕ, ℤ, List, None, IsTrue, IsSome, IfSome};
 ghost use Rattle.sqlite.specs.Order.{column};
 ghost use Rattle.sqlite.specs.declared.types.Value.TheVariants.{Int, Text as Words};
 ghost use Rattle.row_table.specs.Ours.{IsOurs, IsAbove, AreOurs};
@@ -49,7 +49,7 @@ fn is_above(last: Option<i64>, id: i64) -> bool
 }
 
 /// Whether each is a row of the hub, and their rowids rise.
-pub fn are_ours(rows: &[Row]) -> bool
+fn are_ours(rows: &[Row]) -> bool
     ensures ours { IsTrue result → AreOurs rows.now }
     ensures only { AreOurs rows.now → IsTrue result }
 {
@@ -64,4 +64,17 @@ pub fn are_ours(rows: &[Row]) -> bool
         last = Some(id);
     }
     true
+}
+
+/// The rows, where each is a row of the hub and their rowids rise.
+pub fn if_ours(rows: Vec<Row>) -> Option<Vec<Row>>
+    ensures same { IfSome result (λ all. all ≡ rows) }
+    ensures ours { IsSome result → AreOurs rows.items }
+    ensures only { AreOurs rows.items → IsSome result }
+{
+    if are_ours(rows.as_slice()) {
+        Some(rows)
+    } else {
+        None
+    }
 }

@@ -14,6 +14,7 @@ invariant_of-self g c = record {
       (λ own. committed_owned g.S.Store c.as_slice.result.now c.args.self.now.connection c.commit_items.new.conn own c.commit_items.ensures.clean c.commit_items.ensures.was_open c.commit_items.result
       c.commit_items.ensures.ended c.commit_items.ensures.done c.commit_items.ensures.undone)
       c.args.self.now.owned;
+  held = ∣ tt ∣₁;
 }
 
 pub returns-in-Ok-clause-ok : goal.returns-in-Ok-clause-ok
