@@ -1,14 +1,14 @@
 #!/bin/sh
-# A guard over sockets, with a hub and real programs: whom it lets in, what it says where the hub is gone, a browser that signs in at it, a
-# WebSocket through it, and what a guarded request costs beside a forwarded one.
+# A guard over sockets, with a hub and real programs: whom it lets in, what it says where the hub is gone, a browser that signs in at it,
+# a WebSocket through it, and what a guarded request costs beside a forwarded one.
 # usage: docs/bench/guard.sh [PROGRAM] [behave] [browser] [socket] [measure]
-# `behave` sees to the tokens: nobody's, another's, one that is taken away, and a hub that ends. `browser` starts a guarded page of a Python
-# server from a hub and signs in there with headless Chromium, by nginx as a front that adds the user's token. `socket` sends through a guard
-# what a WebSocket sends. `measure` takes processor time, the caller's own too, and latency, three seconds a row. Without a word it does all
-# four.
-# PROGRAM is crates/hub/out/hub where it isn't given. It needs Debian's curl, nginx-light, chromium, python3-websockets and wrk; what lacks is
-# named and left out. It stands outside the gate, writes to a new folder under /tmp alone, has a time limit on each step, ends what it started,
-# and ends with status 1 at the first thing that isn't as it should be.
+# `behave` sees to the tokens: nobody's, another's, one that is taken away, and a hub that ends. `browser` starts a guarded page of a
+# Python server from a hub and signs in there with headless Chromium, by nginx as a front that adds the user's token. `socket` sends
+# through a guard what a WebSocket sends. `measure` takes processor time, the caller's own too, and latency, in nine rounds of two seconds
+# for each of forwarded, asked and guarded, and says the medians. Without a word it does all four. PROGRAM is crates/hub/out/hub where it
+# isn't given. It needs Debian's curl, nginx-light, chromium, python3-websockets and wrk; what lacks is named and left out. It stands
+# outside the gate, writes to a new folder under /tmp alone, has a time limit on each step, ends what it started, and ends with status 1
+# at the first thing that isn't as it should be.
 set -eu
 top=$(cd "$(dirname "$0")/../.." && pwd)
 program=$top/crates/hub/out/hub
@@ -20,6 +20,7 @@ import asyncio, http.client, json, os, re, shutil, signal, socket, subprocess, s
 program, parts = sys.argv[1], sys.argv[2:]
 ANN, BOB, ROOT = "secret-token-ann", "secret-token-bob", "secret-token-root"
 place = tempfile.mkdtemp(prefix="guard_bench.")
+ROUNDS = 9
 started = []
 
 # a program as the hub starts it: PORT USER SERVER. Its page stands behind a guard that lets browsers sign in.
@@ -240,8 +241,9 @@ def spent(process):
 
 
 def load(what, port, path, callers, *processes):
+    """Calls for two seconds. Gives microseconds of processor time a request of each process, and of the caller, and calls a second."""
     before, callers_before = [spent(it) for it in processes], os.times()
-    words = ["wrk", "-t1", f"-c{callers}", "-d3s", "--latency", "-H", "Connection: close", "-H", f"Authorization: token {ANN}", f"http://127.0.0.1:{port}{path}"]
+    words = ["wrk", "-t1", f"-c{callers}", "-d2s", "--latency", "-H", "Connection: close", "-H", f"Authorization: token {ANN}", f"http://127.0.0.1:{port}{path}"]
     said = subprocess.run(words, stdout=subprocess.PIPE, text=True, timeout=60).stdout
     count = int(re.search(r"(\d+) requests in", said)[1])
     if "Non-2xx" in said or not count:
@@ -250,8 +252,32 @@ def load(what, port, path, callers, *processes):
     now = os.times()
     caller = 1e6 * (now.children_user + now.children_system - callers_before.children_user - callers_before.children_system) / count
     half, most = (re.search(rf"{part}%\s+(\S+)", said)[1] for part in (50, 99))
-    print(f"{what}, {callers} callers: {' and '.join(f'{it:.0f}' for it in each)} microseconds of processor time a request, {caller:.0f} of the caller, {count / 3:.0f} a second,"
+    print(f"{what}, {callers} callers: {' and '.join(f'{it:.0f}' for it in each)} microseconds of processor time a request, {caller:.0f} of the caller, {count / 2:.0f} a second,"
           f" half within {half}, 99 of 100 within {most}", flush=True)
+    return each, caller
+
+
+def spread(name, taken):
+    taken = sorted(taken)
+    print(f"    {name}: {taken[len(taken) // 2]:.0f} at the median, {taken[0]:.0f} to {taken[-1]:.0f}")
+
+
+def rounds(callers, forward, ask_hub, guarded):
+    """Rounds of the three in turn, so that what else the machine does meets all of them; the medians of the rounds."""
+    parts, apart, together, more = [], [], [], []
+    for at in range(ROUNDS):
+        print(f"round {at + 1} of {ROUNDS}")
+        passed, asked, let_in = forward(), ask_hub(), guarded()
+        parts.append((passed[0][0], asked[0][0], asked[1], *let_in[0]))
+        apart.append(passed[0][0] + asked[0][0] + asked[1])
+        together.append(sum(let_in[0]))
+        more.append(100 * (together[-1] / apart[-1] - 1))
+    print(f"{callers} callers, microseconds of processor time a request, {ROUNDS} rounds in turn:")
+    for name, taken in zip(("forwarded: the proxy", "asked: the hub", "asked: the caller", "guarded: the guard", "guarded: the hub"), zip(*parts)):
+        spread(name, taken)
+    spread("forwarded, and both ends of a question", apart)
+    spread("guarded, the guard and the hub", together)
+    spread("a guarded one takes more than these, percent", more)
 
 
 def measure():
@@ -276,9 +302,12 @@ def measure():
     check("the proxy has a route", ask(api, "/api/routes/user/ann", "secret-of-the-bench", "POST", entry)[0] == 201)
     print(f"load {os.getloadavg()[0]:.0f}, {os.cpu_count()} processors")
     for callers in (1, 16):
-        load("forwarded: the proxy", proxy, "/user/ann/", callers, forwarding)
-        load("asked: the hub", hub, "/hub/api/user?for=ann/", callers, program_of_hub)
-        load("guarded: the guard and the hub", guard, "/user/ann/", callers, guarding, program_of_hub)
+        rounds(
+            callers,
+            lambda: load("forwarded: the proxy", proxy, "/user/ann/", callers, forwarding),
+            lambda: load("asked: the hub", hub, "/hub/api/user?for=ann/", callers, program_of_hub),
+            lambda: load("guarded: the guard and the hub", guard, "/user/ann/", callers, guarding, program_of_hub),
+        )
     end_all()
 
 
