@@ -10,9 +10,11 @@ use Rattle.store_thread.specs.declared.calls.Answer.{Answer}
 use Rattle.store_thread.specs.declared.calls.Call.{Call}
 use Rattle.store_thread.specs.declared.calls.Call.TheVariants.{Open, Stay, Load, Commit}
 use Rattle.store_thread.specs.declared.mailbox.Exchange.{Exchange}
+use Rattle.store_thread.specs.declared.mailbox.Parcel.{Parcel}
+use Rattle.store_thread.specs.declared.mailbox.Parcel.TheVariants.{Question, Reply}
 use Rattle.store_thread.specs.declared.mailbox.Talk.{Talk}
-use Rattle.store_thread.specs.Mailbox.{exchange, with_call, with_answer, IsTakenBack}
-use Rattle.store_thread.specs.Runs.{Stays, Loads, Reads, Opens, Commits, Calls, Makes, Went, WentOn, WentAt}
+use Rattle.store_thread.specs.Mailbox.{exchange, with_call, with_answer, Between, IsTakenBack}
+use Rattle.store_thread.specs.Runs.{Stays, Reads, Calls, Makes, Went, WentOn, WentAt}
 use Rattle.store_thread.specs.Told.{Known, Unread, Told, Untold, Read, kept, known_by, with_batch, after_call, after, known_from, known_of, ReadAs, IsFaithful}
 use Rattle.store_thread.proofs.Posting.{Stands}
 
@@ -133,3 +135,11 @@ module _ {K : Type 0} (Tells : K → Type 0) (rows : K → Rows) (is_told : K �
   untaken_went k k' before after_it (inr back) at =
       let b = went_back k k' after_it.seen (exchange back.0 back.1 back.2) (at_rest k k' (with_answer back.0 back.1 back.2 after_it) refl (subst (λ (t : Talk). At k t k') back.3 at)) in
       (b.0, b.1, subst (λ (o : Option Call). WentOn Tells rows is_told faults Chooses o b.0 k') (sym back.4) (inr (back.1.done, back.1.rows, b.2.1)))
+
+  -- what the end that asks knows was gone through too, whatever lies between the two
+  pub heard_went : (k k' : K) (parcels : List Parcel) (far near : Talk) → Between parcels far near → At k near k' → At k far k'
+  heard_went k k' [] far near between at = subst (λ (t : Talk). At k t k') (sym between) at
+  heard_went k k' (Question call ∷ []) far near between at = subst (λ (t : Talk). At k t k') (sym between.1) (k', at_rest k k' near between.0 at, inl refl)
+  heard_went k k' (Reply answer ∷ []) far near between at = untaken_went k k' near far (inr (between.0, answer, between.1, between.3, between.2)) at
+  heard_went k k' (Question call ∷ q ∷ ps) far near between at = absurd between
+  heard_went k k' (Reply answer ∷ q ∷ ps) far near between at = absurd between

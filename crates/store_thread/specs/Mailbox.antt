@@ -1,5 +1,5 @@
 -- The mailbox between a far store and the thread that has the store.
-use Rattle.std.specs.Prelude.{◌≡◌, ℕ, Bool, true, false, List, [], ◌∷◌, ◌++◌, Option, Some, None}
+use Rattle.std.specs.Prelude.{◌≡◌, ◌⊎◌, ℕ, Bool, true, List, [], ◌∷◌, ◌++◌, Some, None}
 use mathlib.Core.Option.{some}
 use lib.ListN.{get_elem?}
 use Rattle.store_thread.specs.declared.calls.Answer.{Answer}
@@ -76,11 +76,11 @@ Heard v (Reply answer) w =
     (call : Call) × (told : Bool) × (v.talk.asked ≡ Some call) × (w ≡ record v { talk = with_answer call answer told v.talk })
     × IsFaithful (known_of v.talk.seen) (exchange call answer told)
 
--- what a call that was asked came to: it was answered, faithfully; or it wasn't, and nothing was said, or it is still to be answered
+-- what a call that was asked came to: it was answered, faithfully; or it wasn't, and nothing was said, or it stays without an answer
 abbrev pub IsAnswered : Talk → Call → Answer → Talk → Type 0
 IsAnswered before call answer after =
     (told : Bool) × (before.asked ≡ None) × (after ≡ with_answer call answer told before)
     × IsFaithful (known_of before.seen) (exchange call answer told)
 
-abbrev pub IsUnanswered : Talk → Talk → Type 0
-IsUnanswered before after = (after.seen ≡ before.seen) × (after.asked ≡ None → before.asked ≡ None)
+abbrev pub IsUnanswered : Talk → Call → Talk → Type 0
+IsUnanswered before call after = (after ≡ before) ⊎ ((before.asked ≡ None) × (after ≡ with_call call before))

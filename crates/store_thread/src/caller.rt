@@ -1,8 +1,8 @@
 //! Calls on the store that another thread has.
-ghost use Rattle.std.specs.Prelude.{◌≡◌, None, MatchOption, OnOk, OnErr};
+ghost use Rattle.std.specs.Prelude.{◌≡◌, MatchOption};
 ghost use Rattle.keeper.specs.Rows.{place_of};
 ghost use Rattle.store_thread.specs.declared.calls.Call.TheVariants as Call;
-ghost use Rattle.store_thread.specs.Far.{HasRead, IsHeard, IsLoaded, IsCommitted, TakesPlace, StaysTold};
+ghost use Rattle.store_thread.specs.Far.{choice, HasRead, IsHeard, IsRead, IsReadNow};
 ghost use Rattle.store_thread.specs.Mailbox.{IsAnswered, IsUnanswered};
 
 use crate::calls::{Answer, Call, copy_batch};
@@ -53,7 +53,7 @@ impl<W: Wait + Copy> Caller<W> {
 
     /// Hands a call over and waits for its answer. What was read at the choice isn't for a later load.
     fn ask(&mut self, call: Call) -> Option<Answer>
-        ensures { MatchOption result (IsUnanswered self.old self.new) (λ answer. IsAnswered self.old call answer self.new) }
+        ensures { MatchOption result (IsUnanswered self.old call self.new) (λ answer. IsAnswered self.old call answer self.new) }
     {
         self.read = None;
         let answer = self.end.ask(call)?;
@@ -98,22 +98,20 @@ impl<W: Wait + Copy> Caller<W> {
 
     /// Has the store at a place taken, or has it stay with its own where no place is given.
     pub(crate) fn choose(&mut self, alloc: Global, place: Option<&Text>) -> Result<(), KeeperError>
-        ensures chosen { OnOk result (TakesPlace self.old (place_of place.entry) self.new) }
-        ensures own { place_of place.entry ≡ None → StaysTold self.old self.new }
-        ensures err { OnErr result (StaysTold self.old self.new) }
+        ensures { IsHeard self.old (choice (place_of place.entry)) result self.new }
     {
-        let Some(place) = place else {
-            return self.have_done(Call::Stay);
-        };
-        match place.copy(alloc) {
-            Ok(place) => self.open(place),
-            Err(_) => Err(KeeperError::Memory),
+        match place {
+            Some(place) => match place.copy(alloc) {
+                Ok(place) => self.open(place),
+                Err(_) => Err(KeeperError::Memory),
+            },
+            None => self.have_done(Call::Stay),
         }
     }
 
     /// Has a batch kept.
     pub(crate) fn commit(&mut self, alloc: Global, batch: &Batch) -> Result<(), KeeperError>
-        ensures { IsCommitted self.old batch.now result self.new }
+        ensures { IsHeard self.old (Call.Commit batch.now) result self.new }
     {
         match copy_batch(alloc, batch) {
             Ok(batch) => self.have_done(Call::Commit(batch)),
@@ -132,7 +130,7 @@ impl<W: Wait + Copy> Caller<W> {
 
     /// The rows as the store reads them now.
     fn read_now(&mut self) -> Result<Vec<Row>, KeeperError>
-        ensures { IsLoaded self.old result self.new }
+        ensures { IsReadNow self.old result self.new }
     {
         let Some(answer) = self.ask(Call::Load) else {
             return Err(KeeperError::Memory);
@@ -150,7 +148,7 @@ impl<W: Wait + Copy> Caller<W> {
 
     /// The rows: those that were read at the choice, or else as the store reads them now.
     pub(crate) fn load(&mut self) -> Result<Vec<Row>, KeeperError>
-        ensures { IsLoaded self.old result self.new }
+        ensures { IsRead self.old result self.new }
     {
         match self.take_read() {
             Some(read) => read,

@@ -146,7 +146,7 @@ impl<W: Wait + Copy> FarEnd<W> {
 
     /// Has a call answered. The other end is there until this one goes, unless it had no memory to begin.
     pub(crate) fn ask(&mut self, call: Call) -> Option<Answer>
-        ensures { MatchOption result (IsUnanswered self.old self.new) (λ answer. IsAnswered self.old call answer self.new) }
+        ensures { MatchOption result (IsUnanswered self.old call self.new) (λ answer. IsAnswered self.old call answer self.new) }
     {
         if !self.put(call) {
             return None;

@@ -1,9 +1,10 @@
 //! A store that another thread has.
-ghost use Rattle.std.specs.Prelude.{◌≡◌, ◌≤◌, IsTrue, IfErr, is_some};
-ghost use Rattle.hub_devices.specs.FailingCalls.{one_more};
+ghost use Rattle.std.specs.Prelude.{◌≡◌, ◌≤◌, None, IsTrue, IfOk, IfErr, OnOk, OnErr, is_some};
 ghost use Rattle.hub_devices.specs.Faults.{Rises};
-ghost use Rattle.store_thread.specs.Far.{TakesPlace};
+ghost use Rattle.keeper.specs.Rows.{AreSame, Lists, after_items, place_of};
+ghost use Rattle.store_thread.specs.Far.{choice, IsHeard, IsRead, StaysTold, TakesPlace};
 ghost use Rattle.store_thread.specs.Told.{told_in, rows_in};
+ghost use Rattle.store_thread.specs.declared.calls.Call.TheVariants as Call;
 
 use crate::caller::Caller;
 use crate::ends::FarEnd;
@@ -56,19 +57,44 @@ impl<W: Wait + Copy> Keeper for FarStore<W> {
 
     ghost Chooses = { λ s place s'. TakesPlace s.caller place s'.caller };
 
-    fn choose(&mut self, place: Option<&Text>) -> Result<(), KeeperError> {
+    /// Has the thread choose, and answers as it did.
+    fn choose(&mut self, place: Option<&Text>) -> Result<(), KeeperError>
+        ensures heard { IsHeard self.old.caller (choice (place_of place.entry)) result self.new.caller }
+        ensures chosen { OnOk result (TakesPlace self.old.caller (place_of place.entry) self.new.caller) }
+        ensures own { place_of place.entry ≡ None → StaysTold self.old.caller self.new.caller }
+        ensures err { OnErr result (StaysTold self.old.caller self.new.caller) }
+        ensures counted { self.old.faults ≤ self.new.faults }
+        ensures cause { IfErr result (λ e. e ≡ KeeperError.Failed → Rises self.old.faults self.new.faults) }
+    {
         let said = self.caller.choose(self.alloc, place);
         count(&mut self.faults, &said);
         said
     }
 
-    fn load(&mut self) -> Result<Vec<Row>, KeeperError> {
+    /// The rows as the thread reads them now, or as it read them where the last call took a place.
+    fn load(&mut self) -> Result<Vec<Row>, KeeperError>
+        ensures read { IsRead self.old.caller result self.new.caller }
+        ensures listed { IsTrue (is_some (told_in self.new.caller)) → IfOk result (λ all. Lists (rows_in self.old.caller) all.items) }
+        ensures kept { StaysTold self.old.caller self.new.caller }
+        ensures counted { self.old.faults ≤ self.new.faults }
+        ensures cause { IfErr result (λ e. e ≡ KeeperError.Failed → Rises self.old.faults self.new.faults) }
+    {
         let said = self.caller.load();
         count(&mut self.faults, &said);
         said
     }
 
-    fn commit(&mut self, batch: &Batch) -> Result<(), KeeperError> {
+    /// Has the thread commit these items, and answers as it did.
+    fn commit(&mut self, batch: &Batch) -> Result<(), KeeperError>
+        ensures heard { IsHeard self.old.caller (Call.Commit batch.now) result self.new.caller }
+        ensures told { IsTrue (is_some (told_in self.new.caller)) → IsTrue (is_some (told_in self.old.caller)) }
+        ensures ok { IsTrue (is_some (told_in self.new.caller))
+            → OnOk result (AreSame (rows_in self.new.caller) (after_items batch.now (rows_in self.old.caller))) }
+        ensures err { IsTrue (is_some (told_in self.new.caller))
+            → OnErr result (AreSame (rows_in self.new.caller) (rows_in self.old.caller)) }
+        ensures counted { self.old.faults ≤ self.new.faults }
+        ensures cause { IfErr result (λ e. e ≡ KeeperError.Failed → Rises self.old.faults self.new.faults) }
+    {
         let said = self.caller.commit(self.alloc, batch);
         count(&mut self.faults, &said);
         said

@@ -27,3 +27,12 @@ pub fn what_was_read_is_told<K: Keeper>()
         → WentAt K.Tells K.rows K.is_told K.faults K.Chooses began near.talk k → K.Tells k → far.talk.asked ≡ None → told_in far.talk ≡ None
         → known_of far.talk.seen ≡ Unread }
 {}
+
+/// At any moment the store went through what the end that asks knows too: each call of which it heard an answer was made once and answered
+/// so, in this order, and one that isn't answered was made once or not at all.
+pub fn what_was_heard_was_made<K: Keeper>()
+    ensures { (parcels : List Parcel) (views : List View) (i j : ℕ) (far near : View) (began k : K)
+        → Mailed parcels views → get_elem? views i ≡ some far → get_elem? views j ≡ some near → far.asks ≡ true → near.answers ≡ true
+        → WentAt K.Tells K.rows K.is_told K.faults K.Chooses began near.talk k
+        → WentAt K.Tells K.rows K.is_told K.faults K.Chooses began far.talk k }
+{}

@@ -1,9 +1,11 @@
-use Rattle.std.proofs.Common.{List, subst}
+use Rattle.std.proofs.Common.{List, inl, inr, refl, subst}
 use Rattle.keeper.specs.declared.keeper.Item.{Item}
-use Rattle.store_thread.specs.Far.{IsCommitted}
-use Rattle.store_thread.proofs.Telling.{committed}
+use Rattle.store_thread.specs.declared.calls.Call.TheVariants.{Commit}
+use Rattle.store_thread.specs.Far.{IsHeard}
 use Rattle.store_thread.proofs.caller.Caller.commit.Goals as goal
 
 pub returns-in-Ok : goal.returns-in-Ok
-returns-in-Ok g c = subst (λ (items : List Item). IsCommitted c.args.self.now items c.have_done.result c.have_done.new.self) c.in-Ok.ensures
-    (committed c.args.self.now c.in-Ok.batch c.have_done.result c.have_done.new.self c.have_done.ensures)
+returns-in-Ok g c = subst (λ (items : List Item). IsHeard c.args.self.now (Commit items) c.have_done.result c.have_done.new.self) c.in-Ok.ensures c.have_done.ensures
+
+pub returns-in-Err : goal.returns-in-Err
+returns-in-Err g c = inr (refl, inl refl)
