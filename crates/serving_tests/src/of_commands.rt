@@ -55,6 +55,8 @@ pub struct Command {
     pub failing_accept: u64,
     /// The call of the opening's route link that fails.
     pub failing_route: u64,
+    /// The call on the routes of services that fails.
+    pub failing_path: u64,
     /// What the polls of services tell.
     pub polls: &'static [bool],
     pub status: u8,
@@ -72,6 +74,7 @@ const COMMANDS: [Command; 8] = [
         file: LISTEN_ALONE,
         failing_accept: NEVER,
         failing_route: NEVER,
+        failing_path: NEVER,
         polls: &[],
         status: 0,
         output: b"served 2\n",
@@ -81,6 +84,7 @@ const COMMANDS: [Command; 8] = [
         file: LISTEN_ALONE,
         failing_accept: 0,
         failing_route: NEVER,
+        failing_path: NEVER,
         polls: &[],
         status: 0,
         output: b"served 0\n",
@@ -91,6 +95,7 @@ const COMMANDS: [Command; 8] = [
         file: LISTEN_ALONE,
         failing_accept: NEVER,
         failing_route: NEVER,
+        failing_path: NEVER,
         polls: &[],
         status: 8,
         output: b"served 3\n",
@@ -100,6 +105,7 @@ const COMMANDS: [Command; 8] = [
         file: LISTEN_ALONE,
         failing_accept: 1,
         failing_route: NEVER,
+        failing_path: NEVER,
         polls: &[],
         status: 8,
         output: b"served 1\n",
@@ -109,6 +115,7 @@ const COMMANDS: [Command; 8] = [
         file: LISTEN_ALONE,
         failing_accept: NEVER,
         failing_route: NEVER,
+        failing_path: NEVER,
         polls: &[],
         status: 2,
         output: b"",
@@ -118,6 +125,7 @@ const COMMANDS: [Command; 8] = [
         file: LISTEN_ALONE,
         failing_accept: NEVER,
         failing_route: NEVER,
+        failing_path: NEVER,
         polls: &[],
         status: 2,
         output: b"",
@@ -127,6 +135,7 @@ const COMMANDS: [Command; 8] = [
         file: LISTEN_ALONE,
         failing_accept: NEVER,
         failing_route: NEVER,
+        failing_path: NEVER,
         polls: &[],
         status: 3,
         output: b"",
@@ -136,6 +145,7 @@ const COMMANDS: [Command; 8] = [
         file: "pool = []",
         failing_accept: NEVER,
         failing_route: NEVER,
+        failing_path: NEVER,
         polls: &[],
         status: 3,
         output: b"",
@@ -153,16 +163,17 @@ fn doors(rt: &impl Abort, alloc: Global, failing_accept: u64) -> MemListener<Mem
     MemListener::new(doors, failing(rt, alloc, failing_accept))
 }
 
-/// By what services are tended, where polls tell this.
+/// By what services are tended, where polls tell this and this call on their routes fails.
 fn service_kit(
     rt: &impl Abort,
     alloc: Global,
     polls: &[bool],
+    failing_path: u64,
 ) -> ServiceKit<MemRunning, MemRouteLink, FixedClock> {
     let polls = Vec::from_slice(alloc, polls).expect(rt, "there is memory");
     ServiceKit {
         running: MemRunning::new(alloc, polls, Vec::new(alloc)),
-        paths: MemRouteLink::new(alloc, Vec::new(alloc)),
+        paths: MemRouteLink::new(alloc, failing(rt, alloc, failing_path)),
         clock: FixedClock(Moment::zero()),
     }
 }
@@ -185,7 +196,7 @@ fn outside(rt: &impl Abort, alloc: Global, command: &Command) -> MemOutside
         kit: kit(rt, alloc, command.failing_route),
         kits: kits(rt, alloc),
         doors: doors(rt, alloc, command.failing_accept),
-        services: service_kit(rt, alloc, command.polls),
+        services: service_kit(rt, alloc, command.polls, command.failing_path),
         end: None,
     }
 }
