@@ -1,4 +1,4 @@
-//! Adoptions of a server that an earlier hub started, over a book of that server's life alone, since no opening reads leases yet.
+//! Adoptions of a server that an earlier hub started, over a book of that server's life alone.
 ghost use Rattle.std.specs.Prelude.{◌≡◌, ◌≤◌, ◌<◌, ◌+◌, ◌^◌, All, IfOk, Some, None, true, nat_eq, if◌then◌else◌};
 ghost use Rattle.std.proofs.Math.ListN.{replicate};
 ghost use Rattle.server_life.specs.LifeTable.{generation_of, life_after};

@@ -170,8 +170,8 @@ fn run_words<W: World, R: Wait>(
 /// The status is 2 where the words are refused; 3 where the file of configuration can't be read, is none, or has a name in a list that is
 /// neither kept nor configured, where a running server has a target that the pool hasn't, or a table would pass its limit; 4 where the
 /// store doesn't take its place, fails at opening, or has a row that doesn't read; 7 where memory is wanting before the session. Nothing
-/// is read or written then, and the rows are as they were. Otherwise running servers are taken back and the status is that of the session,
-/// and the rows are those of the last state of its history.
+/// is read or written then, and the rows are as they were, or with 7 those that the opening leaves. Otherwise running servers are taken
+/// back and the status is that of the session, and the rows are those of the last state of its history.
 pub fn run<W: World, R: Wait>(rt: &R, alloc: Global, words: &[Text], outside: &mut Outside<W>) -> u8
     requires store { IsSome outside.old.store }
     ensures store { IsSome outside.new.store }

@@ -1,6 +1,6 @@
 //! The words of the hub's commands, a module and a struct for each command.
-//! The contract of each reader, as `session::read_session`, carries it: words are read as their definition says, or refused. The
-//! commands of `hub_main` stand above.
+//! The contract of each reader, as `session::read_session`, carries it: words are read as their definition says, or refused. `hub_main`,
+//! `hub_serving`, `guard_serving`, `hub_culling`, `hub_loading` and the program's commands stand above.
 #![tactic(auto)]
 
 mod address;

@@ -1,6 +1,6 @@
 //! The targets of a proxy's routes over the system's sockets, and a listener whose connections may become tunnels.
-//! `SocketUpstream` is an `Upstream`: no clause can say what its peers give or take, so it counts its faults and tells no bytes. A head
-//! that is sent goes out with the bytes behind it, in one write. A proxy's program makes one for each worker.
+//! `SocketUpstream` is an `Upstream`: no clause can say what its peers give or take, so it counts its faults and tells no bytes. So it is
+//! read in the code that a head which is sent goes out with the bytes behind it, in one write. A proxy's program makes one for each worker.
 #![tactic(auto)]
 
 mod sides;
