@@ -70,7 +70,8 @@ module _ {B E A : Type 0} (entries : B → List E) (base : B → A) (faults : B 
   Stands fixed history count b = (entries b ≡ history) × (base b ≡ fixed) × (faults b ≡ count)
 
   -- what its stage says of a seat with this base and these own entries: the one that holds the turn knows the book, and what a seat has met
-  -- stands in the history, apart from its own
+  -- stands in the history, apart from its own. fixed, history and count are of the book, held and holder of the turn (the number of the
+  -- seat that has it), and seat, known and mine of this seat: its number, the base that it knows and its own entries
   abbrev pub IsAt : A → List E → ℕ → Bool → ℕ → ℕ → Option A → List (ℕ × E) → Stage B E → Type 0
   IsAt fixed history count held holder seat known mine Idle = known ≡ Some fixed
   IsAt fixed history count held holder seat known mine (Held b) = (known ≡ Some fixed) × (held ≡ true) × (seat ≡ holder)

@@ -11,7 +11,7 @@ use Rattle.proxy_core.specs.Passes.{Place}
 use Rattle.carries.specs.Carries.{Sides}
 use Rattle.proxy_core.specs.declared.refusals.Forwarded.{Forwarded}
 use Rattle.guard_login.specs.Answers.{signing}
-use Rattle.guard_login.specs.Entries.{Enters, signed_as}
+use Rattle.guard_login.specs.Entries.{IsTaken, signed_as}
 use Rattle.guard_login.specs.declared.answers.Signed.{Signed}
 use Rattle.guard_login.specs.declared.door.Door.{Door}
 use Rattle.guard_login.specs.declared.entries.Entered.{Entered}
@@ -24,14 +24,14 @@ signed_from r f result is same = subst (λ (x : Result Signed SessionFault). res
 module _ {R X Y : Type 0} (left : R → Option (List (List ℕ))) (faults : R → ℕ) (random random' : R) (sides : X → Y → Sides) (door : Door) where
   -- by the test whether it is an upgrade
   pub enters_by : (is was : Bool) (head : Head) (f : Framing) (asks : List Exchange) (fails fails' : ℕ) (old new : Place)
-      (result : Result (Entered X Y) SessionFault) → is ≡ was → Enters left faults random random' sides is door head f asks fails fails' old new result
-      → Enters left faults random random' sides was door head f asks fails fails' old new result
+      (result : Result (Entered X Y) SessionFault) → is ≡ was → IsTaken left faults random random' sides is door head f asks fails fails' old new result
+      → IsTaken left faults random random' sides was door head f asks fails fails' old new result
   enters_by is was head f asks fails fails' old new result same enters =
-      subst (λ (b : Bool). Enters left faults random random' sides b door head f asks fails fails' old new result) same enters
+      subst (λ (b : Bool). IsTaken left faults random random' sides b door head f asks fails fails' old new result) same enters
 
   pub enters_of : (head : Head) (h : RequestHead) (f : Framing) (asks : List Exchange) (fails fails' : ℕ) (old new : Place)
       (result : Result (Entered X Y) SessionFault) → head ≡ head_of h
-      → Enters left faults random random' sides (is_upgrade head f) door head f asks fails fails' old new result
-      → Enters left faults random random' sides (is_upgrade (head_of h) f) door (head_of h) f asks fails fails' old new result
+      → IsTaken left faults random random' sides (is_upgrade head f) door head f asks fails fails' old new result
+      → IsTaken left faults random random' sides (is_upgrade (head_of h) f) door (head_of h) f asks fails fails' old new result
   enters_of head h f asks fails fails' old new result same enters =
-      subst (λ (x : Head). Enters left faults random random' sides (is_upgrade x f) door x f asks fails fails' old new result) same enters
+      subst (λ (x : Head). IsTaken left faults random random' sides (is_upgrade x f) door x f asks fails fails' old new result) same enters

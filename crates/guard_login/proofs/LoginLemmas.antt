@@ -16,7 +16,7 @@ use Rattle.guard.specs.Guards.{Unsent}
 use Rattle.guard.specs.declared.access.Access.{Access}
 use Rattle.guard.specs.declared.denials.Denial.{Denial}
 use Rattle.guard_login.specs.Answers.{IsUngiven, Steps, Writes, Answers}
-use Rattle.guard_login.specs.Logins.{Ends, Finishes, Follows}
+use Rattle.guard_login.specs.Logins.{Ends, Finishes, IsTreated}
 use Rattle.guard_login.specs.Signed.{Given, said, failed, traded, IsTradedBy, sent_back, by_called, asks_trade, called, asks_access, token_given, by_access, by_token, step_of, is_callback, asked, stepped, started}
 use Rattle.guard_login.specs.Texts.{trade_text}
 use Rattle.guard_login.specs.declared.answers.Signed.{Signed}
@@ -154,7 +154,7 @@ finishes_by left faults random random' door head f v w old new result is ends =
 -- from a head that was read to one of the grammar
 pub follows_of : {R : Type 0} (left : R → Option (List (List ℕ))) (faults : R → ℕ) (random random' : R) (door : Door) (head : Head) (h : RequestHead)
     (f : Framing) (asks : List Exchange) (fails fails' : ℕ) (old new : Place) (result : Result Signed SessionFault) → head ≡ head_of h
-    → Follows left faults random random' door head f asks fails fails' old new result
-    → Follows left faults random random' door (head_of h) f asks fails fails' old new result
+    → IsTreated left faults random random' door head f asks fails fails' old new result
+    → IsTreated left faults random random' door (head_of h) f asks fails fails' old new result
 follows_of left faults random random' door head h f asks fails fails' old new result same follows =
-    subst (λ (x : Head). Follows left faults random random' door x f asks fails fails' old new result) same follows
+    subst (λ (x : Head). IsTreated left faults random random' door x f asks fails fails' old new result) same follows

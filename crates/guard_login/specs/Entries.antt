@@ -18,7 +18,7 @@ use Rattle.guard.specs.Carrying.{CarryFollows}
 use Rattle.guard.specs.Guards.{Judges, Unread, Unframed}
 use Rattle.guard.specs.declared.guards.Verdict.{Verdict}
 use Rattle.guard_login.specs.Answers.{signing}
-use Rattle.guard_login.specs.Logins.{Follows}
+use Rattle.guard_login.specs.Logins.{IsTreated}
 use Rattle.guard_login.specs.Signed.{token_given}
 use Rattle.guard_login.specs.declared.answers.Signed.{Signed}
 use Rattle.guard_login.specs.declared.door.Door.{Door}
@@ -40,15 +40,16 @@ Upgrades sides door head framing asks fails fails' old new result =
     (verdict : Verdict) × Judges door.key (token_given head) asks fails fails' verdict
     × CarryFollows verdict sides (going head framing) door.target old new result
 
--- a request whose head was taken: an upgrade, for which nothing is drawn, or any other
-abbrev pub Enters : {R X Y : Type 0} → (R → Option (List (List ℕ))) → (R → ℕ) → R → R → (X → Y → Sides) → Bool → Door → Head → Framing
+-- A request whose head was read was taken as what it is: an upgrade is carried where the hub admits its token, and nothing is drawn for
+-- it; any other is treated by the rules of a sign-in
+abbrev pub IsTaken : {R X Y : Type 0} → (R → Option (List (List ℕ))) → (R → ℕ) → R → R → (X → Y → Sides) → Bool → Door → Head → Framing
     → List Exchange → ℕ → ℕ → Place → Place → Result (Entered X Y) SessionFault → Type 0
-Enters {R} {X} {Y} left faults random random' sides true door head framing asks fails fails' old new result =
+IsTaken {R} {X} {Y} left faults random random' sides true door head framing asks fails fails' old new result =
     (r : Result (Carried X Y) SessionFault) × (result ≡ carried_as r) × (random' ≡ random)
     × Upgrades sides door head framing asks fails fails' old new r
-Enters left faults random random' sides false door head framing asks fails fails' old new result =
+IsTaken left faults random random' sides false door head framing asks fails fails' old new result =
     (r : Result Signed SessionFault) × (result ≡ signed_as r)
-    × Follows left faults random random' door head framing asks fails fails' old new r
+    × IsTreated left faults random random' door head framing asks fails fails' old new r
 
 -- a head came whose body has a length that is served
 pub record Headed {R X Y : Type 0} (left_of : R → Option (List (List ℕ))) (faults : R → ℕ) (random random' : R) (sides : X → Y → Sides)
@@ -62,7 +63,7 @@ pub record Headed {R X Y : Type 0} (left_of : R → Option (List (List ℕ))) (f
   pub took : Took old.left [] left (print_request head ++ kept)
   pub counted : old.reads ≤ reads
   pub framed : request_framing (head_of head).headers ≡ Ok framing
-  pub enters : Enters left_of faults random random' sides (is_upgrade (head_of head) framing) door (head_of head) framing asks fails fails'
+  pub enters : IsTaken left_of faults random random' sides (is_upgrade (head_of head) framing) door (head_of head) framing asks fails fails'
       (record old { left = left; kept = kept; reads = reads }) new result
 
 -- how one request ends: without a head that is served nothing was asked or drawn

@@ -41,10 +41,11 @@ Finishes left faults random random' door head framing step old new result =
     (draw : Option (List ℕ)) × Drew left faults random random' (draws step) draw
     × Ends door head framing (answered door head step draw) old new result
 
--- what was done with a head: the hub was asked and gave this, and the step was finished; or there was no memory for the ask
-abbrev pub Follows : {R : Type 0} → (R → Option (List (List ℕ))) → (R → ℕ) → R → R → Door → Head → Framing → List Exchange → ℕ → ℕ
+-- A head was treated by the rules: the hub was asked what they say and gave this, and what they answer to that was done; or there was no
+-- memory for the ask, and nothing was sent. fails and random are the link's count and the source of draws, with a prime those after
+abbrev pub IsTreated : {R : Type 0} → (R → Option (List (List ℕ))) → (R → ℕ) → R → R → Door → Head → Framing → List Exchange → ℕ → ℕ
     → Place → Place → Result Signed SessionFault → Type 0
-Follows left faults random random' door head framing asks fails fails' old new result =
+IsTreated left faults random random' door head framing asks fails fails' old new result =
     ((given : Given) × IsGiven (asked door head) asks fails fails' given
     × Finishes left faults random random' door head framing (stepped door head given) old new result)
     ⊎ (IsUngiven (asked door head) asks × (random' ≡ random) × Unsent old new × Wants old.held new.held old.writes new.writes result)
@@ -61,7 +62,7 @@ pub record Stepped {R : Type 0} (left_of : R → Option (List (List ℕ))) (faul
   pub took : Took old.left [] left (print_request head ++ kept)
   pub counted : old.reads ≤ reads
   pub framed : request_framing (head_of head).headers ≡ Ok framing
-  pub follows : Follows left_of faults random random' door (head_of head) framing asks fails fails'
+  pub follows : IsTreated left_of faults random random' door (head_of head) framing asks fails fails'
       (record old { left = left; kept = kept; reads = reads }) new result
 
 -- how one request ends: without a head that is served nothing was asked or drawn

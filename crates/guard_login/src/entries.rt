@@ -3,7 +3,7 @@ ghost use Rattle.std.specs.Prelude.{◌≡◌, ◌≢◌, ◌≤◌, ◌++◌, �
 ghost use Rattle.hub_link.specs.Links.{Exchange, Asks};
 ghost use Rattle.guard.specs.Guards.{Judges};
 ghost use Rattle.proxy_wire.specs.Upgrades.{is_upgrade};
-ghost use Rattle.guard_login.specs.Entries.{Enters, EnterEnds};
+ghost use Rattle.guard_login.specs.Entries.{IsTaken, EnterEnds};
 ghost use Rattle.guard_login.specs.Entries as spec;
 ghost use Rattle.guard_login.specs.Signed as signed;
 
@@ -86,7 +86,7 @@ fn enter<H: HubLink, R: Random, I: Source, O: Shuts, U: Carrier<I, O>>(
     requires minor { head.now.minor ≤ 1 }
     requires sized { framing ≢ Framing.ToEnd }
     ensures ends { (asks : List Exchange) × (rest : List ℕ) × Asks H.asked H.does link.old asks link.new
-        × Enters R.left R.faults random.old random.new
+        × IsTaken R.left R.faults random.old random.new
         (λ reads writes. record {
           left = U.Reads.left reads;
           held = U.Writes.held writes;

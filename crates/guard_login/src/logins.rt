@@ -2,7 +2,7 @@
 ghost use Rattle.std.specs.Prelude.{◌≡◌, ◌≢◌, ◌≤◌, ◌++◌, ℕ, List, Option, [], true};
 ghost use Rattle.hub_link.specs.Links.{Exchange, Asks};
 ghost use Rattle.guard_login.specs.Answers.{Answers, Drew};
-ghost use Rattle.guard_login.specs.Logins.{Finishes, Follows, LoginEnds};
+ghost use Rattle.guard_login.specs.Logins.{Finishes, IsTreated, LoginEnds};
 ghost use Rattle.guard_login.specs.Signed.{started};
 
 use crate::answers::{Signed, carrying, deny, give, signing, start_text, want, write};
@@ -120,7 +120,7 @@ pub(crate) fn sign_in<H: HubLink, R: Random, I: Source, O: Sink, U: Upstream>(
     requires minor { head.now.minor ≤ 1 }
     requires sized { framing ≢ Framing.ToEnd }
     ensures ends { (asks : List Exchange) × (rest : List ℕ) × Asks H.asked H.does link.old asks link.new
-        × Follows R.left R.faults random.old random.new door.now head.now framing asks (H.faults link.old) (H.faults link.new)
+        × IsTreated R.left R.faults random.old random.new door.now head.now framing asks (H.faults link.old) (H.faults link.new)
         (record {
           left = I.left input.old;
           kept = rooms.old.kept;

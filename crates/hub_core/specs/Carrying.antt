@@ -37,7 +37,8 @@ pub record Did (ch : Option Change) (says : spec.Outcome) (o : Outcome) (b b' : 
   pub unasked : asks_keeper ch ≡ false → b'.faults ≡ b.faults
   pub said : outcome_view o ≡ says
 
-pub record IsSame (b b' : Carrier) : Type 0 where
+-- the state, the entries and the stamp are as they were; of the keeper's count of faults nothing is said
+pub record IsUncarried (b b' : Carrier) : Type 0 where
   pub hub : b'.hub ≡ b.hub
   pub telling : b'.told ≡ b.told
   pub stamped : b'.stamp ≡ b.stamp
@@ -48,9 +49,9 @@ pub record Undid (ch : Option Change) (o : Outcome) (b b' : Carrier) : Type 0 wh
   pub has : ch ≡ Some change
   pub commits : has_commit change ≡ true
   pub said : outcome_view o ≡ answered (refusal_reply b.hub.length KeeperFault)
-  pub stays : IsSame b b'
+  pub stays : IsUncarried b b'
   pub rises : Rises b.faults b'.faults
 
 abbrev pub Carried : {E : Type 0} → Option Change → spec.Outcome → Result Outcome E → (b b' : Carrier) → Type 0
 Carried ch says (Ok o) b b' = Did ch says o b b' ⊎ Undid ch o b b'
-Carried ch says (Err e) b b' = IsSame b b'
+Carried ch says (Err e) b b' = IsUncarried b b'

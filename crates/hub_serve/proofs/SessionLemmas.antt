@@ -19,7 +19,7 @@ use Rattle.hub_run.specs.Gained.{turn_gain}
 use Rattle.hub_run.specs.declared.served.Served.{Served}
 use Rattle.hub_run.specs.declared.served.Served.TheVariants.{Ended, Cut, Closed}
 use Rattle.server_work.specs.Gains.{Gain, Gains, sum_of}
-use Rattle.hub_serve.specs.Sessions.{AreServed, EndsOver, HasEnded, Session, gained, session_of, sessions_of, with_gains}
+use Rattle.hub_serve.specs.Sessions.{AreServed, EndsOver, EndsAsConnection, Session, gained, session_of, sessions_of, with_gains}
 use Rattle.hub_serve.specs.Sessions as told
 use Rattle.hub_serve.specs.Shifts.{IsServed, IsWhole, all_own, count_of, own_of, shifts_of, split_from}
 use Rattle.hub_serve.specs.Shifts as shift
@@ -67,10 +67,10 @@ module _ {S P C R I O : Type 0} (to_come : C → Option (ℕ → ℕ)) (draws : 
   session = session_of to_come draws spawned linked draw_faults spawn_faults route_faults left held
 
   abbrev IsDone : Conn → Type 0
-  IsDone = IsServed are_sides (HasEnded to_come draws spawned linked draw_faults spawn_faults route_faults) left held
+  IsDone = IsServed are_sides (EndsAsConnection to_come draws spawned linked draw_faults spawn_faults route_faults) left held
 
   abbrev IsAll : PassState Entry Start → List Conn → Type 0
-  IsAll = IsWhole are_sides (HasEnded to_come draws spawned linked draw_faults spawn_faults route_faults) left held
+  IsAll = IsWhole are_sides (EndsAsConnection to_come draws spawned linked draw_faults spawn_faults route_faults) left held
 
   on_from : (c : Conn) (cs : List Conn) → shift.GoOn c cs → shift.GoFrom c.after.pass.value cs
   on_from c [] h = tt

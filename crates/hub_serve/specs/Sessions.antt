@@ -90,12 +90,13 @@ devices_of to_come draws spawned linked draw_faults spawn_faults route_faults ki
   faults = record { random = draw_faults kit.random; spawner = spawn_faults kit.spawner; routes = route_faults kit.routes };
 }
 
--- how a connection ended, by the pass and the kit before and after it, and by the bytes to come and those that were written
-abbrev pub HasEnded : {S P C R : Type 0} → (C → Option (ℕ → ℕ)) → (R → Option (List (List ℕ))) → (S → Option (List (Spawning × Told)))
-    → (P → Option (List (Routing × Told)))
+-- One connection ended so, which began with the pass p, the kit k and the bytes left to read and held, and left those with a prime and q.
+-- The first seven arguments say what the devices of a kit tell; they stand in front since a kit's types are the caller's
+abbrev pub EndsAsConnection : {S P C R : Type 0} → (C → Option (ℕ → ℕ)) → (R → Option (List (List ℕ)))
+    → (S → Option (List (Spawning × Told))) → (P → Option (List (Routing × Told)))
     → (R → ℕ) → (S → ℕ) → (P → ℕ) → PassState Entry Start → HubKit S P C R → Option (List ℕ) → Option (List ℕ)
     → PassState Entry Start → HubKit S P C R → Option (List ℕ) → Option (List ℕ) → Result Served SessionFault → Type 0
-HasEnded to_come draws spawned linked draw_faults spawn_faults route_faults p k left held q k' left' held' ended = (start : Start)
+EndsAsConnection to_come draws spawned linked draw_faults spawn_faults route_faults p k left held q k' left' held' ended = (start : Start)
     → p.base ≡ Some start
     → ConnectionEnds start (view_of to_come draws spawned linked draw_faults spawn_faults route_faults p k) left held
     (view_of to_come draws spawned linked draw_faults spawn_faults route_faults q k') left' held' ended

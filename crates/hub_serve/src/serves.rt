@@ -1,6 +1,6 @@
 //! A kit serves connections.
 ghost use Rattle.std.specs.Prelude.{◌≡◌};
-ghost use Rattle.hub_serve.specs.Sessions.{HasEnded};
+ghost use Rattle.hub_serve.specs.Sessions.{EndsAsConnection};
 ghost use Rattle.hub_serve.specs.Shifts.{IsServed};
 
 use crate::tally::{Connection, Seen};
@@ -22,7 +22,7 @@ use std::sync::Wait;
 impl<K: Keeper, T: Trail<Entry = Change>, S: Spawner, P: RouteLink, C: Clock, R: Random> Serves<
     Book<K, T>,
 > for HubKit<S, P, C, R> {
-    ghost ends = { HasEnded C.to_come R.left S.calls P.calls R.faults S.faults P.faults };
+    ghost ends = { EndsAsConnection C.to_come R.left S.calls P.calls R.faults S.faults P.faults };
 
     fn serve<L: Listener, W: Wait>(
         &mut self,
@@ -38,7 +38,7 @@ impl<K: Keeper, T: Trail<Entry = Change>, S: Spawner, P: RouteLink, C: Clock, R:
         ensures of { pass.new.of ≡ pass.old.of }
         ensures before { (pass.old ≡ result.before.pass.value) × (self.old ≡ result.before.kit.value) }
         ensures after { (result.after.pass.value ≡ pass.new) × (result.after.kit.value ≡ self.new) }
-        ensures served { IsServed L.are_sides (HasEnded C.to_come R.left S.calls P.calls R.faults S.faults P.faults)
+        ensures served { IsServed L.are_sides (EndsAsConnection C.to_come R.left S.calls P.calls R.faults S.faults P.faults)
             L.In.left L.Out.held result }
     {
         let mut input = input;

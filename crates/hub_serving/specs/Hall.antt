@@ -34,7 +34,9 @@ pub record Hall : Type 0 where
   pub kits : List DevicesTold
   pub services : ServicesTold
 
--- what such devices tell
+-- What such devices tell. The first thirteen arguments say it of each kind: the output's bytes and faults, the listener's number and
+-- faults, the moments and the draws to come, the calls of the spawner and of the route link, the faults of the draws and of these two, and
+-- the services' calls and faults. The last five are the devices themselves
 abbrev pub hall : {O D S P C R V : Type 0} → (O → Option (List ℕ)) → (O → ℕ) → (D → Option ℕ) → (D → ℕ) → (C → Option (ℕ → ℕ))
     → (R → Option (List (List ℕ))) → (S → Option (List (Spawning × Told))) → (P → Option (List (Routing × Told)))
     → (R → ℕ) → (S → ℕ) → (P → ℕ) → (V → Option (List RunCall)) → (V → ℕ)

@@ -140,6 +140,8 @@ pub record Answered {A : Type 0} (gave : Gave A) (secret : List ℕ) (now : ℕ)
   pub answered : gave routes secret now request reply routes'
   pub replied : IsReplied reply old.held new.held old.writes new.writes result
 
+-- How one request to the interface ends, by this secret at this moment: none came, and the refusal of the wire was written; or one came,
+-- was answered over these routes, and the reply was written. Those with a prime are the routes afterwards
 abbrev pub ApiEnds : {A : Type 0} → Gave A → List ℕ → ℕ → Place → Place → A → A → Result ℕ SessionFault → Type 0
 ApiEnds gave secret now old new routes routes' result =
     Unread old new routes routes' result ⊎ Answered gave secret now old new routes routes' result

@@ -16,7 +16,7 @@ use Rattle.proxy_bodies.specs.declared.backs.BackEnd.{BackEnd}
 use Rattle.proxy_bodies.specs.declared.backs.BackEnd.TheVariants.{Spent, ReceiveFault, WriteFault, Bad}
 use Rattle.proxy_bodies.specs.declared.backs.Remainder.{Remainder}
 use Rattle.proxy_bodies.specs.declared.backs.Remainder.TheVariants.{Bytes, Parts}
-use Rattle.proxy_bodies.specs.Bodies.{body_limit, IsWholeBody}
+use Rattle.proxy_bodies.specs.Bodies.{most_passed, IsWholeBody}
 use Rattle.proxy_bodies.specs.Backs.{StopsBack, StopsSized, IsBackPart, IsBackEnd, IsBehind, EndsBehind, Leads}
 
 -- no bytes are a front of any body
@@ -26,19 +26,19 @@ none_back Chunked = begins at.Line [] ([], All-nil IsChunk, refl)
 none_back ToEnd = tt
 
 -- a body by its length stopped
-pub sized_end : (n : ℕ) (e : BackEnd) (told : Option Told) (body tail : List ℕ) (u u' w w' : ℕ) → length body ≤ min n body_limit
+pub sized_end : (n : ℕ) (e : BackEnd) (told : Option Told) (body tail : List ℕ) (u u' w w' : ℕ) → length body ≤ min n most_passed
     → StopsSized told e → (e ≡ ReceiveFault → Rises u u') → (e ≡ WriteFault → Rises w w') → IsBackEnd (Length n) told body tail u u' w w'
 sized_end n Spent told body tail u u' w w' le stops receive write = inr (omega (arith, le), inl stops)
 sized_end n ReceiveFault told body tail u u' w w' le stops receive write = inr (omega (arith, le), inr (inr (inl (receive refl))))
 sized_end n WriteFault told body tail u u' w w' le stops receive write = inr (omega (arith, le), inr (inr (inr (write refl))))
 sized_end n Bad told body tail u u' w w' le stops receive write = absurd stops
 
-pub sized_whole : (n : ℕ) (told : Option Told) (body tail : List ℕ) (u u' w w' : ℕ) → length body ≡ min n body_limit → IsBackEnd (Length n) told body tail u u' w w'
-sized_whole n told body tail u u' w w' is = by_order (nat_le n body_limit) refl
+pub sized_whole : (n : ℕ) (told : Option Told) (body tail : List ℕ) (u u' w w' : ℕ) → length body ≡ min n most_passed → IsBackEnd (Length n) told body tail u u' w w'
+sized_whole n told body tail u u' w w' is = by_order (nat_le n most_passed) refl
   where
-    by_order : (b : Bool) → nat_le n body_limit ≡ b → IsBackEnd (Length n) told body tail u u' w w'
-    by_order true le = inl (omega (arith, is, leb-true n body_limit le))
-    by_order false gt = inr (omega (arith, is), inr (inl (omega (arith, is, leb-false n body_limit gt))))
+    by_order : (b : Bool) → nat_le n most_passed ≡ b → IsBackEnd (Length n) told body tail u u' w w'
+    by_order true le = inl (omega (arith, is, leb-true n most_passed le))
+    by_order false gt = inr (omega (arith, is), inr (inl (omega (arith, is, leb-false n most_passed gt))))
 
 -- a body to the upstream's end stopped
 pub rest_end : (e : BackEnd) (told : Option Told) (body tail : List ℕ) (u u' w w' : ℕ)
@@ -104,14 +104,14 @@ later_end f told bytes tail a b c v w x ab bc vw wx (inr (part, inr (inr (inl ri
 later_end f told bytes tail a b c v w x ab bc vw wx (inr (part, inr (inr (inr rises)))) = inr (part, inr (inr (inr (rises_from v w x vw wx rises))))
 
 -- first bytes of a body that is passed back up to a number of bytes
-pub behind_length : (f : Framing) (n most count : ℕ) (window : List ℕ) (left : Remainder) → f ≡ Length n → most ≡ min n body_limit → count ≤ length window → count ≤ most
+pub behind_length : (f : Framing) (n most count : ℕ) (window : List ℕ) (left : Remainder) → f ≡ Length n → most ≡ min n most_passed → count ≤ length window → count ≤ most
     → left ≡ Bytes (most - count) → IsBehind f (take count window) left
 behind_length f n most count window left is limit within few rest =
     subst (λ (x : Framing). IsBehind x (take count window) left) (sym is)
     (subst (IsBehind (Length n) (take count window)) (sym rest) (omega (arith, limit, few, length-take-le count window within)))
 
-pub behind_rest : (f : Framing) (count : ℕ) (window : List ℕ) (left : Remainder) → f ≡ ToEnd → count ≤ length window → count ≤ body_limit
-    → left ≡ Bytes (body_limit - count) → IsBehind f (take count window) left
+pub behind_rest : (f : Framing) (count : ℕ) (window : List ℕ) (left : Remainder) → f ≡ ToEnd → count ≤ length window → count ≤ most_passed
+    → left ≡ Bytes (most_passed - count) → IsBehind f (take count window) left
 behind_rest f count window left is within few rest =
     subst (λ (x : Framing). IsBehind x (take count window) left) (sym is)
     (subst (IsBehind ToEnd (take count window)) (sym rest) (omega (arith, few, length-take-le count window within)))
@@ -180,7 +180,7 @@ chunks_whole a b told body tail u u' w w' leads done =
     chunks_end a told body tail u u' w w' (λ front stands. inl (inl (done_whole b (front ++ body) (leads front stands) done)))
 
 -- too many bytes went back
-pub chunks_long : (a b : At) (told : Option Told) (body tail : List ℕ) (u u' w w' : ℕ) → Leads a body b → body_limit ≤ length body + (length body + length tail)
+pub chunks_long : (a b : At) (told : Option Told) (body tail : List ℕ) (u u' w w' : ℕ) → Leads a body b → most_passed ≤ length body + (length body + length tail)
     → EndsBehind (Parts a) told body tail u u' w w'
 chunks_long a b told body tail u u' w w' leads long =
     chunks_end a told body tail u u' w w' (λ front stands. inl (inr (

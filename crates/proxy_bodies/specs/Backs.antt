@@ -11,13 +11,13 @@ use Rattle.proxy_bodies.specs.declared.backs.Remainder.{Remainder}
 use Rattle.proxy_bodies.specs.declared.backs.Remainder.TheVariants.{Bytes, Parts}
 use Rattle.proxy_bodies.specs.declared.backs.BackEnd.{BackEnd}
 use Rattle.proxy_bodies.specs.declared.backs.BackEnd.TheVariants.{Spent, ReceiveFault, WriteFault, Bad}
-use Rattle.proxy_bodies.specs.Bodies.{body_limit, IsWholeBody}
+use Rattle.proxy_bodies.specs.Bodies.{most_passed, IsWholeBody}
 
 -- the body was passed back: `tail` came and was not written. Bytes that are no chunk count as the upstream's early end
 abbrev pub IsBackWhole : Framing → Option Told → List ℕ → List ℕ → Type 0
 IsBackWhole (Length n) told body tail = length body ≡ n
 IsBackWhole Chunked told body tail =
-    IsWholeBody Chunked body ⊎ (BeginsChunked body × (BreaksChunks (body ++ tail) ⊎ (body_limit ≤ length body + length (body ++ tail))))
+    IsWholeBody Chunked body ⊎ (BeginsChunked body × (BreaksChunks (body ++ tail) ⊎ (most_passed ≤ length body + length (body ++ tail))))
 IsBackWhole ToEnd told body tail = (tail ≡ []) × IsSpent told
 
 -- a front of such a body
@@ -30,15 +30,15 @@ IsBackPart ToEnd body = Unit {0}
 abbrev pub IsBackEnd : Framing → Option Told → List ℕ → List ℕ → ℕ → ℕ → ℕ → ℕ → Type 0
 IsBackEnd f told body tail links links' writes writes' =
     IsBackWhole f told body tail
-    ⊎ (IsBackPart f body × (IsSpent told ⊎ ((length body ≡ body_limit) ⊎ (Rises links links' ⊎ Rises writes writes'))))
+    ⊎ (IsBackPart f body × (IsSpent told ⊎ ((length body ≡ most_passed) ⊎ (Rises links links' ⊎ Rises writes writes'))))
 
 -- what is left of a body behind its first bytes; of one that is longer than is passed back, what of it is
 abbrev pub IsBehind : Framing → List ℕ → Remainder → Type 0
-IsBehind (Length n) front (Bytes m) = length front + m ≡ min n body_limit
+IsBehind (Length n) front (Bytes m) = length front + m ≡ min n most_passed
 IsBehind (Length n) front (Parts a) = ⊥
 IsBehind Chunked front (Bytes m) = ⊥
 IsBehind Chunked front (Parts a) = Stands a front
-IsBehind ToEnd front (Bytes m) = length front + m ≡ body_limit
+IsBehind ToEnd front (Bytes m) = length front + m ≡ most_passed
 IsBehind ToEnd front (Parts a) = ⊥
 
 -- whatever body this is left of, with `body` behind its first bytes its passing back ends so

@@ -88,7 +88,8 @@ IsRefused q kept told links links' body given got refusal.TooLarge = ⊥
 IsRefused q kept told links links' body given got refusal.BadPath = ⊥
 IsRefused q kept told links links' body given got refusal.NotFound = ⊥
 
--- why the upstream gave no reply that can be passed back
+-- Why nothing of a reply is passed back: the client's input ended or failed inside the body, or the request is refused for this cause.
+-- left and kept are of the client; reads and links are the counts of its faults and the upstream's before, those with a prime after
 abbrev pub IsStop : Going → Option (List ℕ) → List ℕ → Option Told → ℕ → ℕ → ℕ → ℕ → List ℕ → List ℕ → List ℕ → Stop → Type 0
 IsStop q left kept told reads reads' links links' body given got stop.Cut = IsShort q kept body given got × IsEnd left
 IsStop q left kept told reads reads' links links' body given got stop.ReadFault = IsShort q kept body given got × Rises reads reads'

@@ -7,13 +7,13 @@ use Rattle.server_life.proofs.Places.{get_set}
 use Rattle.hub_kit.specs.declared.names.ServerKey.{ServerKey}
 use Rattle.server_life.specs.Leased.{HoldsLease, IsNotLive}
 use Rattle.server_life.specs.LeaseTable.{LeaseTable, IsOneToOne}
-use Rattle.server_life.specs.LeaseIndex.{IsIndexed}
+use Rattle.server_life.specs.LeaseIndex.{HasOrderedLists}
 
 none_held : (h : Held) → None ≡ Some h → ⊥
 none_held h e = cc
 
 pub lowered : (t : LeaseTable) (free : List (ℕ × Unit {0})) (gens : List (ℕ × ℕ)) (servers : List (ServerKey × ℕ)) (g : ℕ)
-    → IsIndexed t free gens servers → IsNotLive t.leased g → g + 1 ≡ t.next → 1 ≤ g → IsIndexed (record { pool = t.pool; leased = t.leased; next = g }) free gens servers
+    → HasOrderedLists t free gens servers → IsNotLive t.leased g → g + 1 ≡ t.next → 1 ≤ g → HasOrderedLists (record { pool = t.pool; leased = t.leased; next = g }) free gens servers
 lowered t free gens servers g x n e a = record {
   one = record {
     places = x.one.places;

@@ -17,7 +17,7 @@ use Rattle.std.specs.FinMap.Entries.{find, put, where_key, is_sorted, find-put, 
 use Rattle.server_life.specs.declared.leases.Held.{Held}
 use Rattle.server_life.specs.declared.leases.NoTarget.{NoTarget}
 use Rattle.server_life.specs.Leased.{IsFree, IsFirstFree, IsNotLive, IsUnleased, HoldsLease}
-use Rattle.server_life.specs.LeaseIndex.{IsIndex, IsFreeIndex, IsIndexed, generation_in, server_in}
+use Rattle.server_life.specs.LeaseIndex.{IsIndex, IsFreeIndex, HasOrderedLists, generation_in, server_in}
 use Rattle.server_life.proofs.Places.{get_set, one_more}
 
 tie : (r : Ordering) → is_eq r ≡ true → r ≡ Equal
@@ -186,8 +186,8 @@ count_out R o k es s h =
 
 -- one more lease
 pub held_index : (t : LeaseTable) (free : List (ℕ × Unit {0})) (gens : List (ℕ × ℕ)) (servers : List (ServerKey × ℕ)) (i g : ℕ) (key : ServerKey)
-    → IsIndexed t free gens servers → IsFree t.leased i → g < t.next → IsNotLive t.leased g → IsUnleased t.leased key
-    → IsIndexed (record { pool = t.pool; leased = set t.leased i (Some (record { generation = g; server = key })); next = t.next }) (where_key nat_cmp (λ k. not (eq_by_cmp nat_cmp i k)) free) (put nat_cmp g i gens) (put key_cmp key i servers)
+    → HasOrderedLists t free gens servers → IsFree t.leased i → g < t.next → IsNotLive t.leased g → IsUnleased t.leased key
+    → HasOrderedLists (record { pool = t.pool; leased = set t.leased i (Some (record { generation = g; server = key })); next = t.next }) (where_key nat_cmp (λ k. not (eq_by_cmp nat_cmp i k)) free) (put nat_cmp g i gens) (put key_cmp key i servers)
 held_index t free gens servers i g key x is lt n u =
     let fewer = count_out nat_cmp nat_cmp_total i free x.free_rise (free_found t.leased free i x.free_places is (find nat_cmp i free) refl) in
     let more = count_put nat_cmp nat_cmp_total g i gens x.generations_rise (new_generation t gens g x.of_generations n) in
@@ -221,8 +221,8 @@ fewer_leases t i o = record {
 
 -- one lease less
 pub freed_index : (t : LeaseTable) (free : List (ℕ × Unit {0})) (gens : List (ℕ × ℕ)) (servers : List (ServerKey × ℕ)) (i : ℕ) (h : Held)
-    → IsIndexed t free gens servers → slice_get t.leased i ≡ Some (Some h)
-    → IsIndexed (record { pool = t.pool; leased = set t.leased i None; next = t.next }) (put nat_cmp i tt free) (where_key nat_cmp (λ k. not (eq_by_cmp nat_cmp h.generation k)) gens) (where_key key_cmp (λ k. not (eq_by_cmp key_cmp h.server k)) servers)
+    → HasOrderedLists t free gens servers → slice_get t.leased i ≡ Some (Some h)
+    → HasOrderedLists (record { pool = t.pool; leased = set t.leased i None; next = t.next }) (put nat_cmp i tt free) (where_key nat_cmp (λ k. not (eq_by_cmp nat_cmp h.generation k)) gens) (where_key key_cmp (λ k. not (eq_by_cmp key_cmp h.server k)) servers)
 freed_index t free gens servers i h x is =
     let more = count_put nat_cmp nat_cmp_total i tt free x.free_rise (free_missed t.leased free i h x.free_places is (find nat_cmp i free) refl) in
     let fewer = count_out nat_cmp nat_cmp_total h.generation gens x.generations_rise (found_some nat_cmp generation_in t.leased gens i h x.of_generations is (find nat_cmp h.generation gens) refl) in
@@ -284,8 +284,8 @@ pub some_free : (leased : List (Option Held)) (es : List (ℕ × Unit {0})) (i :
 some_free leased [] i old is = absurd (old i is)
 some_free leased (e ∷ es) i old is = omega arith
 
-pub moved : (t : LeaseTable) (f f2 : List (ℕ × Unit {0})) (g g2 : List (ℕ × ℕ)) (s : List (ServerKey × ℕ)) → f2 ≡ f → g2 ≡ g → IsIndexed t f g s → IsIndexed t f2 g2 s
-moved t f f2 g g2 s a b x = subst (λ k. IsIndexed t k g2 s) (sym a) (subst (λ k. IsIndexed t f k s) (sym b) x)
+pub moved : (t : LeaseTable) (f f2 : List (ℕ × Unit {0})) (g g2 : List (ℕ × ℕ)) (s : List (ServerKey × ℕ)) → f2 ≡ f → g2 ≡ g → HasOrderedLists t f g s → HasOrderedLists t f2 g2 s
+moved t f f2 g g2 s a b x = subst (λ k. HasOrderedLists t k g2 s) (sym a) (subst (λ k. HasOrderedLists t f k s) (sym b) x)
 
 abbrev pub with_lease : LeaseTable → ℕ → Option Held → LeaseTable
 with_lease t i o = record { pool = t.pool; leased = set t.leased i o; next = t.next }

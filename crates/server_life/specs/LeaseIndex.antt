@@ -24,17 +24,19 @@ generation_in h = h.generation
 abbrev pub server_in : Held → ServerKey
 server_in h = h.server
 
-pub record IsIndexed (t : LeaseTable) (free : List (ℕ × Unit {0})) (generations : List (ℕ × ℕ)) (servers : List (ServerKey × ℕ)) : Type 0
-  where
-    pub one : IsOneToOne t
-    pub free_rise : T (is_sorted nat_cmp free)
-    pub free_places : IsFreeIndex t.leased free
-    pub generations_rise : T (is_sorted nat_cmp generations)
-    pub of_generations : IsIndex nat_cmp generation_in t.leased generations
-    pub servers_rise : T (is_sorted key_cmp servers)
-    pub of_servers : IsIndex key_cmp server_in t.leased servers
-    pub all_generations : length generations + length free ≡ length t.pool
-    pub all_servers : length servers + length free ≡ length t.pool
+-- Three lists in the order of their keys tell of the table which places are free, at which place each live generation has its lease,
+-- and at which each server has it; each place is either free or leased, so two lengths add up to the pool's
+pub record HasOrderedLists (t : LeaseTable) (free : List (ℕ × Unit {0})) (generations : List (ℕ × ℕ)) (servers : List (ServerKey × ℕ))
+    : Type 0 where
+  pub one : IsOneToOne t
+  pub free_rise : T (is_sorted nat_cmp free)
+  pub free_places : IsFreeIndex t.leased free
+  pub generations_rise : T (is_sorted nat_cmp generations)
+  pub of_generations : IsIndex nat_cmp generation_in t.leased generations
+  pub servers_rise : T (is_sorted key_cmp servers)
+  pub of_servers : IsIndex key_cmp server_in t.leased servers
+  pub all_generations : length generations + length free ≡ length t.pool
+  pub all_servers : length servers + length free ≡ length t.pool
 
 -- what a search among the servers asks at a place
 abbrev pub is_below : ServerKey → Option (Option Held) → Bool
@@ -68,4 +70,4 @@ pub record AreServersAt (leased : List (Option Held)) (places : List ℕ) (serve
 
 abbrev pub HasLookUps : LeaseTable → List (ℕ × Unit {0}) → List (ℕ × ℕ) → List ℕ → Type 0
 HasLookUps t free generations places = (servers : List (ServerKey × ℕ)) × (places ≡ map place_in servers)
-    × IsIndexed t free generations servers
+    × HasOrderedLists t free generations servers

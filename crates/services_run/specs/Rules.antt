@@ -10,7 +10,8 @@ use Rattle.services_run.specs.declared.place.Outcome.TheVariants.{Quiet, Started
 use Rattle.services_run.specs.declared.place.Place.{Place}
 use Rattle.services_run.specs.declared.place.Turn.{Turn}
 
--- what the devices answer in one visit, each call if it is made
+-- What the devices would answer in one visit to a service: whether each call is done, and what a poll tells, none where it fails.
+-- A visit makes only those of these calls that its rule wants
 pub record Answers : Type 0 where
   pub start : Bool
   pub add : Bool
