@@ -1,8 +1,9 @@
 #!/bin/sh
 # What `session .. --db FILE` does with a file, which no clause can say: that each acknowledged change is there after the program was
-# killed, that a second hub is refused, how long an opening over many users takes, and how many changes a second it acknowledges beside the
-# stock sqlite3. One by one, each is asked for once the one before is acknowledged, by a hub and a sqlite3 that are open. All at once, each
-# program finds all its work on its input: sqlite3 acknowledges nothing then, and the start and the end of both are counted.
+# killed, that a second hub is refused, that a session leaves the servers alone that another hub left running, how long an opening over many
+# users takes, and how many changes a second it acknowledges beside the stock sqlite3. One by one, each is asked for once the one before is
+# acknowledged, by a hub and a sqlite3 that are open. All at once, each program finds all its work on its input: sqlite3 acknowledges
+# nothing then, and the start and the end of both are counted.
 # usage: docs/bench/files.sh [PROGRAM [FOLDER]]
 # PROGRAM is the program `hub` as `rt run` leaves it (crates/hub/out/hub if none is named: run `./run` first). The files are made in a
 # folder of FOLDER, which decides what a sync costs (/tmp if none is named), and removed at the end. It needs the stock sqlite3, takes some
@@ -144,6 +145,26 @@ def refuse():
     end(hub)
     if stock("busy.db", "SELECT group_concat(key) FROM (SELECT key FROM row WHERE kind = 1 ORDER BY key)") != "ann,bob,eve":
         fail("the first hub's rows aren't there")
+
+
+# ---- servers that another hub left running
+
+
+def leave_alone():
+    """A session neither takes a server for ended that another hub left running, nor stops it: its lease stays."""
+    file = "left.db"
+    end(session(file))
+    stock(file, """INSERT INTO row VALUES (6, 'ann/', '{"created":1,"last_activity":null,"started":null}'),
+        (7, 'http://127.0.0.1:9001', '{"generation":1,"server":"ann/"}'), (12, 'generation', '{"next":2}')""")
+    with open("left.toml", "w") as words:
+        words.write('pool = ["http://127.0.0.1:9001"]\n')
+    hub = session(file, "--config", "left.toml")
+    if ask(hub, request(b"DELETE", b"/hub/api/users/ann/server")) != 503:
+        fail("a server is stopped whose program the session didn't start")
+    end(hub)
+    if stock(file, "SELECT text FROM row WHERE kind = 7") != '{"generation":1,"server":"ann/"}':
+        fail("the lease of a server that another hub left running is gone")
+    print("a session leaves a server alone that another hub left running", flush=True)
 
 
 # ---- opening over many users
@@ -308,6 +329,7 @@ def race():
 
 kill_many()
 refuse()
+leave_alone()
 open_many()
 race()
 PYTHON

@@ -1,9 +1,9 @@
 //! The command `session`: one connection over the standard streams.
+use crate::programs::SessionPrograms;
 use crate::system::System;
 use crate::telling::tell;
 use hub_devices::mem_clock::FixedClock;
 use hub_devices::mem_routes::MemRouteLink;
-use hub_devices::mem_spawner::MemSpawner;
 use hub_edge::files::SystemFiles;
 use hub_edge::output::Output;
 use hub_edge::random::SystemRandom;
@@ -25,7 +25,7 @@ fn outside<K: ProgramStore>(rt: HostRuntime) -> Outside<System<K>> {
         output: Output::new(rt),
         store: None,
         kit: HubKit {
-            spawner: MemSpawner::new(alloc, Vec::new(alloc)),
+            spawner: SessionPrograms::new(alloc),
             routes: MemRouteLink::new(alloc, Vec::new(alloc)),
             // each command sets it
             clock: FixedClock(Moment::zero()),

@@ -1,6 +1,6 @@
 //! The system's devices.
+use crate::programs::SessionPrograms;
 use hub_devices::mem_routes::MemRouteLink;
-use hub_devices::mem_spawner::MemSpawner;
 use hub_devices::streams::ReaderSource;
 use hub_edge::files::SystemFiles;
 use hub_edge::output::Output;
@@ -22,7 +22,7 @@ impl<K: ProgramStore> World for System<K> {
 
     type Store = K;
 
-    type Starts = MemSpawner;
+    type Starts = SessionPrograms;
 
     type Paths = MemRouteLink;
 
