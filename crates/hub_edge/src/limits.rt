@@ -39,7 +39,7 @@ pub const SILENT_CALLERS: usize = 256;
 /// How many milliseconds pass before the next try where a connection can't be taken, as for want of descriptors.
 pub const ACCEPT_AGAIN_MILLIS: u64 = 50;
 
-/// How many times in a row this may be so before the listener has failed.
+/// How many times in a row this may be so before the listener has failed. Want of descriptors or memory doesn't count.
 pub const ACCEPT_TRIES: u32 = 1200;
 
 /// How many seconds a connection to a target may take to be made.

@@ -6,7 +6,7 @@ use crate::limits::{
     ACCEPT_AGAIN_MILLIS, ACCEPT_TRIES, READ_OR_WRITE_SECONDS, SILENT_CALLERS, SILENT_SECONDS,
     WAITING_CALLERS,
 };
-use crate::sockets::next_stream;
+use crate::sockets::{is_want, next_stream};
 use crate::waiting::{awaited, comes_first, is_over, is_there, millis_of};
 use hub_devices::listener::Listener;
 use hub_devices::source::Failed;
@@ -148,7 +148,8 @@ impl SocketListener {
         })
     }
 
-    /// The next connection that has sent something, as its two sides. Where none can be taken it waits before the next try.
+    /// The next connection that has sent something, as its two sides. Where none can be taken it waits before the next try, and for want
+    /// of descriptors or memory it goes on so for as long as these lack.
     fn next_sides(&mut self) -> io::Result<(SocketSource, SocketSink)>
         ensures { self.new.faults ≡ self.old.faults }
     {
@@ -158,7 +159,9 @@ impl SocketListener {
                 Ok(Some(sides)) => return Ok(sides),
                 Ok(None) => failed = 0,
                 Err(error) => {
-                    failed = failed.saturating_add(1);
+                    if !is_want(&error) {
+                        failed = failed.saturating_add(1);
+                    }
                     if failed > ACCEPT_TRIES || self.door.is_closed.load(Ordering::SeqCst) {
                         return Err(error);
                     }

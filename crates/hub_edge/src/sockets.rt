@@ -12,6 +12,18 @@ const TRIES: u32 = 1000;
 /// How many bytes of an address of four numbers the system reads.
 const ADDRESS_BYTES: u32 = 16;
 
+/// No descriptor is free in the whole system.
+const ENFILE: i32 = 23;
+
+/// The system has no memory for a socket.
+const ENOBUFS: i32 = 105;
+
+/// Whether descriptors or memory lack, here or in the whole system, which passes once others give some back.
+pub(crate) fn is_want(error: &io::Error) -> bool {
+    error.kind() == ErrorKind::OutOfMemory
+        || matches!(error.raw_os_error(), Some(libc::EMFILE | ENFILE | ENOBUFS))
+}
+
 /// Why the system refused the last call.
 fn last_error() -> io::Error {
     io::Error::from_raw_os_error(os::errno())
