@@ -118,6 +118,14 @@ impl SocketSource {
         }
     }
 
+    /// Waits until bytes are there, or the end, for what is left of a time that began at an instant. It fails where none come.
+    pub fn await_within(&self, begun: Instant, limit: Duration) -> io::Result<()> {
+        match time_left(&self.rt, begun, limit)? {
+            Some(left) if comes_within(self.line.stream(), left) => Ok(()),
+            _ => Err(io::Error::from(ErrorKind::TimedOut)),
+        }
+    }
+
     /// The next bytes, or 0 at the end of input.
     fn next_bytes(&mut self, into: &mut [u8]) -> io::Result<usize>
         ensures fits { IfOk result (λ n. n ≤ length into.new) }

@@ -68,8 +68,9 @@ fn read_to_end(rt: &HostRuntime, input: &mut SocketSource) -> io::Result<Bytes> 
     let mut piece = [0u8; PIECE];
     // each read gives at least one byte, or the end
     for _ in 0..=REPLY_BYTES {
-        if begun.elapsed(rt)? > limit {
-            return Err(io::Error::from(ErrorKind::TimedOut));
+        // the first read waits no longer by itself
+        if !reply.is_empty() {
+            input.await_within(begun, limit)?;
         }
         let Ok(count) = input.read(&mut piece) else {
             return Err(io::Error::from(ErrorKind::UnexpectedEof));
