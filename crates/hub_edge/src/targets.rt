@@ -2,7 +2,7 @@
 use crate::connection::{SocketSink, SocketSource, sides};
 use crate::limits::{CONNECT_SECONDS, LET_GO_SECONDS, LOOK_AGAIN_MILLIS, TARGET_READ_SECONDS};
 use crate::sockets;
-use crate::waiting::is_over;
+use crate::waiting::{is_over, time_left};
 use hub_kit::target::Target;
 use std::io::{self, ErrorKind};
 use std::net::{SocketAddr, TcpStream, ToSocketAddrs};
@@ -21,17 +21,24 @@ pub(crate) fn address_of(target: &Target) -> &str {
 /// A stream to the target. Most have their address as a number, and none is looked up.
 fn stream_to(rt: &HostRuntime, target: &Target) -> io::Result<TcpStream> {
     let text = address_of(target);
+    let limit = Duration::from_secs(CONNECT_SECONDS);
     match text.parse::<SocketAddr>() {
-        Ok(address) => stream_at(rt, address),
-        Err(_) => stream_to_named(rt, text),
+        Ok(address) => stream_at(rt, address, limit),
+        Err(_) => stream_to_named(rt, text, limit),
     }
 }
 
-/// A stream to the first address of a name that answers, or the last error.
-fn stream_to_named(rt: &HostRuntime, text: &str) -> io::Result<TcpStream> {
+/// A stream to the first address of a name that answers, or the last error. All of them together have this time, once the name was looked
+/// up: for that there is no limit.
+fn stream_to_named(rt: &HostRuntime, text: &str, limit: Duration) -> io::Result<TcpStream> {
     let mut last = io::Error::from(ErrorKind::InvalidInput);
-    for address in text.to_socket_addrs(rt)? {
-        match stream_at(rt, address) {
+    let addresses = text.to_socket_addrs(rt)?;
+    let begun = Instant::now(rt)?;
+    for address in addresses {
+        let Some(left) = time_left(rt, begun, limit)? else {
+            break;
+        };
+        match stream_at(rt, address, left) {
             Ok(stream) => return Ok(stream),
             Err(error) => last = error,
         }
@@ -39,9 +46,8 @@ fn stream_to_named(rt: &HostRuntime, text: &str) -> io::Result<TcpStream> {
     Err(last)
 }
 
-/// A stream to an address.
-fn stream_at(rt: &HostRuntime, address: SocketAddr) -> io::Result<TcpStream> {
-    let limit = Duration::from_secs(CONNECT_SECONDS);
+/// A stream to an address, if it is made within this time.
+fn stream_at(rt: &HostRuntime, address: SocketAddr, limit: Duration) -> io::Result<TcpStream> {
     match address {
         SocketAddr::V4(numbers) => sockets::stream_to(numbers, limit),
         SocketAddr::V6(_) => TcpStream::connect_timeout(rt, &address, limit),
