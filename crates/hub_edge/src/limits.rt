@@ -30,6 +30,15 @@ pub const TUNNEL_END_SECONDS: u64 = 60;
 /// How many seconds pass until a tunnel's wait looks whether it was told so.
 pub const TUNNEL_LOOK_SECONDS: u64 = 10;
 
+/// How many seconds a peer is silent before the system asks it whether it is still there.
+pub const KEEP_SILENT_SECONDS: i32 = 300;
+
+/// How many seconds pass until it asks again.
+pub const KEEP_AGAIN_SECONDS: i32 = 60;
+
+/// How many times in a row nothing may come back before the connection has ended.
+pub const KEEP_TRIES: i32 = 5;
+
 /// How many connections may wait for a worker. The system refuses more, or lets them try again.
 pub const WAITING_CALLERS: i32 = 1024;
 

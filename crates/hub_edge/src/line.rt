@@ -4,6 +4,7 @@ use crate::limits::{
     TUNNEL_LOOK_SECONDS, TUNNEL_SILENT_SECONDS,
 };
 use crate::listener::Door;
+use crate::sockets::keep_alive;
 use crate::waiting::{comes_first, comes_within, is_there, time_left};
 use std::alloc::Global;
 use std::io::{self, ErrorKind, Read};
@@ -52,9 +53,13 @@ impl Line {
         self.is_tunnel.load(Ordering::SeqCst)
     }
 
-    /// From now on it is a side of a tunnel, which may be silent for long.
+    /// From now on it is a side of a tunnel, which may be silent for long, so the system asks its peer whether it is still there. What came
+    /// by a door has that from the listener. Where it can't be set, the limits of a tunnel alone end it.
     pub(crate) fn begin_tunnel(&self) {
         self.is_tunnel.store(true, Ordering::SeqCst);
+        if self.door.is_none() {
+            let _ = keep_alive(&self.stream);
+        }
     }
 
     /// Notes bytes that are written. A reply begins with the line of its status.

@@ -6,7 +6,7 @@ use crate::limits::{
     ACCEPT_AGAIN_MILLIS, ACCEPT_TRIES, READ_OR_WRITE_SECONDS, SILENT_CALLERS, SILENT_SECONDS,
     WAITING_CALLERS,
 };
-use crate::sockets::{is_want, next_stream};
+use crate::sockets::{is_want, keep_alive, next_stream};
 use crate::waiting::{awaited, comes_first, is_over, is_there, millis_of};
 use hub_devices::listener::Listener;
 use hub_devices::source::Failed;
@@ -326,6 +326,7 @@ fn set_up(listener: &TcpListener) -> io::Result<()> {
     let sockets = TcpStream::from(OwnedFd::from(listener.try_clone()?));
     sockets.set_read_timeout(Some(Duration::from_secs(READ_OR_WRITE_SECONDS)))?;
     set_writing(&sockets)?;
+    keep_alive(listener)?;
     if listen(listener.as_raw_fd(), WAITING_CALLERS) != 0 {
         return Err(io::Error::from(ErrorKind::Other));
     }

@@ -1,5 +1,9 @@
 //! Calls of the system for sockets, where fewer do than the library makes.
-use libc::net::{AF_INET, SOCK_CLOEXEC, SOCK_STREAM, accept4, connect, socket};
+use crate::limits::{KEEP_AGAIN_SECONDS, KEEP_SILENT_SECONDS, KEEP_TRIES};
+use libc::net::{
+    AF_INET, IPPROTO_TCP, SO_KEEPALIVE, SOCK_CLOEXEC, SOCK_STREAM, SOL_SOCKET, TCP_KEEPCNT,
+    TCP_KEEPIDLE, TCP_KEEPINTVL, accept4, connect, setsockopt, socket,
+};
 use os::FromRawFd;
 use std::io::{self, ErrorKind};
 use std::net::{SocketAddrV4, TcpListener, TcpStream};
@@ -11,6 +15,9 @@ const TRIES: u32 = 1000;
 
 /// How many bytes of an address of four numbers the system reads.
 const ADDRESS_BYTES: u32 = 16;
+
+/// How many bytes of an option that is a number the system reads.
+const OPTION_BYTES: u32 = 4;
 
 /// No descriptor is free in the whole system.
 const ENFILE: i32 = 23;
@@ -79,4 +86,37 @@ pub(crate) fn next_stream(listener: &TcpListener) -> io::Result<TcpStream> {
     let mut len = 128;
     let fd = unsafe { accept4(listener.as_raw_fd(), &mut address, &mut len, SOCK_CLOEXEC) };
     stream_of(fd)
+}
+
+/// Has the system ask a silent peer whether it is still there, so that one that is gone without a word is found. What a listener accepts
+/// has this from the listener.
+pub(crate) fn keep_alive(socket: &impl AsRawFd) -> io::Result<()> {
+    let fd = socket.as_raw_fd();
+    let (on, silent) = (option_of(1), option_of(KEEP_SILENT_SECONDS));
+    let (again, tries) = (option_of(KEEP_AGAIN_SECONDS), option_of(KEEP_TRIES));
+    // each call names its option, so that the check can tell that the system takes it
+    check(unsafe { setsockopt(fd, SOL_SOCKET, SO_KEEPALIVE, &on, OPTION_BYTES) })?;
+    check(unsafe { setsockopt(fd, IPPROTO_TCP, TCP_KEEPIDLE, &silent, OPTION_BYTES) })?;
+    check(unsafe { setsockopt(fd, IPPROTO_TCP, TCP_KEEPINTVL, &again, OPTION_BYTES) })?;
+    check(unsafe { setsockopt(fd, IPPROTO_TCP, TCP_KEEPCNT, &tries, OPTION_BYTES) })
+}
+
+/// A number as the system reads it in an option.
+fn option_of(number: i32) -> [u8; 16] {
+    let [first, second, third, fourth] = number.to_ne_bytes();
+    let mut option = [0; 16];
+    option[0] = first;
+    option[1] = second;
+    option[2] = third;
+    option[3] = fourth;
+    option
+}
+
+/// Whether a call of the system succeeded, or why not.
+fn check(status: i32) -> io::Result<()> {
+    if status < 0 {
+        Err(last_error())
+    } else {
+        Ok(())
+    }
 }
