@@ -23,4 +23,5 @@ mod sockets;
 pub mod standard;
 pub mod starting;
 pub mod targets;
+pub mod variables;
 mod waiting;

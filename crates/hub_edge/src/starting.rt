@@ -1,14 +1,14 @@
 //! How a program of a server is started.
 use crate::adopted::{MARK, mark_of};
-use crate::commands::{add, connect, set, unset};
+use crate::commands::{add, connect, set};
 use crate::limits::READY_SECONDS;
 use crate::targets::address_of;
+use crate::variables::hide_secrets;
 use crate::waiting::time_left;
 use hub_kit::names::ServerKey;
 use hub_kit::target::Target;
 use hub_kit::text::Text;
 use std::alloc::{AllocError, Global};
-use std::env;
 use std::fmt::{self, Display, Formatter};
 use std::io::{self, ErrorKind, Read, Write};
 use std::os::unix::net::UnixStream;
@@ -18,13 +18,12 @@ use std::time::{Duration, Instant};
 /// What a program writes as its first line once it listens.
 const READY: &[u8] = b"ready\n";
 
-/// What the names of variables contain whose values are secret.
-const SECRET_WORDS: [&str; 4] = ["TOKEN", "SECRET", "PASSWORD", "CRYPT_KEY"];
-
 /// Why a program isn't started.
 #[derive(Clone, Copy, Debug, PartialEq, Eq)]
 pub enum StartFault {
     NoCommand,
+    /// The name of a variable of the hub's environment says that it is secret, and is no UTF-8.
+    SecretName,
     /// The system's error.
     System(ErrorKind),
     /// The program ended before it was ready.
@@ -50,6 +49,9 @@ impl Display for StartFault {
     fn fmt<W: fmt::Write>(&self, f: &mut Formatter<W>) -> fmt::Result {
         match self {
             StartFault::NoCommand => f.write_str("no command is configured"),
+            StartFault::SecretName => f.write_str(
+                "a variable of the hub's environment has a name that says that it is secret and is no UTF-8",
+            ),
             StartFault::System(kind) => write!(f, "{kind:?}"),
             StartFault::Ended => f.write_str("it ended before it said that it is ready"),
             StartFault::OtherLine => f.write_str("its first line is not `ready`"),
@@ -94,7 +96,7 @@ fn prepare(
     target: &Target,
 ) -> Result<(), StartFault> {
     add_words(rt.alloc(), command, words, key, port_of(target))?;
-    hide_secrets(rt, command)?;
+    hide_secrets(rt, rt.alloc(), command)?;
     add_mark(rt.alloc(), command, generation, target)?;
     Ok(())
 }
@@ -131,35 +133,6 @@ fn add_mark(
 ) -> Result<(), AllocError> {
     let mark = mark_of(alloc, generation, target)?;
     set(command, MARK, mark.as_str())
-}
-
-/// Takes what is secret out of the environment that the program gets.
-fn hide_secrets(rt: &HostRuntime, command: &mut Command) -> Result<(), StartFault> {
-    let Ok(vars) = env::vars(rt) else {
-        return Err(StartFault::System(ErrorKind::InvalidData));
-    };
-    for (name, _) in vars {
-        hide_secret(command, name.as_str())?;
-    }
-    Ok(())
-}
-
-/// Takes a variable out of the environment, if it is secret.
-fn hide_secret(command: &mut Command, name: &str) -> Result<(), AllocError> {
-    if is_secret(name) {
-        unset(command, name)?;
-    }
-    Ok(())
-}
-
-/// Whether the value of a variable of this name is secret.
-fn is_secret(name: &str) -> bool {
-    for word in SECRET_WORDS {
-        if name.contains(word) {
-            return true;
-        }
-    }
-    false
 }
 
 /// Starts a program, its output one of a pair of sockets, so that a read can have a limit. The command is dropped here: it holds
