@@ -138,7 +138,7 @@ impl<H: Threads + Wait + Copy> Programs<H> {
     }
 
     /// Says on standard error why a program wasn't started.
-    fn say(&self, key: &ServerKey, fault: StartFault) {
+    pub fn say(&self, key: &ServerKey, fault: StartFault) {
         let program = match self.command.as_slice() {
             [program, ..] => program.as_str(),
             [] => "",

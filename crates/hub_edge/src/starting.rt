@@ -24,6 +24,8 @@ pub enum StartFault {
     NoCommand,
     /// The name of a variable of the hub's environment says that it is secret, and is no UTF-8.
     SecretName,
+    /// What an earlier hub left running at its target can't be ended, and the system's error.
+    Left(ErrorKind),
     /// The system's error.
     System(ErrorKind),
     /// The program ended before it was ready.
@@ -51,6 +53,10 @@ impl Display for StartFault {
             StartFault::NoCommand => f.write_str("no command is configured"),
             StartFault::SecretName => f.write_str(
                 "a variable of the hub's environment has a name that says that it is secret and is no UTF-8",
+            ),
+            StartFault::Left(kind) => write!(
+                f,
+                "what an earlier hub left running at its target can't be ended: {kind:?}"
             ),
             StartFault::System(kind) => write!(f, "{kind:?}"),
             StartFault::Ended => f.write_str("it ended before it said that it is ready"),

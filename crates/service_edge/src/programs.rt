@@ -4,6 +4,7 @@ ghost use Rattle.std.specs.Prelude.{◌≡◌, None};
 use hub_devices::source::Failed;
 use hub_devices::spawner::Spawner;
 use hub_edge::programs::{AllStarted, Programs};
+use hub_edge::starting::StartFault;
 use hub_kit::list::List;
 use hub_kit::names::{ServerKey, ServiceName, read_server, read_user};
 use hub_kit::target::Target;
@@ -96,7 +97,8 @@ impl<H: Threads + Wait + Copy> ServicePrograms<H> {
         };
         for command in self.commands.iter_mut() {
             if command.name == *name {
-                if command.programs.end_left(target).is_err() {
+                if let Err(error) = command.programs.end_left(target) {
+                    command.programs.say(&key, StartFault::Left(error.kind()));
                     return Err(Failed);
                 }
                 return command.programs.start(g, &key, target, secret);
