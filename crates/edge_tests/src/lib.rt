@@ -20,4 +20,6 @@ mod programs;
 #[cfg(test)]
 mod sockets;
 #[cfg(test)]
+mod variables;
+#[cfg(test)]
 mod words;

@@ -8,7 +8,9 @@ use hub_edge::listener::SocketListener;
 use hub_edge::targets::connect;
 use hub_kit::target::Target;
 use hub_kit::targets::read_target;
+use std::fs;
 use std::process::Abort;
+use std::time::{Duration, Instant};
 
 /// A caller's side of a connection.
 #[derive(Drop)]
@@ -26,13 +28,19 @@ struct Worker {
     output: SocketSink,
 }
 
+/// The target at a port of a host.
+fn target_at(handle: &impl Abort, rt: HostRuntime, host: &str, port: u16) -> Target {
+    let url = format!(in rt.alloc(); "http://{host}:{port}").expect(handle, "there is memory");
+    let target = read_target(rt.alloc(), url.as_bytes()).expect(handle, "it is a target");
+    drop(url);
+    target
+}
+
 /// A listener at a free port of this machine, and its target.
 pub fn listen(handle: &impl Abort, rt: HostRuntime) -> (SocketListener, Target) {
     let listener = SocketListener::bind(rt, "127.0.0.1:0").expect(handle, "a free port");
     let port = listener.port().expect(handle, "its port");
-    let url = format!(in rt.alloc(); "http://127.0.0.1:{port}").expect(handle, "there is memory");
-    let target = read_target(rt.alloc(), url.as_bytes()).expect(handle, "it is a target");
-    drop(url);
+    let target = target_at(handle, rt, "127.0.0.1", port);
     (listener, target)
 }
 
@@ -99,6 +107,24 @@ fn a_request_and_a_reply(rt: HostRuntime) {
     drop(worker);
 }
 
+/// Whether bytes come within 50 ms.
+fn comes_soon(rt: &HostRuntime, input: &SocketSource) -> bool {
+    match Instant::now(rt) {
+        Ok(begun) => input.await_within(begun, Duration::from_millis(50)).is_ok(),
+        Err(_) => false,
+    }
+}
+
+#[test]
+fn a_wait_for_what_is_left(rt: HostRuntime) {
+    let (caller, mut worker) = connected(&rt, rt, b"GET / HTTP/1.1\r\n\r\n");
+    check(&rt, !comes_soon(&rt, &caller.heard), "nothing comes");
+    check(&rt, answers(&mut worker), "a request and a reply");
+    check(&rt, comes_soon(&rt, &caller.heard), "the reply comes");
+    drop(caller);
+    drop(worker);
+}
+
 /// A connection that is silent after a reply ends where another caller waits and nobody is free.
 #[test]
 fn a_silent_connection_makes_room(rt: HostRuntime) {
@@ -123,6 +149,57 @@ fn a_refusal_is_no_reset(rt: HostRuntime) {
     check(&rt, reads(&mut caller.heard, 28), "it arrives");
     check(&rt, reads(&mut caller.heard, 0), "it ends");
     drop(caller);
+}
+
+/// A target whose host is a name is connected at that of its addresses which answers.
+#[test]
+fn a_target_by_name(rt: HostRuntime) {
+    let (listener, numbers) = listen(&rt, rt);
+    drop(numbers);
+    let port = listener.port().expect(&rt, "its port");
+    let target = target_at(&rt, rt, "localhost", port);
+    check(&rt, connect(rt, &target).is_ok(), "it is connected");
+    drop(listener);
+    check(&rt, connect(rt, &target).is_err(), "nobody listens");
+    drop(target);
+}
+
+/// Whether the system is to ask a peer whether it is still there: it shows so in the row of the connection that has these words.
+fn asks_peer(rt: &HostRuntime, words: &str) -> bool {
+    let Ok(table) = fs::read_to_string(rt, "/proc/net/tcp") else {
+        return false;
+    };
+    for row in table.lines() {
+        if row.contains(words) && row.contains(" 02:") {
+            return true;
+        }
+    }
+    false
+}
+
+/// Whether it asks the caller that came to a port of 127.0.0.1, and whether it asks the one who listens there for the caller.
+fn asks_peers(handle: &impl Abort, rt: HostRuntime, port: u16) -> (bool, bool) {
+    let came = format!(in rt.alloc(); "0100007F:{port:04X} 0100007F:").expect(handle, "memory");
+    let went = format!(in rt.alloc(); "0100007F:{port:04X} 01 ").expect(handle, "memory");
+    let asks = (asks_peer(&rt, came.as_str()), asks_peer(&rt, went.as_str()));
+    drop(came);
+    drop(went);
+    asks
+}
+
+/// A caller who is gone without a word is found, and so is a target, once the connection to it is a tunnel.
+#[test]
+fn silent_peers_are_asked(rt: HostRuntime) {
+    let (listener, target) = listen(&rt, rt);
+    let port = listener.port().expect(&rt, "its port");
+    let (heard, said) = connect(rt, &target).expect(&rt, "it is connected");
+    check(&rt, asks_peers(&rt, rt, port) == (true, false), "a caller");
+    said.begin_tunnel();
+    check(&rt, asks_peers(&rt, rt, port) == (true, true), "a tunnel");
+    drop(heard);
+    drop(said);
+    drop(target);
+    drop(listener);
 }
 
 #[test]
