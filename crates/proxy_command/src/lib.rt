@@ -24,6 +24,9 @@ use upstream_edge::{SocketUpstream, TunnelListener};
 /// How many connections are forwarded at once.
 const WORKERS: usize = 1024;
 
+/// How many calls of the interface are answered at once.
+const API_WORKERS: usize = 16;
+
 const USAGE: &str =
     "these are not the words of the command: hub proxy --listen A --api A --secret-file F";
 
@@ -48,12 +51,24 @@ fn new_kits<W: Threads>(rt: HostRuntime, threads: &W) -> Result<Vec<Kit<'_, W>>,
     Ok(kits)
 }
 
+/// A clock for each worker of the interface.
+fn new_clocks(rt: HostRuntime) -> Result<Vec<SystemClock>, AllocError>
+    ensures { IfOk result (λ clocks. 0 < length clocks.items) }
+{
+    let mut clocks = Vec::new(rt.alloc());
+    for _ in 1..API_WORKERS {
+        clocks.push(SystemClock::new(rt))?;
+    }
+    clocks.push(SystemClock::new(rt))?;
+    Ok(clocks)
+}
+
 /// Serves at the addresses of the words.
 fn serve_at<W: Threads + Wait + Sync>(
     rt: HostRuntime,
     wait: &W,
     words: &ProxyWords,
-    secret: Text,
+    secret: &Text,
 ) -> ExitCode {
     let Ok(browsers) = SocketListener::bind(rt, words.listen.as_str()) else {
         return say(&rt, 8, "the address of --listen can't be had");
@@ -63,10 +78,12 @@ fn serve_at<W: Threads + Wait + Sync>(
         return say(&rt, 8, "the address of --api can't be had");
     };
     let mut api = TunnelListener::new(api);
+    let Ok(clocks) = new_clocks(rt) else {
+        return say(&rt, 7, "there is no memory");
+    };
     let Ok(kits) = new_kits(rt, wait) else {
         return say(&rt, 7, "there is no memory");
     };
-    let time = SystemClock::new(rt);
     let mut output = Output::new(rt);
     let end = serve_proxy(
         wait,
@@ -75,7 +92,7 @@ fn serve_at<W: Threads + Wait + Sync>(
         &mut browsers,
         &mut api,
         kits,
-        time,
+        clocks,
         &mut output,
     );
     let why = match end.fault {
@@ -96,7 +113,7 @@ pub fn proxy<W: Threads + Wait + Sync>(rt: HostRuntime, wait: &W, words: &[Text]
     };
     let mut files = SystemFiles::new(rt);
     match read_secret_file(rt.alloc(), &mut files, &words.secret_file) {
-        Ok(secret) => serve_at(rt, wait, &words, secret),
+        Ok(secret) => serve_at(rt, wait, &words, &secret),
         Err(SecretError::NoFile) => say(&rt, 3, "the file with the secret wasn't read"),
         Err(SecretError::NoSecret) => say(&rt, 3, "the file's text is no secret"),
         Err(SecretError::Memory) => say(&rt, 7, "there is no memory"),

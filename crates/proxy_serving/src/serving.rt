@@ -1,5 +1,7 @@
 //! A proxy over its two listeners.
-ghost use Rattle.std.specs.Prelude.{◌≡◌, ◌≤◌, ◌<◌, length, IsSome};
+ghost use Rattle.std.specs.Prelude.{◌≡◌, ◌≤◌, ◌<◌, length, IsSome, OnOk, OnErr};
+ghost use Rattle.hub_devices.specs.Faults.{Rises};
+ghost use Rattle.hub_devices.specs.Streams.{Appends};
 ghost use Rattle.worker_hall.specs.Given.{Gave};
 ghost use Rattle.proxy_serving.specs.Ends.{IsFault, IsOver, IsSaid};
 ghost use Rattle.proxy_serving.specs.Ends as spec;
@@ -7,9 +9,10 @@ ghost use Rattle.proxy_serving.specs.Ends as spec;
 use crate::api_server::ApiServer;
 use crate::ends::{ProxyEnd, ProxyFault};
 use crate::forwarder::{Forwarder, ProxyKit};
-use crate::hiring::hire;
+use crate::hiring::{hire_forwarders, hire_servers};
 use carries::Carrier;
 use desk::{Desk, Pass};
+use http_wire::error::WriteError;
 use http_wire::writes::write_all;
 use hub_devices::clock::Clock;
 use hub_devices::listener::Listener;
@@ -40,14 +43,15 @@ pub fn serve_proxy<
 >(
     rt: &W,
     alloc: Global,
-    secret: Text,
+    secret: &Text,
     browsers: &mut L,
     api: &mut L,
     kits: Vec<ProxyKit<U, C>>,
-    time: C,
+    clocks: Vec<C>,
     output: &mut O,
 ) -> ProxyEnd
     requires kits { 0 < length kits.items }
+    requires clocks { 0 < length clocks.items }
     ensures said { IsSaid (O.held output.old) (O.held output.new) result.fault }
     ensures forwarded { Gave (L.given browsers.old) result.forwarded (L.given browsers.new) }
     ensures answered { Gave (L.given api.old) result.answered (L.given api.new) }
@@ -57,15 +61,27 @@ pub fn serve_proxy<
 {
     let Ok((desk, pass)) = open(alloc, Routes::new(alloc, PATHS)) else {
         drop(kits);
+        drop(clocks);
         return ended(0, 0, ProxyFault::Memory);
     };
-    if write_all(output, READY).is_err() {
+    if say_ready(output).is_err() {
         drop(kits);
+        drop(clocks);
         drop(pass);
         drop(desk);
         return ended(0, 0, ProxyFault::Output);
     }
-    serve_over(rt, alloc, &desk, pass, secret, browsers, api, kits, time)
+    serve_over(rt, alloc, &desk, pass, secret, browsers, api, kits, clocks)
+}
+
+/// Writes `ready` and a line end.
+fn say_ready<O: Sink>(output: &mut O) -> Result<(), WriteError>
+    ensures ok { OnOk result (Appends (O.held output.old) spec.ready (O.held output.new)) }
+    ensures err { OnErr result (IsSaid (O.held output.old) (O.held output.new) ProxyFault.Output) }
+    ensures counted { O.faults output.old ≤ O.faults output.new }
+    ensures cause { OnErr result (Rises (O.faults output.old) (O.faults output.new)) }
+{
+    write_all(output, READY)
 }
 
 fn ended(forwarded: u64, answered: u64, fault: ProxyFault) -> ProxyEnd
@@ -90,38 +106,34 @@ fn serve_over<
     alloc: Global,
     desk: &'a Desk<RouteBook>,
     pass: Pass<RouteBook>,
-    secret: Text,
+    secret: &Text,
     browsers: &mut L,
     api: &mut L,
     kits: Vec<ProxyKit<U, C>>,
-    time: C,
+    clocks: Vec<C>,
 ) -> ProxyEnd
     requires of { pass.of ≡ desk.now }
     requires first { IsSome pass.others }
     requires kits { 0 < length kits.items }
+    requires clocks { 0 < length clocks.items }
     ensures forwarded { Gave (L.given browsers.old) result.forwarded (L.given browsers.new) }
     ensures answered { Gave (L.given api.old) result.answered (L.given api.new) }
     ensures over { IsOver (L.faults browsers.old) (L.faults browsers.new) (L.faults api.old) (L.faults api.new)
         result.forwarded result.answered result.fault }
 {
     let mut pass = pass;
-    let Ok(forwarders) = hire(alloc, rt, desk, &mut pass, kits) else {
+    let Ok(forwarders) = hire_forwarders(alloc, rt, desk, &mut pass, kits) else {
         drop(pass);
-        drop(secret);
-        drop(time);
+        drop(clocks);
         return ended(0, 0, ProxyFault::Memory);
     };
-    let routes = Router {
-        wait: rt,
-        desk,
-        pass,
+    let Ok(servers) = hire_servers(alloc, rt, desk, &mut pass, secret, clocks) else {
+        drop(pass);
+        drop(forwarders);
+        return ended(0, 0, ProxyFault::Memory);
     };
-    let server = ApiServer {
-        routes,
-        secret,
-        clock: time,
-    };
-    serve_routes(rt, alloc, browsers, forwarders, api, server)
+    drop(pass);
+    serve_routes(rt, alloc, browsers, forwarders, api, servers)
 }
 
 /// The same with what serves the connections.
@@ -137,20 +149,17 @@ fn serve_routes<
     browsers: &mut L,
     forwarders: Vec<Forwarder<R, U, C>>,
     api: &mut L,
-    server: ApiServer<R, C>,
+    servers: Vec<ApiServer<R, C>>,
 ) -> ProxyEnd
     requires forwarders { 0 < length forwarders.items }
+    requires servers { 0 < length servers.items }
     ensures forwarded { Gave (L.given browsers.old) result.forwarded (L.given browsers.new) }
     ensures answered { Gave (L.given api.old) result.answered (L.given api.new) }
     ensures over { IsOver (L.faults browsers.old) (L.faults browsers.new) (L.faults api.old) (L.faults api.new)
         result.forwarded result.answered result.fault }
 {
     let mut forwarders = forwarders;
-    let mut servers = Vec::new(alloc);
-    if servers.push(server).is_err() {
-        drop(forwarders);
-        return ended(0, 0, ProxyFault::Memory);
-    }
+    let mut servers = servers;
     serve_both(
         rt,
         alloc,

@@ -158,6 +158,7 @@ fn doors<'a, W: Wait + Abort>(
         let sink = Caller {
             rt,
             all,
+            least: 0,
             is_shut: false,
             faults: 0,
         };
