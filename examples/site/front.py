@@ -1,7 +1,8 @@
 """The site's front: Debian's nginx with basic auth. A browser's requests to the hub get the token of the user who signed in, and who comes
 with a token of the hub needs no password. The page and the hub's calls stand at one port, servers and services at another one: so a page
-of somebody's notebook can't call the hub in the name of who looks at it. Passwords and tokens never go on to a server. Where site.toml has
-names for the two, browsers are sent to these."""
+of somebody's notebook can't call the hub in the name of who looks at it. Passwords, and the tokens that the front has for its users, never
+go on to a server. What a visitor brings does: a token in the header, and the guard's cookie, whose token may enter that server alone and
+see its user's name. Where site.toml has names for the two, browsers are sent to these."""
 import base64, hashlib, json, os, secrets
 from parts import HOME, HUB, LISTEN, PROXY, PUBLIC, PUBLIC_SERVERS, SERVERS, SITE, drawn, read, token, write
 
