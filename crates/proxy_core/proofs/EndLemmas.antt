@@ -5,6 +5,7 @@ use Rattle.std.proofs.lemmas.List.{append-nil}
 use Rattle.httparse.specs.Grammar.{ResponseHead, print_response, status_code}
 use Rattle.hub_devices.specs.Faults.{Rises}
 use Rattle.hub_devices.specs.Streams.{Appends}
+use Rattle.hub_devices.proofs.CallLemmas.{Rises_later}
 use Rattle.http_wire.specs.declared.error.SessionFault.{SessionFault}
 use Rattle.http_wire.specs.declared.error.SessionFault.TheVariants.{ReadFault, WriteFault}
 use Rattle.http_wire.specs.Took.{Took}
@@ -25,7 +26,7 @@ use Rattle.proxy_core.specs.declared.refusals.Refusal.TheVariants as refusal
 use Rattle.proxy_core.specs.declared.refusals.Forwarded.{Forwarded}
 use Rattle.proxy_core.specs.declared.refusals.Forwarded.TheVariants.{Passed, Refused, Ended, Cut}
 use Rattle.proxy_core.specs.Refusals.{refusal_text, IsWritten}
-use Rattle.proxy_core.specs.Passes.{Place, Going, Moved, IsSent, IsRefused, IsStop, IsCutBack, PassEnds, BackEnds, stop_of, refusal_of}
+use Rattle.proxy_core.specs.Passes.{Place, Going, Moved, IsSent, IsFront, WentOn, IsRefused, IsStop, IsCutBack, PassEnds, BackEnds, stop_of, refusal_of}
 
 -- the request didn't go on whole
 pub stop_sent : (q : Going) (old new : Place) (bytes given : List ℕ) (e : BodyEnd) → StopsRequest new.left new.kept q.text q.framing bytes given e
@@ -103,9 +104,16 @@ no_switch s (inl low) is = omega (arith, is, low)
 no_switch s (inr (inl high)) is = omega (arith, is, high)
 no_switch s (inr (inr (at, on))) is = absurd (cc)
 
+-- however the count rises later
+went_later : (q : Going) (kept kept' body given : List ℕ) (before at after : ℕ) → kept ≡ kept' → at ≤ after → WentOn q kept body given before at
+    → WentOn q kept' body given before after
+went_later q kept kept' body given before at after same late (inl sent) = inl sent
+went_later q kept kept' body given before at after same late (inr (front, rose)) =
+    inr (subst (λ (k : List ℕ). IsFront q k body given) same front, Rises_later before at after rose late)
+
 -- the reply was read, and then passed back
 pub ends_back : (q : Going) (old mid new : Place) (bytes given got behind : List ℕ) (r : ResponseHead) (f : Framing) (result : Result Forwarded SessionFault)
-    → Moved old mid bytes given got → IsSent q bytes given → BeginsReply q.upgrade q.method got r f behind → (status_code r ≡ 101 → ⊥)
+    → Moved old mid bytes given got → WentOn q mid.kept bytes given old.links mid.links → BeginsReply q.upgrade q.method got r f behind → (status_code r ≡ 101 → ⊥)
     → mid.left ≡ new.left → mid.kept ≡ new.kept → mid.held ≡ old.held → mid.writes ≡ old.writes → old.links ≤ mid.links → mid.links ≤ new.links → mid.writes ≤ new.writes
     → BackEnds (reply_passed r) f behind mid.held new.held mid.told new.told mid.links new.links mid.writes new.writes result → PassEnds q old new result
 ends_back q old mid new bytes given got behind r f (Ok Passed) moved sent begins settled left kept held writes early late written back = (
@@ -114,7 +122,7 @@ ends_back q old mid new bytes given got behind r f (Ok Passed) moved sent begins
   got ++ back.1,
   reply_passed r ++ back.0,
   (moved_left old mid new bytes left kept moved.0, Moves_more _ _ _ given got back.1 moved.1 back.4),
-  sent,
+  went_later q mid.kept new.kept bytes given old.links mid.links new.links kept late sent,
   subst (λ (h : Option (List ℕ)). Appends h (reply_passed r ++ back.0) new.held) held back.5,
   record {
     reply = r;
@@ -141,7 +149,10 @@ ends_back q old mid new bytes given got behind r f (Err (WriteFault n)) moved se
   (moved_left old mid new bytes left kept moved.0, subst (λ (t : Option Told). Moves old.told given got t) (sym back.2) moved.1),
   subst (λ (h : Option (List ℕ)). Appends h back.0 new.held) held back.3,
   subst (λ (w : ℕ). Rises w new.writes) writes back.4,
-  record { more = back.1; of = inr (r, f, behind, begins, back.6, sent) },
+  record {
+    more = back.1;
+    of = inr (r, f, behind, begins, back.6, went_later q mid.kept new.kept bytes given old.links mid.links new.links kept late sent);
+  },
   back.5,
 )
 

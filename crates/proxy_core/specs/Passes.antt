@@ -56,6 +56,11 @@ pub record IsFront (q : Going) (kept body given : List ℕ) : Type 0 where
   pub front : q.text ++ (body ++ kept) ≡ given ++ more
   pub of : IsFrontOf q.text q.framing given
 
+-- The request went on whole, or a front of it, since the upstream failed then: what it said before it did is its reply all the same.
+-- `kept` is what is left of the client's bytes, and `links` and `links'` are the upstream's count of faults before and after
+abbrev pub WentOn : Going → List ℕ → List ℕ → List ℕ → ℕ → ℕ → Type 0
+WentOn q kept body given links links' = IsSent q body given ⊎ (IsFront q kept body given × Rises links links')
+
 -- the input stopped inside the body
 pub record IsShort (q : Going) (kept body given got : List ℕ) : Type 0 where
   pub still : IsOpenBody q.framing body kept
@@ -118,13 +123,13 @@ pub record IsUnwritten (q : Going) (old new : Place) (body given got part : List
   pub more : List ℕ
   pub of : ((r : Refusal) × (refusal_text r ≡ part ++ more) × IsRefused q new.kept new.told old.links new.links body given got r)
       ⊎ ((r : ResponseHead) × (f : Framing) × (rest : List ℕ) × BeginsReply q.upgrade q.method got r f rest
-      × IsCutBack (reply_passed r) f rest part more × IsSent q body given)
+      × IsCutBack (reply_passed r) f rest part more × WentOn q new.kept body given old.links new.links)
 
 -- how a request to an upstream that is connected ends
 abbrev pub PassEnds : Going → Place → Place → Result Forwarded SessionFault → Type 0
 PassEnds q old new (Ok Passed) =
-    (body given got gave : List ℕ) × Moved old new body given got × IsSent q body given × Appends old.held gave new.held
-    × PassedBack q got gave old new
+    (body given got gave : List ℕ) × Moved old new body given got × WentOn q new.kept body given old.links new.links
+    × Appends old.held gave new.held × PassedBack q got gave old new
 PassEnds q old new (Ok (Refused s)) =
     (r : Refusal) × (body given got : List ℕ) × Moved old new body given got × (s ≡ status_of r)
     × Appends old.held (refusal_text r) new.held × IsRefused q new.kept new.told old.links new.links body given got r

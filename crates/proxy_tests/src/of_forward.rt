@@ -33,7 +33,7 @@ const NO_UPSTREAM: &[u8] = b"HTTP/1.1 503 Service Unavailable\r\nContent-Type: a
     Content-Length: 35\r\nConnection: close\r\n\r\n{\"message\":\"upstream\",\"status\":503}";
 
 /// The table has one route, `/user/ann`.
-const FORWARDINGS: [Forwarding; 22] = [
+const FORWARDINGS: [Forwarding; 24] = [
     Forwarding {
         name: "headers for the next hop are replaced",
         failing: NEVER,
@@ -225,9 +225,27 @@ const FORWARDINGS: [Forwarding; 22] = [
         name: "the head isn't sent",
         failing: 1,
         input: b"GET /user/ann HTTP/1.1\r\n\r\n",
-        given: b"HTTP/1.1 200 OK\r\nContent-Length: 0\r\n\r\n",
+        given: b"",
         end: Ok(Forwarded::Refused(503)),
         sent: b"GET /user/ann HTTP/1.1",
+        output: NO_UPSTREAM,
+    },
+    Forwarding {
+        name: "a long body is refused before it was sent",
+        failing: 2,
+        input: b"PUT /user/ann/file HTTP/1.1\r\nContent-Length: 5\r\n\r\nhello",
+        given: b"HTTP/1.1 413 Too Large\r\nContent-Length: 3\r\n\r\nbig",
+        end: Ok(Forwarded::Passed),
+        sent: b"PUT /user/ann/file HTTP/1.1\r\nContent-Length: 5\r\nConnection: close\r\n\r\nhe",
+        output: b"HTTP/1.1 413 Too Large\r\nContent-Length: 3\r\nConnection: close\r\n\r\nbig",
+    },
+    Forwarding {
+        name: "a body isn't sent, and what came is no reply",
+        failing: 2,
+        input: b"PUT /user/ann/file HTTP/1.1\r\nContent-Length: 5\r\n\r\nhello",
+        given: b"HTTP/1.1 413 Too La",
+        end: Ok(Forwarded::Refused(503)),
+        sent: b"PUT /user/ann/file HTTP/1.1\r\nContent-Length: 5\r\nConnection: close\r\n\r\nhe",
         output: NO_UPSTREAM,
     },
     Forwarding {
