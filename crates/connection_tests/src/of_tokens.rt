@@ -166,6 +166,9 @@ const SESSIONS: [Session; 5] = [
             after: 0,
             failing_draw: NEVER,
             input: b"GET /hub/api/users/ann/tokens/x HTTP/1.1\r\nAuthorization: token secret-token-ann\r\n\r\n\
+                    GET /hub/api/users/ann/tokens/01 HTTP/1.1\r\nAuthorization: token secret-token-ann\r\n\r\n\
+                    DELETE /hub/api/users/ann/tokens/%301 HTTP/1.1\r\nAuthorization: token secret-token-ann\r\n\r\n\
+                    GET /hub/api/users/ann/tokens/0 HTTP/1.1\r\nAuthorization: token secret-token-ann\r\n\r\n\
                     POST /hub/api/users/ann/tokens HTTP/1.1\r\nAuthorization: token secret-token-ann\r\nContent-Length: 16\r\n\r\n{\
                     \"expires_in\":0}\
                     POST /hub/api/users/ann/tokens HTTP/1.1\r\nAuthorization: token secret-token-ann\r\nContent-Length: 25\r\n\r\n{\
@@ -175,9 +178,15 @@ const SESSIONS: [Session; 5] = [
                     PUT /hub/api/users/ann/tokens HTTP/1.1\r\nAuthorization: token secret-token-ann\r\n\r\n\
                     POST /hub/api/users/ann/tokens HTTP/1.1\r\nAuthorization: token secret-token-ann\r\nContent-Length: 19\r\n\r\n{\
                     \"expires_in\":null}",
-            replies: 6,
+            replies: 9,
             output: b"HTTP/1.1 400 Bad Request\r\nContent-Type: application/json\r\nContent-Length: 35\r\n\r\n{\"message\"\
                     :\"bad name\",\"status\":400}\
+                    HTTP/1.1 400 Bad Request\r\nContent-Type: application/json\r\nContent-Length: 35\r\n\r\n{\"message\":\"bad name\
+                    \",\"status\":400}\
+                    HTTP/1.1 400 Bad Request\r\nContent-Type: application/json\r\nContent-Length: 35\r\n\r\n{\"message\":\"bad name\
+                    \",\"status\":400}\
+                    HTTP/1.1 404 Not Found\r\nContent-Type: application/json\r\nContent-Length: 36\r\nX-Hub-Revision: 0\r\n\r\n{\"me\
+                    ssage\":\"not found\",\"status\":404}\
                     HTTP/1.1 400 Bad Request\r\nContent-Type: application/json\r\nContent-Length: 35\r\n\r\n{\"message\":\"bad body\
                     \",\"status\":400}\
                     HTTP/1.1 400 Bad Request\r\nContent-Type: application/json\r\nContent-Length: 35\r\n\r\n{\"message\":\"bad body\

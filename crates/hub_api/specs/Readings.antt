@@ -17,7 +17,7 @@ use Rattle.shares.specs.declared.lists.SharesOf.TheVariants as Shares
 use Rattle.request_parts.specs.Steps.{◌>>=◌}
 use Rattle.hub_kit.specs.declared.names.ServerKey.{ServerKey}
 use Rattle.request_parts.specs.Names.{server_of as named_server}
-use Rattle.request_parts.specs.Queries.{decimal_of, query_value}
+use Rattle.request_parts.specs.Queries.{plain_decimal_of, query_value}
 use Rattle.hub_api.specs.Names.{name_at, read_at}
 use Rattle.hub_api.specs.Queries.{id_of, page_of, server_of}
 use Rattle.hub_paths.specs.declared.paths.Path.{Path}
@@ -155,11 +155,11 @@ post_token q = do
   asked ← scopes texts
   Ok (PostToken (record { owner = owner; scopes = asked; note = words; expires_in = life }))
 
--- the user and the id that the path names
+-- the user and the id that the path names; an id is decimal digits without a leading zero
 unfoldable pub token_at : Request → Result (List ℕ × ℕ) ApiRefusal
 token_at q = do
   user ← name_at Token (codes "{user}") q
-  id ← read_at decimal_of Token (codes "{id}") q
+  id ← read_at plain_decimal_of Token (codes "{id}") q
   Ok (user, id)
 
 -- GET /users/{user}/tokens/{id}

@@ -23,7 +23,7 @@ use request_parts::body::{
 };
 use request_parts::from_text::FromText;
 use request_parts::path::{read_in_path, segment_number};
-use request_parts::query::{query_number, query_value};
+use request_parts::query::{decimal_of, query_number, query_value};
 use request_parts::scopes::read_scopes;
 use scope_filters::scope::RawScope;
 use serde_json::Value;
@@ -95,7 +95,7 @@ pub(crate) fn id_of(alloc: Global, request: &Request) -> Result<Option<u64>, Api
 {
     match query_value(alloc, request.query.as_str(), "id")? {
         None => Ok(None),
-        Some(text) => match u64::from_text(alloc, text.as_str())? {
+        Some(text) => match decimal_of(text.as_bytes()) {
             Some(id) => Ok(Some(id)),
             None => Err(ApiRefusal::BadQuery),
         },

@@ -55,7 +55,7 @@ fn owner_at(alloc: Global, request: &Request) -> Result<UserName, ApiRefusal>
     name_at(alloc, request, Path::Tokens, "{user}")
 }
 
-/// The user and the id that the path names.
+/// The user and the id that the path names. An id has no leading zero.
 #[tactic(auto, unfolding(crate::specs::Readings::token_at))]
 fn token_at(alloc: Global, request: &Request) -> Result<(UserName, u64), ApiRefusal>
     ensures { Gives result (spec.token_at request.now) }

@@ -1,5 +1,6 @@
 -- The values of a query, and of a body that is a form (URL Standard, 5.1).
-use Rattle.std.specs.Prelude.{ℕ, List, [], ◌∷◌, bytes_eq, Option, Some, None, if◌then◌else◌}
+use Rattle.std.specs.Prelude.{ℕ, nat_lt, nat_eq, Bool, ◌&&◌, List, [], ◌∷◌, length, codes, bytes_eq, Option, Some, None, if◌then◌else◌}
+use Rattle.std.specs.List.{starts_with}
 use Rattle.std.specs.Str.Lossy.{utf8_lossy}
 use Rattle.form_urlencoded.specs.Form.{raw_pairs, decode}
 use Rattle.http_wire.specs.Decimal.{number_in}
@@ -27,6 +28,14 @@ as_u64 Other = None
 -- the number of a `u64` that a text is in decimal digits
 abbrev pub decimal_of : List ℕ → Option ℕ
 decimal_of text = as_u64 (number_in text)
+
+-- a zero in front of another digit
+abbrev pub has_leading_zero : List ℕ → Bool
+has_leading_zero text = nat_lt 1 (length text) && starts_with nat_eq text (codes "0")
+
+-- the same where the digits have no leading zero
+unfoldable pub plain_decimal_of : List ℕ → Option ℕ
+plain_decimal_of text = if has_leading_zero text then None else decimal_of text
 
 abbrev pub number_or : ℕ → Option (List ℕ) → Option ℕ
 number_or default None = Some default

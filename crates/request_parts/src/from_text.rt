@@ -1,10 +1,9 @@
 //! What a text can be: a name of some kind, a moment, a number, or the text itself.
 ghost use Rattle.std.specs.Prelude.{◌≡◌, ℕ, List, Option, Some, IfOk};
 ghost use Rattle.request_parts.specs.Names.{moment_of, name_of, server_of};
-ghost use Rattle.request_parts.specs.Queries.{decimal_of};
+ghost use Rattle.request_parts.specs.Queries.{plain_decimal_of};
 
-use crate::query::as_u64;
-use http_wire::decimal::number_in;
+use crate::query::plain_decimal_of;
 use hub_kit::moment::Moment;
 use hub_kit::moments::read_moment;
 use hub_kit::names::{
@@ -72,11 +71,12 @@ impl FromText for Moment {
     }
 }
 
+/// Decimal digits are read where they have no leading zero.
 impl FromText for u64 {
-    ghost reads = { decimal_of };
+    ghost reads = { plain_decimal_of };
 
     fn from_text(_: Global, text: &str) -> Result<Option<Self>, AllocError> {
-        Ok(as_u64(number_in(text.as_bytes())))
+        Ok(plain_decimal_of(text.as_bytes()))
     }
 }
 

@@ -59,11 +59,37 @@ pub fn query_number(
 {
     match query_value(alloc, query, key)? {
         None => Ok(Some(default)),
-        Some(text) => Ok(as_u64(number_in(text.as_bytes()))),
+        Some(text) => Ok(decimal_of(text.as_bytes())),
     }
 }
 
-pub(crate) fn as_u64(number: Decimal) -> Option<u64>
+/// The number that a text is in decimal digits, which may begin with zeros; nothing where it is none, or past a `u64`.
+pub fn decimal_of(text: &[u8]) -> Option<u64>
+    ensures { result ≡ spec.decimal_of text.now }
+{
+    as_u64(number_in(text))
+}
+
+/// Whether a text begins with a zero, and doesn't end there.
+fn has_leading_zero(text: &[u8]) -> bool
+    ensures { result ≡ spec.has_leading_zero text.now }
+{
+    1 < text.len() && text.starts_with(b"0")
+}
+
+/// The number that a text is in decimal digits without a leading zero; nothing where it is none, or past a `u64`.
+#[tactic(auto, unfolding(crate::specs::Queries::plain_decimal_of))]
+pub(crate) fn plain_decimal_of(text: &[u8]) -> Option<u64>
+    ensures { result ≡ spec.plain_decimal_of text.now }
+{
+    if has_leading_zero(text) {
+        None
+    } else {
+        decimal_of(text)
+    }
+}
+
+fn as_u64(number: Decimal) -> Option<u64>
     ensures { result ≡ spec.as_u64 number }
 {
     match number {
