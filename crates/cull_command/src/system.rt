@@ -5,7 +5,9 @@ use hub_edge::files::SystemFiles;
 use hub_edge::output::Output;
 use hub_kit::target::Target;
 use link_edge::hub::SocketHub;
+use link_edge::limits::REPLY_SECONDS;
 use link_edge::pause::SystemPause;
+use std::time::Duration;
 
 /// The devices of a culler.
 pub(crate) struct System;
@@ -28,7 +30,7 @@ pub(crate) fn outside(rt: HostRuntime, hub: Target) -> Outside<System> {
         output: Output::new(rt),
         files: SystemFiles::new(rt),
         clock: SystemClock::new(rt),
-        link: SocketHub::new(rt, hub),
+        link: SocketHub::new(rt, hub, Duration::from_secs(REPLY_SECONDS)),
         rest: SystemPause::new(rt),
     }
 }

@@ -19,10 +19,12 @@ use hub_kit::text::Text;
 use hub_words::guard::{GuardWords, read_guard};
 use hub_words::word_error::WordError;
 use link_edge::hub::SocketHub;
+use link_edge::limits::REPLY_SECONDS;
 use std::alloc::AllocError;
 use std::process::ExitCode;
 use std::sync::Wait;
 use std::thread::Threads;
+use std::time::Duration;
 use upstream_edge::{SocketUpstream, TunnelListener};
 
 /// How many connections are served at once: those of one user's server.
@@ -40,7 +42,7 @@ fn new_kit<'a, W: Threads>(
 ) -> Result<Kit<'a, W>, AllocError> {
     let hub = hub.copy(rt.alloc())?;
     Ok(GuardKit {
-        link: SocketHub::new(rt, hub),
+        link: SocketHub::new(rt, hub, Duration::from_secs(REPLY_SECONDS)),
         random: SystemRandom::new(rt),
         upstream: SocketUpstream::new(rt, threads),
     })

@@ -1,7 +1,7 @@
 //! A hub behind a socket.
 ghost use Rattle.std.specs.Prelude.{◌≡◌, ℕ, None, ⊤};
 
-use crate::limits::{REPLY_BYTES, REPLY_SECONDS};
+use crate::limits::REPLY_BYTES;
 use http_wire::writes::write_all;
 use hub_devices::link_error::LinkError;
 use hub_devices::source::Source;
@@ -22,6 +22,8 @@ const PIECE: usize = 4096;
 pub struct SocketHub {
     rt: HostRuntime,
     target: Target,
+    /// How long a reply may take to its end.
+    limit: Duration,
     faults: u64,
 }
 
@@ -30,19 +32,21 @@ impl Drop for SocketHub {
         let SocketHub {
             rt: _,
             target: _,
+            limit: _,
             faults: _,
         } = self;
     }
 }
 
 impl SocketHub {
-    /// Asks nothing yet.
-    pub fn new(rt: HostRuntime, target: Target) -> SocketHub
+    /// Asks nothing yet. A reply may take so long to its end, from its request on.
+    pub fn new(rt: HostRuntime, target: Target, limit: Duration) -> SocketHub
         ensures { ⟦<SocketHub as HubLink>⟧.faults result ≡ 0 }
     {
         SocketHub {
             rt,
             target,
+            limit,
             faults: 0,
         }
     }
@@ -53,25 +57,22 @@ impl SocketHub {
         if write_all(&mut output, request.as_slice()).is_err() {
             return Err(io::Error::from(ErrorKind::WriteZero));
         }
-        let reply = read_to_end(&self.rt, &mut input);
+        let reply = read_to_end(&self.rt, &mut input, self.limit);
         // the connection ends when both of its sides do
         drop(output);
         reply
     }
 }
 
-/// All that comes, within the limits of a reply. Where what came is a whole reply by the length that it says, its end isn't waited for.
-fn read_to_end(rt: &HostRuntime, input: &mut SocketSource) -> io::Result<Bytes> {
+/// All that comes within this time, up to the most that a reply may have. Where what came is a whole reply by the length that it says, its
+/// end isn't waited for.
+fn read_to_end(rt: &HostRuntime, input: &mut SocketSource, limit: Duration) -> io::Result<Bytes> {
     let begun = Instant::now(rt)?;
-    let limit = Duration::from_secs(REPLY_SECONDS);
     let mut reply = Bytes::new(rt.alloc());
     let mut piece = [0u8; PIECE];
     // each read gives at least one byte, or the end
     for _ in 0..=REPLY_BYTES {
-        // the first read waits no longer by itself
-        if !reply.is_empty() {
-            input.await_within(begun, limit)?;
-        }
+        input.await_within(begun, limit)?;
         let Ok(count) = input.read(&mut piece) else {
             return Err(io::Error::from(ErrorKind::UnexpectedEof));
         };

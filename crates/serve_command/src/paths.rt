@@ -10,9 +10,11 @@ use hub_edge::routes::{AllRoutes, KeptRoutes};
 use hub_kit::target::Target;
 use hub_kit::text::Text;
 use link_edge::hub::SocketHub;
+use link_edge::limits::PROXY_REPLY_SECONDS;
 use proxy_link::proxy_link::ProxyLink;
 use std::alloc::AllocError;
 use std::sync::{Arc, Wait};
+use std::time::Duration;
 
 /// The routes of a hub that serves.
 #[derive(Drop)]
@@ -32,7 +34,8 @@ fn proxy_link(
     match proxy {
         Some((target, secret)) => {
             let secret = secret.copy(alloc)?;
-            let hub = SocketHub::new(rt, target.copy(alloc)?);
+            let limit = Duration::from_secs(PROXY_REPLY_SECONDS);
+            let hub = SocketHub::new(rt, target.copy(alloc)?, limit);
             Ok(Some(ProxyLink::new(alloc, secret, hub)))
         }
         None => Ok(None),
