@@ -27,7 +27,7 @@ use Rattle.proxy_core.specs.Forward.{Found, IsChosen, Unread, Unchosen}
 use Rattle.carries.specs.declared.carried.Carried.{Carried}
 use Rattle.carries.specs.declared.carried.Carried.TheVariants.{One, Tunnel}
 
--- an end that is no tunnel
+-- An end of a request that is passed on as any other, as an end of one that is carried
 abbrev pub one_of : {R W : Type 0} → Result Forwarded SessionFault → Result (Carried R W) SessionFault
 one_of (Ok f) = Ok (One f)
 one_of (Err e) = Err e
@@ -36,7 +36,9 @@ one_of (Err e) = Err e
 abbrev pub upgrade_of : List ℕ → List ℕ → Going
 upgrade_of method text = record { upgrade = true; method = method; text = text; framing = Length 0 }
 
--- why no reply came to an upgrade, whatever the client sent behind its head
+-- Why no reply came to an upgrade of this method and head, of whose bytes `given` were sent and to which `got` came: this refusal is the
+-- reason, whatever the client sent behind the head. `told` is what the upstream tells then, `links` its count of faults before and `links'`
+-- after
 abbrev pub IsUnasked : List ℕ → List ℕ → Option Told → ℕ → ℕ → List ℕ → List ℕ → Refusal → Type 0
 IsUnasked method text told links links' given got r =
     (kept : List ℕ) → IsRefused (upgrade_of method text) kept told links links' [] given got r
@@ -55,12 +57,15 @@ pub record Sides : Type 0 where
 abbrev pub tunnel_limit : ℕ
 tunnel_limit = 2 ^ 63 - 1
 
--- one direction: `first` and then what the source gave, up to that limit
+-- One direction of a tunnel: `first` and then what the source gave went to the sink, up to that limit, and p tells how it ended. left is
+-- what the source was to give and held what the sink held, with a prime after
 pub record Flows (left held left' held' : Option (List ℕ)) (first : List ℕ) (p : Pump) : Type 0 where
   pub pumped : Pumped left held left' held' first tunnel_limit p
   pub over : PumpedOver left held held' first tunnel_limit p
 
--- the reply's head went to the client, and then all bytes went both ways, those first that had come behind either head
+-- The reply's head, `text`, went to the client, and then all bytes went both ways: to the upstream those in `first`, which had come behind
+-- the request's head, and to the client those in `behind`, which had come behind the reply's. up and down tell how either way ended, s how
+-- the upstream's ends were left, and old and new are all that the call touches, before and after
 pub record Tunnelled (old new : Place) (first text behind : List ℕ) (up down : Pump) (s : Sides) : Type 0 where
   pub answered : Option (List ℕ)
   pub passed : Appends old.held text answered
@@ -71,21 +76,23 @@ pub record Tunnelled (old new : Place) (first text behind : List ℕ) (up down :
   pub up_shut : s.upper_shut ≡ true
   pub down_shut : s.lower_shut ≡ true
 
--- the sides weren't had, or the reply's head was written in part
+-- The upstream's two sides weren't had, or the reply's head, `text`, was written in part
 abbrev pub Unopened : Place → Place → List ℕ → Result Forwarded SessionFault → Type 0
 Unopened old new text r =
     (IsWritten refusal.Link old.held new.held old.writes new.writes r × Rises old.links new.links)
     ⊎ ((part more : List ℕ) × (text ≡ part ++ more) × Appends old.held part new.held × Rises old.writes new.writes
     × (r ≡ Err (WriteFault 0)))
 
--- what came of a reply that switches over
+-- What came of a reply that switches over, whose head is `text`: no tunnel, where the upstream's sides weren't had or that head was written
+-- in part; or a tunnel and how its two ways ended. `first` had come behind the request's head and `behind` behind the reply's; `sides` says
+-- how an upstream's two sides were left; old and new are all that the call touches, before and after
 abbrev pub OpenEnds : {R W : Type 0} → (R → W → Sides) → Place → Place → List ℕ → List ℕ → List ℕ → Result (Carried R W) SessionFault
     → Type 0
 OpenEnds {R} {W} sides old new first text behind result =
     ((r : Result Forwarded SessionFault) × (result ≡ one_of r) × (new.left ≡ old.left) × Unopened old new text r)
     ⊎ ((up down : Pump) × (x : R) × (y : W) × (result ≡ Ok (Tunnel up down x y)) × Tunnelled old new first text behind up down (sides x y))
 
--- the request's head was sent, a reply's head of status 101 came, and a tunnel was opened
+-- The head of the upgrade q was sent, a reply's head of status 101 came, and a tunnel was opened, whose ways ended as a and b tell
 pub record Switched (q : Going) (old new : Place) (a b : Pump) (s : Sides) : Type 0 where
   pub asked : q.upgrade ≡ true
   pub got : List ℕ
@@ -97,13 +104,14 @@ pub record Switched (q : Going) (old new : Place) (a b : Pump) (s : Sides) : Typ
   pub status : status_code reply ≡ 101
   pub tunnelled : Tunnelled (record old { told = new.told }) new old.kept (reply_passed reply) rest a b s
 
--- how a request to an upstream that is connected ends
+-- How the request q to an upstream that is connected ends: as one that is passed on, or as a tunnel. `sides` says how an upstream's two
+-- sides were left; old and new are all that the call touches, before and after
 abbrev pub LinkEnds : {R W : Type 0} → (R → W → Sides) → Going → Place → Place → Result (Carried R W) SessionFault → Type 0
 LinkEnds {R} {W} sides q old new result =
     ((r : Result Forwarded SessionFault) × (result ≡ one_of r) × PassEnds q old new r)
     ⊎ ((up down : Pump) × (x : R) × (y : W) × (result ≡ Ok (Tunnel up down x y)) × Switched q old new up down (sides x y))
 
--- the upstream was connected, a tunnel opened and ended, and the upstream finished
+-- The upstream at this target was connected, a tunnel opened and ended, and the upstream finished
 pub record Through (q : Going) (target : List ℕ) (old new : Place) (a b : Pump) (s : Sides) : Type 0 where
   pub linked : Option Told
   pub links : ℕ
@@ -113,7 +121,7 @@ pub record Through (q : Going) (target : List ℕ) (old new : Place) (a b : Pump
   pub finishes : Finishes moved new.told
   pub switched : Switched q (record old { told = linked; links = links }) (record new { told = moved }) a b s
 
--- how a request to a target ends
+-- How the request q to this target ends: as one that is passed on, or as a tunnel
 abbrev pub CarryOn : {R W : Type 0} → (R → W → Sides) → Going → List ℕ → Place → Place → Result (Carried R W) SessionFault → Type 0
 CarryOn {R} {W} sides q target old new result =
     ((r : Result Forwarded SessionFault) × (result ≡ one_of r) × PassOn q target old new r)
@@ -128,7 +136,7 @@ going head framing = record {
   framing = framing;
 }
 
--- a head came, and the request was carried
+-- A head came, a target was found for it among the routes, and the request was carried there
 pub record CarriedOn {L R W : Type 0} (found : Found L) (sides : R → W → Sides) (now : ℕ) (old new : Place) (routes routes' : L)
     (result : Result (Carried R W) SessionFault) : Type 0 where
   pub head : RequestHead
@@ -143,7 +151,9 @@ pub record CarriedOn {L R W : Type 0} (found : Found L) (sides : R → W → Sid
   pub chosen : IsChosen found (head_of head) now routes routes' framing target
   pub carried : CarryOn sides (going (head_of head) framing) target (record old { left = left; kept = kept; reads = reads }) new result
 
--- how one request is carried
+-- How one request is carried at the moment `now`: no head came, or no target was found for it; or it was carried. `found` says what a look
+-- among the routes finds, which are `routes` before and `routes'` after; `sides` says how an upstream's two sides were left; old and new
+-- are all else that the call touches, before and after
 abbrev pub CarryEnds : {L R W : Type 0} → Found L → (R → W → Sides) → ℕ → Place → Place → L → L → Result (Carried R W) SessionFault → Type 0
 CarryEnds found sides now old new routes routes' result =
     ((r : Result Forwarded SessionFault) × (result ≡ one_of r)
