@@ -20,17 +20,18 @@ access_request key token =
 abbrev pub access_in : List ℕ → Option Bool
 access_in body = body_object body >>= truth_at (codes "access")
 
+-- What a hub says of a token, by the truth value in the body of its reply, if one is there
 abbrev pub access_said : Option Bool → Access
 access_said None = BadReply
 access_said (Some true) = Yes
 access_said (Some false) = No
 
--- by a reply's status and body
+-- What a hub says of a token, by its reply's status and body
 abbrev pub access_by : ℕ → List ℕ → Access
 access_by status body =
     if status == 200 then access_said (access_in body) else if status == 403 then NoToken else BadReply
 
--- by what bytes say as a reply, if they are one
+-- What a hub says of a token, by what the bytes of its reply say, if they are a reply
 abbrev pub access_of : Option (ℕ × List ℕ) → Access
 access_of None = BadReply
 access_of (Some (status, body)) = access_by status body
@@ -39,11 +40,11 @@ access_of (Some (status, body)) = access_by status body
 abbrev pub IsAccessOf : List ℕ → Access → Type 0
 IsAccessOf bytes access = (said : Option (ℕ × List ℕ)) × Says bytes said × (access ≡ access_of said)
 
--- the request was asked once, and the bytes that came say this
+-- The request was asked once and nothing else, and the bytes that came say this of the token
 abbrev pub IsAnswered : List ℕ → List Exchange → Access → Type 0
 IsAnswered request asks access = (bytes : List ℕ) × (asks ≡ (request, Ok bytes) ∷ []) × IsAccessOf bytes access
 
--- the request was asked once and failed; or there was no memory, and it was asked once or not at all
+-- The request was asked once and failed; or there was no memory, and it was asked once or not at all
 abbrev pub IsUnanswered : List ℕ → List Exchange → LinkError → Type 0
 IsUnanswered request asks Failed = asks ≡ (request, Err Failed) ∷ []
 IsUnanswered request asks Memory = (asks ≡ []) ⊎ ((given : Result (List ℕ) LinkError) × (asks ≡ (request, given) ∷ []))

@@ -21,7 +21,8 @@ use Rattle.guard.specs.declared.guards.Verdict.TheVariants as verdict
 use Rattle.guard.specs.Denials.{IsDenied}
 use Rattle.guard.specs.Guards.{Judges, Unsent, Unread, Unframed}
 
--- a request whose head was taken is carried, or refused with nothing sent
+-- What follows the verdict on the request q, whose head was taken: it is carried to the target, or refused with nothing sent. `sides` says
+-- how an upstream's two sides were left; old is all that the call touches, and new the same after it
 abbrev pub CarryFollows : {R W : Type 0} → Verdict → (R → W → Sides) → Going → List ℕ → Place → Place → Result (Carried R W) SessionFault
     → Type 0
 CarryFollows verdict.Pass sides q target old new result = CarryOn sides q target old new result
@@ -49,7 +50,9 @@ pub record CarryJudged {R W : Type 0} (key : ServerKey) (target : List ℕ) (sid
   pub follows : CarryFollows verdict sides (going (head_of head) framing) target (record old { left = left; kept = kept; reads = reads })
       new result
 
--- how one request at a guard is carried
+-- How one request at a guard is carried, which stands before the server of this key at this target: no head came, one whose body can't be
+-- served did, or its token decided. asks are what the hub was asked, faults the link's count of faults, and old all else that the call
+-- touches; with a prime, and new: after
 abbrev pub GuardCarries : {R W : Type 0} → ServerKey → List ℕ → (R → W → Sides) → List Exchange → ℕ → ℕ → Place → Place
     → Result (Carried R W) SessionFault → Type 0
 GuardCarries key target sides asks faults faults' old new result =

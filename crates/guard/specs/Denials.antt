@@ -10,6 +10,7 @@ use Rattle.proxy_core.specs.Refusals.{refused_with}
 use Rattle.guard.specs.declared.denials.Denial.{Denial}
 use Rattle.guard.specs.declared.denials.Denial.TheVariants.{NoToken, NoAccess, BadHub, Hub, BadQuery, BadState, BadNext, SignIn, Random}
 
+-- The status of a refusal that the guard itself writes
 abbrev pub denial_status : Denial → ℕ
 denial_status NoToken = 403
 denial_status NoAccess = 403
@@ -21,6 +22,7 @@ denial_status BadNext = 400
 denial_status SignIn = 403
 denial_status Random = 503
 
+-- The bytes of such a refusal
 abbrev pub denial_text : Denial → List ℕ
 denial_text NoToken = refused_with 403 (codes "no valid token")
 denial_text NoAccess = refused_with 403 (codes "no access")
@@ -32,7 +34,8 @@ denial_text BadNext = refused_with 400 (codes "bad next")
 denial_text SignIn = refused_with 403 (codes "sign-in refused")
 denial_text Random = refused_with 503 (codes "random")
 
--- the refusal was written, or a part of it and the sink's count rose
+-- The refusal was written, or a part of it and the sink's count of faults rose. held is what the sink held, and writes its count; with a
+-- prime: after
 abbrev pub IsDenied : Denial → Option (List ℕ) → Option (List ℕ) → ℕ → ℕ → Result Forwarded SessionFault → Type 0
 IsDenied d held held' writes writes' (Ok Passed) = ⊥
 IsDenied d held held' writes writes' (Ok (Refused s)) = (s ≡ denial_status d) × Appends held (denial_text d) held'

@@ -30,7 +30,7 @@ use Rattle.guard.specs.declared.guards.Verdict.TheVariants as verdict
 use Rattle.guard.specs.Access.{access_request, IsAnswered, IsUnanswered}
 use Rattle.guard.specs.Denials.{IsDenied}
 
--- what the hub's answer means for a request
+-- What the hub's answer means for a request: it is passed on, refused, or can't be decided for want of memory
 abbrev pub verdict_of : Result Access LinkError → Verdict
 verdict_of (Ok Yes) = verdict.Pass
 verdict_of (Ok No) = verdict.Deny denial.NoAccess
@@ -39,25 +39,27 @@ verdict_of (Ok BadReply) = verdict.Deny denial.BadHub
 verdict_of (Err Failed) = verdict.Deny denial.Hub
 verdict_of (Err Memory) = verdict.Memory
 
--- what the link's asks came to, `faults` being its count before them
+-- What the link's asks for this request came to; `faults` is the link's count of faults before them, and `faults'` after them
 abbrev pub Answers : List ℕ → List Exchange → ℕ → ℕ → Result Access LinkError → Type 0
 Answers request asks faults faults' (Ok access) = IsAnswered request asks access
 Answers request asks faults faults' (Err Failed) = IsUnanswered request asks Failed × Rises faults faults'
 Answers request asks faults faults' (Err Memory) = IsUnanswered request asks Memory
 
--- a request without a token is refused and nothing asked; for one with a token the hub's answer to one ask decides
+-- The verdict on a request with this token, if it has one, at the server of this key: without a token it is refused and nothing asked; with
+-- one the hub's answer to one ask decides
 abbrev pub Judges : ServerKey → Option (List ℕ) → List Exchange → ℕ → ℕ → Verdict → Type 0
 Judges key None asks faults faults' v = (asks ≡ []) × (v ≡ verdict.Deny denial.NoToken)
 Judges key (Some token) asks faults faults' v =
     (answer : Result Access LinkError) × Answers (access_request key token) asks faults faults' answer × (v ≡ verdict_of answer)
 
--- nothing was taken, and nothing went to the upstream
+-- Nothing was taken of the client, and nothing went to the upstream
 pub record Unsent (old new : Place) : Type 0 where
   pub left : new.left ≡ old.left
   pub kept : new.kept ≡ old.kept
   pub told : new.told ≡ old.told
 
--- a request whose head was taken is passed on, or refused with nothing sent
+-- What follows the verdict on the request q, whose head was taken: it is passed on to the target, or refused with nothing sent. old is all
+-- that the call touches, and new the same after it
 abbrev pub Follows : Verdict → Going → List ℕ → Place → Place → Result Forwarded SessionFault → Type 0
 Follows verdict.Pass q target old new result = PassOn q target old new result
 Follows (verdict.Deny d) q target old new result = Unsent old new × IsDenied d old.held new.held old.writes new.writes result
@@ -103,7 +105,9 @@ pub record Judged (key : ServerKey) (target : List ℕ) (asks : List Exchange) (
       target
       (record old { left = left; kept = kept; reads = reads }) new result
 
--- how one request at a guard ends
+-- How one request at a guard ends, which stands before the server of this key at this target: no head came, one whose body can't be served
+-- did, or its token decided. asks are what the hub was asked, faults the link's count of faults, and old all else that the call touches;
+-- with a prime, and new: after
 abbrev pub GuardEnds : ServerKey → List ℕ → List Exchange → ℕ → ℕ → Place → Place → Result Forwarded SessionFault → Type 0
 GuardEnds key target asks faults faults' old new result =
     Unread asks old new result ⊎ (Unframed asks old new result ⊎ Judged key target asks faults faults' old new result)
