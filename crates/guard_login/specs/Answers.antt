@@ -25,32 +25,35 @@ use Rattle.guard_login.specs.declared.steps.Step.TheVariants.{Pass, Deny, Start,
 
 -- ---- the ask
 
--- the request was asked once, if there is one, and came to this: a failed link's count rose
+-- The hub was asked this once, if there is a request, and nothing else, and it came to `given`; where the link failed its count of faults
+-- rose from `faults` to `faults'`
 abbrev pub IsGiven : Option (List ℕ) → List Exchange → ℕ → ℕ → Given → Type 0
 IsGiven None asks faults faults' given = asks ≡ []
 IsGiven (Some request) asks faults faults' (said reply) = (bytes : List ℕ) × (asks ≡ (request, Ok bytes) ∷ []) × Says bytes reply
 IsGiven (Some request) asks faults faults' failed = (asks ≡ (request, Err Failed) ∷ []) × Rises faults faults'
 
--- there was no memory: the request was asked once, if there is one, or nothing was
+-- There was no memory: the hub was asked this once, if there is a request, or nothing was
 abbrev pub IsUngiven : Option (List ℕ) → List Exchange → Type 0
 IsUngiven None asks = asks ≡ []
 IsUngiven (Some request) asks = (asks ≡ []) ⊎ ((given : Result (List ℕ) LinkError) × (asks ≡ (request, given) ∷ []))
 
--- what is made of what the hub gave
+-- What is made (`by`) of what the hub gave to this ask, if there is one; or there was no memory. asks and the two counts are the link's
+-- asks and its faults before and after
 abbrev pub Steps : {S : Type 0} → Option (List ℕ) → (Given → S) → List Exchange → ℕ → ℕ → Result S AllocError → Type 0
 Steps ask by asks faults faults' (Ok step) = (given : Given) × IsGiven ask asks faults faults' given × (step ≡ by given)
 Steps ask by asks faults faults' (Err e) = IsUngiven ask asks
 
 -- ---- the draw
 
--- whether a draw is taken
+-- Whether a draw is taken for this step
 abbrev pub draws : Step → Bool
 draws Pass = false
 draws (Deny denial) = false
 draws Start = true
 draws (Give token next) = false
 
--- this was drawn, or the device failed and its count rose; or nothing was
+-- Where a draw is taken, this was drawn, or the device failed and its count of faults rose; else nothing was. `left` and `faults` say what
+-- such a device tells; it was `old` before and is `new` after
 abbrev pub Drew : {R : Type 0} → (R → Option (List (List ℕ))) → (R → ℕ) → R → R → Bool → Option (List ℕ) → Type 0
 Drew left faults old new false draw = new ≡ old
 Drew left faults old new true (Some draw) = Takes (left old) (draw ∷ []) (left new)
@@ -58,40 +61,42 @@ Drew left faults old new true None = (left new ≡ left old) × Rises (faults ol
 
 -- ---- the answer
 
+-- How a request ends that wasn't passed on, or whose head didn't come, as an end of a guard that lets browsers sign in
 abbrev pub as_signed : Forwarded → Signed
 as_signed forwarded.Passed = signed.Carried forwarded.Passed
 as_signed (forwarded.Refused s) = signed.Refused s
 as_signed forwarded.Ended = signed.Ended
 as_signed forwarded.Cut = signed.Cut
 
--- how an answer that was written here, or a head that didn't come, ends the request
+-- How an answer that was written here, or a head that didn't come, ends the request
 abbrev pub signing : Result Forwarded SessionFault → Result Signed SessionFault
 signing (Ok f) = Ok (as_signed f)
 signing (Err e) = Err e
 
--- how a request that was passed on ends
+-- How a request that was passed on ends
 abbrev pub carrying : Result Forwarded SessionFault → Result Signed SessionFault
 carrying (Ok f) = Ok (signed.Carried f)
 carrying (Err e) = Err e
 
--- there was no memory for the answer
+-- There was no memory for the answer, and that was written, or a part of it and the sink's count of faults rose. held is what the sink held
+-- and writes its count of faults; with a prime: after, here and below
 abbrev pub Wants : Option (List ℕ) → Option (List ℕ) → ℕ → ℕ → Result Signed SessionFault → Type 0
 Wants held held' writes writes' result =
     (f : Result Forwarded SessionFault) × IsWritten refusal.Memory held held' writes writes' f × (result ≡ signing f)
 
--- the refusal was written, or a part of it and the sink's count rose
+-- The refusal was written, or a part of it and the sink's count of faults rose
 abbrev pub Denies : Denial → Option (List ℕ) → Option (List ℕ) → ℕ → ℕ → Result Signed SessionFault → Type 0
 Denies denial held held' writes writes' result =
     (f : Result Forwarded SessionFault) × IsDenied denial held held' writes writes' f × (result ≡ signing f)
 
--- the text was written, and the call answers this; or a part of it, and the sink's count rose
+-- The text was written, and the request ends so; or a part of it was, and the sink's count of faults rose
 abbrev pub Writes : List ℕ → Signed → Option (List ℕ) → Option (List ℕ) → ℕ → ℕ → Result Signed SessionFault → Type 0
 Writes text answer held held' writes writes' (Ok a) = (a ≡ answer) × Appends held text held'
 Writes text answer held held' writes writes' (Err (ReadFault n)) = ⊥
 Writes text answer held held' writes writes' (Err (WriteFault n)) =
     (part more : List ℕ) × (text ≡ part ++ more) × Appends held part held' × Rises writes writes' × (n ≡ 0)
 
--- an answer that is no request passed on was written, or there was no memory for its text
+-- An answer of a guard of this door that is no request passed on was written, or there was no memory for its text
 abbrev pub Answers : Door → Answer → Option (List ℕ) → Option (List ℕ) → ℕ → ℕ → Result Signed SessionFault → Type 0
 Answers door passes held held' writes writes' result = ⊥
 Answers door (refuses denial) held held' writes writes' result = Denies denial held held' writes writes' result

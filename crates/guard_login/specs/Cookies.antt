@@ -29,6 +29,7 @@ abbrev pub prefix_of : Cookie → List ℕ
 prefix_of Token = codes "hub-guard="
 prefix_of State = codes "hub-guard-state="
 
+-- The value has the form of this cookie's values
 abbrev pub is_form : Cookie → List ℕ → Bool
 is_form Token value = is_token value
 is_form State value = is_state value
@@ -51,6 +52,7 @@ in_form kind (Some value) = if is_form kind value then Some value else None
 abbrev pub value_in : Cookie → List ℕ → Option (List ℕ)
 value_in kind piece = in_form kind (value_after (prefix_of kind) (unblank piece))
 
+-- The first of two values that may lack, or else the second
 abbrev pub first_some : {A : Type 0} → Option A → Option A → Option A
 first_some None other = other
 first_some (Some a) other = Some a

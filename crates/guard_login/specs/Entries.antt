@@ -25,15 +25,18 @@ use Rattle.guard_login.specs.declared.door.Door.{Door}
 use Rattle.guard_login.specs.declared.entries.Entered.{Entered}
 use Rattle.guard_login.specs.declared.entries.Entered.TheVariants as entered
 
+-- How a request that is no upgrade ended, as an end of a guard that carries upgrades too
 abbrev pub signed_as : {X Y : Type 0} → Result Signed SessionFault → Result (Entered X Y) SessionFault
 signed_as (Ok s) = Ok (entered.Signed s)
 signed_as (Err e) = Err e
 
+-- How an upgrade ended, as such an end
 abbrev pub carried_as : {X Y : Type 0} → Result (Carried X Y) SessionFault → Result (Entered X Y) SessionFault
 carried_as (Ok c) = Ok (entered.Carried c)
 carried_as (Err e) = Err e
 
--- an upgrade: its token, the header's or else the cookie's, was asked about if it has one, and the answer decides
+-- An upgrade with this head: its token, the header's or else the cookie's, was asked about if it has one, and the answer decides whether it
+-- is carried to the door's target. fails is the link's count of faults and old all else that the call touches; with a prime, and new: after
 abbrev pub Upgrades : {X Y : Type 0} → (X → Y → Sides) → Door → Head → Framing → List Exchange → ℕ → ℕ → Place → Place
     → Result (Carried X Y) SessionFault → Type 0
 Upgrades sides door head framing asks fails fails' old new result =
@@ -51,7 +54,7 @@ IsTaken left faults random random' sides false door head framing asks fails fail
     (r : Result Signed SessionFault) × (result ≡ signed_as r)
     × IsTreated left faults random random' door head framing asks fails fails' old new r
 
--- a head came whose body has a length that is served
+-- A head came whose body has a length that is served, and it was taken as what it is
 pub record Headed {R X Y : Type 0} (left_of : R → Option (List (List ℕ))) (faults : R → ℕ) (random random' : R) (sides : X → Y → Sides)
     (door : Door) (asks : List Exchange) (fails fails' : ℕ) (old new : Place) (result : Result (Entered X Y) SessionFault) : Type 0 where
   pub head : RequestHead
@@ -66,7 +69,9 @@ pub record Headed {R X Y : Type 0} (left_of : R → Option (List (List ℕ))) (f
   pub enters : IsTaken left_of faults random random' sides (is_upgrade (head_of head) framing) door (head_of head) framing asks fails fails'
       (record old { left = left; kept = kept; reads = reads }) new result
 
--- how one request ends: without a head that is served nothing was asked or drawn
+-- How one request at a guard of this door ends: no head that is served came, so that nothing was asked or drawn; or one came, and was taken
+-- as what it is. random is the source of draws, fails the link's count of faults, and old all else that the call touches; with a prime, and
+-- new: after
 abbrev pub EnterEnds : {R X Y : Type 0} → (R → Option (List (List ℕ))) → (R → ℕ) → R → R → (X → Y → Sides) → Door → List Exchange → ℕ → ℕ
     → Place → Place → Result (Entered X Y) SessionFault → Type 0
 EnterEnds left faults random random' sides door asks fails fails' old new result =

@@ -12,7 +12,7 @@ use Rattle.guard_login.specs.declared.cookies.Cookie.TheVariants.{State}
 use Rattle.guard_login.specs.declared.door.Door.{Door}
 use Rattle.guard_login.specs.declared.steps.Called.{Called}
 
--- the hub said in this call that it admits the request's token
+-- The hub said in this call that it admits the request's token: it was asked just that, and its reply says yes
 pub record Admitted (door : Door) (head : Head) (given : Given) (ask : Option (List ℕ)) : Type 0 where
   pub token : List ℕ
   pub body : List ℕ
@@ -29,7 +29,8 @@ pub record SameState (head : Head) : Type 0 where
   pub kept : cookie_of State head.headers ≡ Some cookie
   pub same : bytes_eq (take 32 cookie) state ≡ true
 
--- a code that came with the browser's own state was traded in this call for this token
+-- A code that came with the browser's own state was traded in this call for this token, and `next` is the place that the browser's cookie
+-- has
 pub record Traded (door : Door) (head : Head) (given : Given) (ask : Option (List ℕ)) (token next : List ℕ) : Type 0 where
   pub own : SameState head
   pub call : Called
@@ -40,11 +41,13 @@ pub record Traded (door : Door) (head : Head) (given : Given) (ask : Option (Lis
   pub has : token_in body ≡ Some token
   pub goes : next ≡ call.next
 
+-- A request is passed on only where the hub said in the same call that it admits the request's token
 abbrev pub PassesOnlyAdmitted : Type 0
 PassesOnlyAdmitted =
     (door : Door) (head : Head) (given : Given) (draw : Option (List ℕ)) → (signed door head given draw).answer ≡ passes
     → Admitted door head given (signed door head given draw).ask
 
+-- A browser gets a token only where a code that came with its own state was traded for that token in the same call
 abbrev pub GivesOnlyTraded : Type 0
 GivesOnlyTraded =
     (door : Door) (head : Head) (given : Given) (draw : Option (List ℕ)) (token next : List ℕ)

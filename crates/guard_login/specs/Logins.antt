@@ -19,11 +19,12 @@ use Rattle.guard_login.specs.declared.answers.Signed.{Signed}
 use Rattle.guard_login.specs.declared.door.Door.{Door}
 use Rattle.guard_login.specs.declared.steps.Step.{Step}
 
--- a request as it is sent on
+-- A request with this head and framing as it is sent on
 abbrev pub going_of : Head → Framing → Going
 going_of head framing = record { upgrade = false; method = head.method; text = request_text false head; framing = framing }
 
--- the answer to a request whose head was taken: it was passed on, or nothing was sent to the upstream
+-- What was done with a request whose head was taken, for this answer: it was passed on to the door's target, or the answer was written and
+-- nothing sent there. old is all that the call touches, and new the same after it
 abbrev pub Ends : Door → Head → Framing → Answer → Place → Place → Result Signed SessionFault → Type 0
 Ends door head framing passes old new result =
     (f : Result Forwarded SessionFault) × PassOn (going_of head framing) door.target old new f × (result ≡ carrying f)
@@ -34,7 +35,8 @@ Ends door head framing (sends state next) old new result =
 Ends door head framing (gives token next) old new result =
     Unsent old new × Answers door (gives token next) old.held new.held old.writes new.writes result
 
--- what the answer to a step did, with its draw if it takes one
+-- What was done for this step, with a draw where it takes one. random is the source of draws, of which `left` and `faults` say what it
+-- tells; with a prime: after
 abbrev pub Finishes : {R : Type 0} → (R → Option (List (List ℕ))) → (R → ℕ) → R → R → Door → Head → Framing → Step → Place → Place
     → Result Signed SessionFault → Type 0
 Finishes left faults random random' door head framing step old new result =
@@ -50,7 +52,7 @@ IsTreated left faults random random' door head framing asks fails fails' old new
     × Finishes left faults random random' door head framing (stepped door head given) old new result)
     ⊎ (IsUngiven (asked door head) asks × (random' ≡ random) × Unsent old new × Wants old.held new.held old.writes new.writes result)
 
--- a head came whose body has a length that is served
+-- A head came whose body has a length that is served, and it was treated by the rules
 pub record Stepped {R : Type 0} (left_of : R → Option (List (List ℕ))) (faults : R → ℕ) (random random' : R) (door : Door)
     (asks : List Exchange) (fails fails' : ℕ) (old new : Place) (result : Result Signed SessionFault) : Type 0 where
   pub head : RequestHead
@@ -65,7 +67,9 @@ pub record Stepped {R : Type 0} (left_of : R → Option (List (List ℕ))) (faul
   pub follows : IsTreated left_of faults random random' door (head_of head) framing asks fails fails'
       (record old { left = left; kept = kept; reads = reads }) new result
 
--- how one request ends: without a head that is served nothing was asked or drawn
+-- How one request at a guard of this door ends: no head that is served came, so that nothing was asked or drawn; or one came, and was
+-- treated by the rules. random is the source of draws, fails the link's count of faults, and old all else that the call touches; with a
+-- prime, and new: after
 abbrev pub LoginEnds : {R : Type 0} → (R → Option (List (List ℕ))) → (R → ℕ) → R → R → Door → List Exchange → ℕ → ℕ
     → Place → Place → Result Signed SessionFault → Type 0
 LoginEnds left faults random random' door asks fails fails' old new result =

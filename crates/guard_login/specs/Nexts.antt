@@ -6,6 +6,7 @@ use Rattle.hex.specs.Hex.{decode_of}
 use Rattle.hex.specs.declared.error.FromHexError.{FromHexError}
 use Rattle.hub_kit.specs.declared.names.ServerKey.{ServerKey}
 
+-- What stands for the server in its base: its name and a slash, or nothing for the server without a name
 abbrev pub server_part : List ℕ → List ℕ
 server_part [] = []
 server_part (b ∷ server) = (b ∷ server) ++ codes "/"
@@ -26,6 +27,7 @@ is_next base target = nat_le (length target) 1024 && (list_all is_next_byte targ
 abbrev pub next_of : List ℕ → List ℕ → List ℕ
 next_of base target = if is_next base target then target else base
 
+-- The target that was read of hex, where it is allowed behind this base
 abbrev pub allowed : List ℕ → Result (List ℕ) FromHexError → Option (List ℕ)
 allowed base (Ok target) = if is_next base target then Some target else None
 allowed base (Err e) = None

@@ -19,6 +19,7 @@ authorize_pairs client callback state =
     append_pair (append_pair (append_pair (append_pair [] (codes "client_id") client) (codes "redirect_uri") callback)
     (codes "response_type") (codes "code")) (codes "state") state
 
+-- That query for the server's client, with this state
 abbrev pub authorize_form : ServerKey → List ℕ → List ℕ
 authorize_form key state = authorize_pairs (client_of key) (callback_of key) state
 
@@ -26,6 +27,7 @@ authorize_form key state = authorize_pairs (client_of key) (callback_of key) sta
 unfoldable pub authorize_url : Door → List ℕ → List ℕ
 authorize_url door state = door.hub ++ codes "/hub/api/oauth2/authorize?" ++ authorize_form door.key state
 
+-- The fields of a trade: the client with its secret, the code, and where the hub sent the browser back
 unfoldable pub trade_pairs : List ℕ → List ℕ → List ℕ → List ℕ → List ℕ
 trade_pairs client secret code callback =
     append_pair (append_pair (append_pair (append_pair (append_pair [] (codes "client_id") client) (codes "client_secret") secret)
