@@ -12,6 +12,8 @@ use Rattle.guard_serving.specs.declared.ends.GuardEnd.{GuardEnd}
 use Rattle.guard_serving.specs.declared.ends.GuardFault.{GuardFault}
 use Rattle.guard_serving.specs.declared.ends.GuardFault.TheVariants.{Words, NoFile, NoSecret, Output, Memory, Listener, Full}
 
+-- The exit status of a guard that ended so: 2 for the words, 3 for the secret, 6 for the output, 7 for want of memory, 8 for the listener,
+-- and 0 at the greatest number of connections
 abbrev pub status_of : GuardFault → ℕ
 status_of Full = 0
 status_of Words = 2
@@ -21,11 +23,13 @@ status_of Output = 6
 status_of Memory = 7
 status_of Listener = 8
 
+-- Why a guard ends that has no secret to serve by
 abbrev pub fault_of_secret : SecretError → GuardFault
 fault_of_secret secret.NoFile = NoFile
 fault_of_secret secret.NoSecret = NoSecret
 fault_of_secret secret.Memory = Memory
 
+-- Why a guard ends whose connections were served to this end
 abbrev pub fault_of_hall : Result (Unit {0}) HallFault → GuardFault
 fault_of_hall (Ok _) = Full
 fault_of_hall (Err (hall.Listener n)) = Listener
@@ -39,12 +43,12 @@ unserved fault = record { served = 0; fault = fault }
 abbrev pub ready : List ℕ
 ready = codes "ready\n"
 
--- `ready` was written, and so many connections were taken
+-- `ready` was written, and so many connections were taken, from h to h'
 pub record HasServed (h : Hall) (count : ℕ) (h' : Hall) : Type 0 where
   pub said : Appends h.held ready h'.held
   pub gave : Gave h.given count h'.given
 
--- the output failed after a part of `ready`, and no connection was taken
+-- The output failed after a part of `ready`, and no connection was taken
 pub record IsUnsaid (h h' : Hall) : Type 0 where
   pub part : List ℕ
   pub more : List ℕ
@@ -53,7 +57,7 @@ pub record IsUnsaid (h h' : Hall) : Type 0 where
   pub rises : Rises h.writes h'.writes
   pub none : h'.given ≡ h.given
 
--- how a guard that begins to serve ends
+-- How a guard that begins to serve ends, after so many connections: h is what it had outside before, and h' what it has then
 abbrev pub Over : Hall → (count : ℕ) → GuardFault → Hall → Type 0
 Over h count Words h' = ⊥
 Over h count NoFile h' = ⊥
@@ -63,5 +67,6 @@ Over h count Memory h' = (count ≡ 0) × ((h' ≡ h) ⊎ HasServed h 0 h')
 Over h count Listener h' = HasServed h count h' × Rises h.accepts h'.accepts
 Over h count Full h' = HasServed h count h' × (count ≡ 2 ^ 64 - 1)
 
+-- The same of the whole end, which tells that number and why
 abbrev pub IsOver : Hall → GuardEnd → Hall → Type 0
 IsOver h end h' = Over h end.served end.fault h'
