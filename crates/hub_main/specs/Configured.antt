@@ -46,11 +46,12 @@ pub record IsFile (files : FilesTold) (name : List ℕ) (file : FileConfig) : Ty
   pub reads : Reads files.files name most bytes
   pub said : IsSaid bytes file
 
--- these bytes are none
+-- These bytes are no configuration
 abbrev pub AreNone : List ℕ → Type 0
 AreNone bytes = (file : FileConfig) → config_in bytes ≡ Some file → ¬ (IsSound file)
 
--- why these bytes say nothing: they are no configuration, unless memory was wanting
+-- Why these bytes say nothing: they are no configuration, which the cause hands back as they were read, or memory was wanting. No other
+-- cause comes here
 abbrev pub IsUnsaid : List ℕ → Cause → Type 0
 IsUnsaid bytes (NoConfig read) = (read ≡ bytes) × AreNone bytes
 IsUnsaid bytes Memory = ⊤
@@ -60,17 +61,18 @@ IsUnsaid bytes (UnknownName unknown) = ⊥
 IsUnsaid bytes NoStore = ⊥
 IsUnsaid bytes (NotOpened e) = ⊥
 
--- what is said of the hub by the file of this name, or where no file is named
+-- What is said of the hub by the file of this name, or where no file is named
 abbrev pub IsFound : FilesTold → (name : Option (List ℕ)) → HubConfig → Type 0
 IsFound files None hub = hub ≡ bare
 IsFound files (Some name) hub = (file : FileConfig) × IsFile files name file × (hub ≡ file.hub)
 
--- these bytes were read of the named file, and are no configuration
+-- These bytes were read of the named file, and are no configuration
 abbrev pub IsNoConfig : FilesTold → (name : Option (List ℕ)) → List ℕ → Type 0
 IsNoConfig files None bytes = ⊥
 IsNoConfig files (Some name) bytes = Reads files.files name most bytes × AreNone bytes
 
--- why nothing was found: the count of the files' faults rose, or what was read is no configuration
+-- Why no configuration was found under this name: the count of the files' faults rose from `files` to `files'`, what was read is no
+-- configuration, or memory was wanting. No other cause comes here
 abbrev pub IsUnfound : (files files' : FilesTold) → (name : Option (List ℕ)) → Cause → Type 0
 IsUnfound files files' name NoFile = Rises files.faults files'.faults
 IsUnfound files files' name (NoConfig bytes) = IsNoConfig files name bytes
@@ -94,7 +96,8 @@ with_words words hub = record hub {
   tokens = hub.tokens ++ token_of words ∷ [];
 }
 
--- the configuration of a session
+-- The configuration of a session with these words: what their file says, or that of a hub without a file, with the user of the words and
+-- its token last
 pub record IsConfig (files : FilesTold) (words : SessionWords) (config : HubConfig) : Type 0 where
   pub hub : HubConfig
   pub found : IsFound files words.config hub

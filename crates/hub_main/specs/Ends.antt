@@ -13,7 +13,8 @@ use Rattle.hub_main.specs.declared.cause.Cause.TheVariants.{Words, Memory, NoFil
 abbrev pub End : Type 0
 End = Result (Result Served SessionFault) Cause
 
--- of a connection that was served: 0 at its end, 10 inside a request, 5 and 6 where the input or the output failed
+-- The status of a connection that was served: 0 where the input ended between two requests or the hub closed it, 10 where the input ended
+-- inside a request, 5 where the input failed, and 6 where the output did
 abbrev pub served_status : Result Served SessionFault → ℕ
 served_status (Ok (Ended n)) = 0
 served_status (Ok (Closed n)) = 0
@@ -21,7 +22,8 @@ served_status (Ok (Cut n)) = 10
 served_status (Err (ReadFault n)) = 5
 served_status (Err (WriteFault n)) = 6
 
--- of a hub that isn't opened: 3 what the configuration limits, 4 the store or a row, 7 memory
+-- The status where no book was opened, by the reason: 3 for what the configuration limits, the targets and the numbers of rows; 4 for the
+-- store or a row in it; 7 for want of memory
 abbrev pub open_status : OpenError → ℕ
 open_status (opening.LostTarget target) = 3
 open_status (opening.Full kind limit) = 3
@@ -29,7 +31,8 @@ open_status opening.KeeperFault = 4
 open_status (opening.BadRow kind key) = 4
 open_status opening.Memory = 7
 
--- of what came before the connection: 2 the words, 3 the file or a name in it, 4 the store, 7 memory
+-- The status where no connection was served, by the cause: 2 for the words, 3 for the file or a name in it, 4 for the store, 7 for want of
+-- memory; where no book was opened, that of the reason
 abbrev pub cause_status : Cause → ℕ
 cause_status Words = 2
 cause_status NoFile = 3
@@ -39,7 +42,7 @@ cause_status NoStore = 4
 cause_status (NotOpened e) = open_status e
 cause_status Memory = 7
 
--- the exit status of the command
+-- The exit status of the command that ended so
 abbrev pub status_of : End → ℕ
 status_of (Ok end) = served_status end
 status_of (Err cause) = cause_status cause

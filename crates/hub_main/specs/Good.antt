@@ -10,7 +10,8 @@ use Rattle.hub_main.specs.Told.{FilesTold, Sides}
 use Rattle.hub_main.specs.Configured.{IsConfig, IsNoConfig}
 use Rattle.hub_main.specs.Known.{are_known}
 
--- the configuration fits these rows: its names are known, no row is bad, no running server lacks its target, and no kind is past its limit
+-- At the moment `now` the configuration fits the rows `has`: its names are known, no row is bad, no running server lacks its target, and no
+-- kind is past its limit
 pub record Fits (config : HubConfig) (now : ℕ) (has : Rows) : Type 0 where
   pub names : (kept : List Row) → Lists has kept → are_known config kept ≡ true
   pub sound : (kind : ℕ) (key : List ℕ) → ¬ (IsRefusedRow config.limits config.custom_scopes ⊤ has kind key)

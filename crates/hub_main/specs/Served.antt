@@ -28,7 +28,8 @@ view_with pass now kit =
 abbrev pub kit_in : View → KitTold
 kit_in y = record { draws = y.draws; spawner = y.spawner; routes = y.routes; faults = y.faults }
 
--- a fault of the input or of the output was counted
+-- Where the connection ended with a fault of the input or the output, the count of faults of that one rose; s is what is outside before the
+-- connection, and s' after it
 abbrev pub IsFault : Sides → Sides → Result Served SessionFault → Type 0
 IsFault s s' (Ok served) = ⊤
 IsFault s s' (Err (ReadFault n)) = Rises s.input.faults s'.input.faults
@@ -36,7 +37,8 @@ IsFault s s' (Err (WriteFault n)) = Rises s.output.faults s'.output.faults
 
 -- ---- one pass
 
--- From the view x on the servers that were being adopted were taken back, and then one connection was served. It ended so, at the view y
+-- From the view x on the servers that were being adopted were taken back, and then one connection was served, from what the sides s tell to
+-- what s' tell. It ended so, and y is what is known then
 pub record IsServed (start : Start) (x y : View) (s s' : Sides) (end : Result Served SessionFault) : Type 0 where
   pub told : Adopted
   pub ready : View
@@ -45,12 +47,13 @@ pub record IsServed (start : Start) (x y : View) (s s' : Sides) (end : Result Se
   pub fault : IsFault s s' end
   pub kit : s'.kit ≡ kit_in y
 
--- memory was wanting before the first call and the first byte
+-- Memory was wanting before the first call and the first byte, so that what is outside stays as it was; the pass has seen nothing more
 pub record IsUnserved (x y : View) (s s' : Sides) : Type 0 where
   pub seen : y.pass.seen ≡ x.pass.seen
   pub quiet : IsQuiet s s'
 
--- how one pass ended: it served its connection, or memory was wanting before
+-- How one pass over a book that began with `start` ended: it served its connection, or memory was wanting before. x is what it knew and s
+-- what was outside before, y and s' are the same after it; no other cause comes so late
 abbrev pub PassEnds : Start → View → View → Sides → Sides → End → Type 0
 PassEnds start x y s s' (Ok end) = IsServed start x y s s' end
 PassEnds start x y s s' (Err Memory) = IsUnserved x y s s'
@@ -64,25 +67,28 @@ PassEnds start x y s s' (Err (NotOpened e)) = ⊥
 -- ---- the store then
 
 module _ {K : Type 0} (Tells : K → Type 0) (rows : K → Rows) (faults : K → ℕ) where
-  -- the store has exactly the rows of the state that these entries left
+  -- Where the store k tells its rows, they are exactly those of the state that these entries lead to from `start`
   pub record HasKept (start : Start) (entries : List Entry) (k : K) : Type 0 where
     pub state : Hub
     pub reached : Reached start entries state
     pub kept : Tells k → Keeps (rows k) state.tables
 
-  -- by this pass, which is alone, with the entries and the faults that it saw last
+  -- The command ended so by this pass, with a clock that gives the moment `now` for ever; the store k' has the rows of the entries that the
+  -- pass saw last, where it tells them, and the count of faults that the pass saw last
   pub record EndsBy (pass : PassState Entry Start) (start : Start) (now : ℕ) (s s' : Sides) (k' : K) (end : End) : Type 0 where
     pub last : View
     pub ends : PassEnds start (view_with pass now s.kit) last s s' end
     pub kept : HasKept start last.pass.seen k'
     pub count : faults k' ≡ last.pass.faults
 
-  -- there was no memory for a pass
+  -- There was no memory for a pass: nothing was read, written or called, and the store has the rows of a history without entries, where it
+  -- tells them
   pub record IsUntouched (start : Start) (s s' : Sides) (k' : K) : Type 0 where
     pub kept : HasKept start [] k'
     pub quiet : IsQuiet s s'
 
-  -- over a book that was opened, whose history is empty, by its first pass; or there was no memory for that pass
+  -- How the command ended over a book that was opened with `start`, whose history is empty and whose keeper had counted so many faults: by
+  -- its first pass, or there was no memory for that pass. s is what is outside before, s' after it, and k' the store then
   abbrev pub EndsOver : Start → (counted now : ℕ) → Sides → Sides → K → End → Type 0
   EndsOver start counted now s s' k' end =
       ((end ≡ Err Memory) × IsUntouched start s s' k') ⊎ ((table : TableId) × EndsBy (opening table start [] counted) start now s s' k' end)

@@ -13,40 +13,42 @@ use Rattle.hub_main.specs.declared.cause.Cause.TheVariants.{Words, Memory, NoFil
 
 -- of stores of a kind that tells of each whether its rows are told, its rows and its count of faults: the store k, which is k' at the end
 module _ {K : Type 0} (Tells : K → Type 0) (rows : K → Rows) (faults : K → ℕ) where
-  -- there is no configuration
+  -- The words' file says no configuration, for the cause that the end tells, and all is left as it was. files, s and k are the files, what
+  -- is outside and the store before; with a prime: after
   abbrev pub EndsUnconfigured : SessionWords → FilesTold → FilesTold → Sides → Sides → K → K → End → Type 0
   EndsUnconfigured words files files' s s' k k' (Ok end) = ⊥
   EndsUnconfigured words files files' s s' k k' (Err cause) = IsUnfound files files' words.config cause × IsLeft Tells rows s s' k k'
 
-  -- the store didn't take its place
+  -- The store didn't take its place, for the cause that the end tells, and all is left as it was
   abbrev pub EndsUnchosen : Sides → Sides → K → K → End → Type 0
   EndsUnchosen s s' k k' (Ok end) = ⊥
   EndsUnchosen s s' k k' (Err cause) = IsUnchosen (faults k) (faults k') cause × IsLeft Tells rows s s' k k'
 
-  -- no book was opened over the store
+  -- No book was opened by this configuration over the chosen store, for the cause that the end tells, and all is left as it was
   abbrev pub EndsUnopened : HubConfig → (now : ℕ) → Sides → Sides → K → K → End → Type 0
   EndsUnopened config now s s' k k' (Ok end) = ⊥
   EndsUnopened config now s s' k k' (Err cause) = IsUnopened Tells rows faults config now k k' cause × IsLeft Tells rows s s' k k'
 
-  -- a book was opened over the store
+  -- A book was opened by this configuration over the chosen store, and the end is that of what was done over it
   abbrev pub EndsOpened : HubConfig → (now : ℕ) → Sides → Sides → K → K → End → Type 0
   EndsOpened config now s s' k k' end =
       (start : Start) × (counted : ℕ) × IsOpened config now (Tells k') (rows k) (faults k) start counted
       × EndsOver Tells rows faults start counted now s s' k' end
 
-  -- what follows the choice of the store
+  -- What follows the choice of the store, which left it as k: no book is opened over it, or one is
   abbrev pub EndsChosen : HubConfig → (now : ℕ) → Sides → Sides → K → K → End → Type 0
   EndsChosen config now s s' k k' end = EndsUnopened config now s s' k k' end ⊎ EndsOpened config now s s' k k' end
 
 module _ {K : Type 0} (Tells : K → Type 0) (rows : K → Rows) (faults : K → ℕ) (Chooses : K → Option (List ℕ) → K → Type 0) where
-  -- with this configuration, over the store that the choice of this place left
+  -- With this configuration: the store doesn't take the place that is named, or it does, and what follows is over the store that this left
   abbrev pub EndsConfigured : (place : Option (List ℕ)) → HubConfig → (now : ℕ) → Sides → Sides → K → K → End → Type 0
   EndsConfigured place config now s s' k k' end =
       EndsUnchosen Tells rows faults s s' k k' end
       ⊎ ((chosen : K) × IsChosen Tells rows faults Chooses place k chosen × (faults chosen ≤ faults k')
       × EndsChosen Tells rows faults config now s s' chosen k' end)
 
-  -- the words are a session's: their file says no configuration, or the hub has what it says and the words on top
+  -- How a session with these words ends: their file says no configuration, or the hub has what it says with the words on top. files, s and
+  -- k are the files, what is outside and the store before; with a prime: after
   abbrev pub SessionEnds : SessionWords → FilesTold → FilesTold → Sides → Sides → K → K → End → Type 0
   SessionEnds words files files' s s' k k' end =
       EndsUnconfigured Tells rows faults words files files' s s' k k' end
@@ -54,7 +56,8 @@ module _ {K : Type 0} (Tells : K → Type 0) (rows : K → Rows) (faults : K →
 
   -- ---- the command
 
-  -- the words are refused, or memory was wanting to read them; or they are a session's
+  -- How the command ends: as a session, where its words were read as one; else they are refused, or memory was wanting to read them, and
+  -- nothing was touched
   abbrev pub CommandEnds : Option SessionWords → FilesTold → FilesTold → Sides → Sides → K → K → End → Type 0
   CommandEnds (Some words) files files' s s' k k' end = SessionEnds words files files' s s' k k' end
   CommandEnds None files files' s s' k k' (Ok end) = ⊥
@@ -66,7 +69,8 @@ module _ {K : Type 0} (Tells : K → Type 0) (rows : K → Rows) (faults : K →
   CommandEnds None files files' s s' k k' (Err NoStore) = ⊥
   CommandEnds None files files' s s' k k' (Err (NotOpened e)) = ⊥
 
-  -- how the command ended, as it is told at the end, and the status of that
+  -- How the whole command ended, as it is told in the end, and with which status. `found` is what its words say, if they are a session's;
+  -- files, s and k are the files, what is outside and the store before, with a prime: after
   abbrev pub RunEnds : Option SessionWords → FilesTold → FilesTold → Sides → Sides → K → K → (told : Option End) → (status : ℕ) → Type 0
   RunEnds found files files' s s' k k' told status =
       (end : End) × (told ≡ Some end) × CommandEnds found files files' s s' k k' end × (status ≡ status_of end)
