@@ -7,6 +7,7 @@ use Rattle.hub_rows.specs.declared.rows.RowKey.TheVariants as RowKey
 use Rattle.hub_rows.specs.declared.changes.RowChange.{RowChange}
 use Rattle.hub_rows.specs.declared.changes.RowChange.TheVariants.{Put, Remove}
 
+-- What a row stands under, with its kind
 abbrev pub key_of : Row → RowKey
 key_of (Row.User row) = RowKey.User row.name
 key_of (Row.Group row) = RowKey.Group row.name
@@ -21,11 +22,12 @@ key_of (Row.OAuthClient row) = RowKey.OAuthClient row.id
 key_of (Row.OAuthCode row) = RowKey.OAuthCode row.hash
 key_of (Row.Next row) = RowKey.Next row.name
 
+-- The change puts a row, and doesn't take one away
 abbrev pub is_put : RowChange → Bool
 is_put (Put row) = true
 is_put (Remove key) = false
 
--- what is changed: the key of the row that is put, or of the one that goes
+-- What is changed: the key of the row that is put, or of the one that goes
 abbrev pub key_in : RowChange → RowKey
 key_in (Put row) = key_of row
 key_in (Remove key) = key

@@ -11,12 +11,15 @@ use Rattle.hub_rows.specs.declared.keys.Recipient.TheVariants as To
 use Rattle.hub_rows.specs.declared.keys.ShareKey.{ShareKey}
 use Rattle.hub_rows.specs.contracts.keys.RecipientOrd.TheImpl as recipient
 
--- users before groups, each by name
+-- The order of recipients: users before groups, each by name
 abbrev pub recipient_cmp : Recipient → Recipient → Ordering
 recipient_cmp = recipient.ghosts.cmp
 
+-- The order of shares: by the server, and then by the recipient
 abbrev pub share_cmp : ShareKey → ShareKey → Ordering
 share_cmp a b = ordering_then (key_cmp a.server b.server) (recipient_cmp a.to b.to)
+
+-- ---- keys that compare alike are one: proofs of laws of `Key`, which stand here since a source cites only what stands in specs/
 
 abbrev pub names_exact : IsAntisymmetric name_cmp
 names_exact = slice_cmp-IsAntisymmetric nat_cmp-IsAntisymmetric
