@@ -20,7 +20,7 @@ use Rattle.hub_run.specs.Turns.{unrouted}
 use Rattle.hub_run.specs.declared.routed.Way.{Way}
 use Rattle.hub_run.specs.Routed.{Asking, IsAskingOf, IsSaidOf, lets}
 
--- the turn is of this request, or a 507 before any visit
+-- The turn is of this request, or a 507 before any visit
 abbrev pub IsOf : Request → Turn → Type 0
 IsOf request (visited text q v r) = q ≡ request
 IsOf request (worked text q v e r) = q ≡ request
@@ -109,14 +109,15 @@ IsServed start request wanting = Unit {0}
 
 -- ---- what a 503 tells
 
--- the count of what the refusal names rose; the pass counts a keeper's refusal too
+-- From the view x to the view y the count of faults of what this refusal names rose. The pass counts a refusal of the keeper too; any other
+-- refusal is none of a fault
 abbrev pub HasFailed : View → View → Refusal → Type 0
 HasFailed x y SpawnerFault = Rises x.faults.spawner y.faults.spawner
 HasFailed x y ProxyFault = Rises x.faults.routes y.faults.routes
 HasFailed x y KeeperFault = (x.pass.failed < y.pass.failed) × (x.pass.faults < y.pass.faults)
 HasFailed x y refusal = ⊥
 
--- the reply is the refusal of what has failed
+-- The reply is a refusal for what failed between the view x and the view y
 pub record IsOfFault (x y : View) (r : Reply) : Type 0 where
   pub revision : ℕ
   pub cause : Refusal

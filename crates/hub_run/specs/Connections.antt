@@ -18,7 +18,8 @@ use Rattle.hub_run.specs.declared.served.Served.TheVariants.{Ended, Cut, Closed}
 abbrev pub IsOpenTurn : Start → Turn → Type 0
 IsOpenTurn start t = IsRight start t × (closes t ≡ false)
 
--- these turns were read and answered, then the bytes `ahead` came, and then the text `tail` was written
+-- These turns were read and answered, then the bytes `ahead` came, and then the text `tail` was written. `left` is what the source was to
+-- give, and `held` what the sink held, as far as they tell it; with a prime: after
 pub record Ran
     (start : Start) (left held left' held' : Option (List ℕ)) (turns : List Turn) (ahead tail : List ℕ) : Type 0 where
   pub each : All (IsOpenTurn start) turns
@@ -29,12 +30,13 @@ pub record Ran
 abbrev pub IsAfter : List Turn → ℕ → Type 0
 IsAfter turns n = (length turns ≡ n) × (n < 1000)
 
--- the last turn stands at the front of what is ahead, and no more than a buffer holds came behind it
+-- In a book that began with `start` the last turn stands at the front of the bytes `ahead`, and `rest`, no more than a buffer holds, came
+-- behind it; `left` is what the source has still to give
 abbrev pub IsLast : Start → Option (List ℕ) → List ℕ → Turn → List ℕ → Type 0
 IsLast start left ahead last rest = TurnAt start left ahead last rest × (length rest ≤ head_limit)
 
--- how a connection ended, which began with the view x and a source and a sink that told `left` and `held`, for a book that began with
--- `start`
+-- How a connection ended, for a book that began with `start`. Before it the view was x, and `left` and `held` are what its source was to
+-- give and its sink held, as far as they tell it; y and those with a prime are the same after it
 abbrev pub ConnectionEnds : Start → View → Option (List ℕ) → Option (List ℕ) → View → Option (List ℕ) → Option (List ℕ)
     → Result Served SessionFault → Type 0
 ConnectionEnds start x left held y left' held' (Ok (Ended n)) =

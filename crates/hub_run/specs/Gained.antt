@@ -7,7 +7,8 @@ use Rattle.hub_run.specs.Routed.{Asking, told_of}
 use Rattle.hub_run.specs.Turns.{Turn, Visit, Errand, visited, worked, routed, declined, undrawn, refused, unsaid, unfinished, unrouted}
 use Rattle.hub_run.specs.Turns.{wanting}
 
--- a visit gains the entries that it left beyond those that it found, each with its place, and calls nothing
+-- A visit gains the entries that it left beyond those that it found, each with its place, and one failure of the keeper where its count of
+-- faults rose; it calls no device
 abbrev pub visit_gain : Visit → Gain Entry
 visit_gain v = record {
   entries = added v.before v.after;
@@ -16,7 +17,8 @@ visit_gain v = record {
   routes = [];
 }
 
--- what was owed gains what its chain does
+-- An errand gains the entries of its chain, each with its place, the failures of the keeper in it, and its calls of the spawner and of the
+-- route link
 abbrev pub errand_gain : Errand → Gain Entry
 errand_gain e = gain_of e.work e.chain
 
@@ -24,7 +26,8 @@ errand_gain e = gain_of e.work e.chain
 abbrev pub asking_gain : Asking → Gain Entry
 asking_gain a = record { entries = []; failed = 0; spawner = []; routes = told_of a }
 
--- a turn gains what its visit, its errand and its asking gain; one without a visit gains nothing
+-- What a turn added: its own entries of the history with their places, how often the keeper failed in it, and its calls of the spawner and
+-- of the route link. First comes what its visit gained, then its errand or its asking; one without a visit gains nothing
 abbrev pub turn_gain : Turn → Gain Entry
 turn_gain (visited text q v r) = visit_gain v
 turn_gain (worked text q v e r) = plus (visit_gain v) (errand_gain e)

@@ -31,17 +31,17 @@ pub data Asking : Type 0 where
   listing : Result (List ListedRoute) LinkError → Asking
   syncing : List (Routing × Told) → Result Synced SyncFault → Asking
 
--- what a call asks of the route link, if it does
+-- What a call asks of the route link, if anything
 abbrev pub way_of : Call → Option Way
 way_of GetProxy = Some Ways.List
 way_of PostProxy = Some Ways.Sync
 way_of call = None
 
--- a reply with 200 lets it go on
+-- A call that goes this way, if any, goes on where its visit's reply has the status 200
 abbrev pub lets_by : Option Way → Reply → Option Way
 lets_by way r = if r.status == 200 then way else None
 
--- where the visit's reply to the call lets it go on
+-- Which way the call goes on to the route link after this reply of its visit, if it does
 abbrev pub lets : Call → Reply → Option Way
 lets call r = lets_by (way_of call) r
 
@@ -53,7 +53,7 @@ IsAskingOf way asking = ⊥
 
 -- ---- what the link was asked and told
 
--- what a list told: its routes, or why none came
+-- What is told of an ask for the link's list that was answered so: the routes, or that the link failed, or that memory was wanting
 abbrev pub told_list : Result (List ListedRoute) LinkError → Told
 told_list (Ok routes) = Listed routes
 told_list (Err e) = told_error e
@@ -63,13 +63,15 @@ abbrev pub told_of : Asking → List (Routing × Told)
 told_of (listing came) = (Route.List, told_list came) ∷ []
 told_of (syncing told end) = told
 
--- a call on the link failed
+-- The route link failed while it was asked so: at its list, or at a call that was to bring it into step. Want of memory is no failure of
+-- the link
 abbrev pub has_failed : Asking → Bool
 has_failed (listing (Err Link.Failed)) = true
 has_failed (syncing told (Err Fault.Routes)) = true
 has_failed asking = false
 
--- what brings the routes into step is the plan in the state that these entries lead to, with the hub's own target
+-- What brings the routes into step is the plan, with the hub's own target, in the state that the entries `seen` lead to from `start`; a
+-- list needs no plan
 abbrev pub IsPlanned : Start → List Entry → Asking → Type 0
 IsPlanned start seen (listing came) = Unit {0}
 IsPlanned start seen (syncing told end) = SyncTold (IsPlanFor start seen (λ (s : Hub). s.hub_url)) told end
@@ -88,27 +90,29 @@ routes_body routes = pairs (map (λ (r : ListedRoute). (r.path, route_body r)) r
 abbrev pub synced_body : Synced → Json
 synced_body s = pairs ((codes "added", whole s.added) ∷ (codes "deleted", whole s.deleted) ∷ [])
 
--- an Ok with this body, with the revision of the visit's reply
+-- A 200 with this body, and with the revision of the visit's reply `r`
 abbrev pub with_body : Reply → Json → Reply
 with_body r body = record (good_reply 0 (good 200 body)) { revision = r.revision }
 
--- 503 `proxy`, with that revision
+-- 503 `proxy`, with the revision of the visit's reply `r`
 abbrev pub proxy_fault : Reply → Reply
 proxy_fault r = record (refusal_reply 0 ProxyFault) { revision = r.revision }
 
--- the routes that came, one for each path in the order of paths, where of several of one path the first counts
+-- q is the reply where the link was asked for its list, which came so, after the visit's reply `r`: the routes, one for each path in the
+-- order of paths, where of several of one path the first counts; or 503 `proxy` where the link failed. Want of memory has no such reply
 abbrev pub IsListReply : Reply → Result (List ListedRoute) LinkError → Reply → Type 0
 IsListReply r (Ok routes) q = (shown : List ListedRoute) × Lists routes shown × (q ≡ with_body r (routes_body shown))
 IsListReply r (Err Link.Failed) q = q ≡ proxy_fault r
 IsListReply r (Err Link.Memory) q = ⊥
 
--- the numbers of what was done, or 503 `proxy`; want of memory has no such reply
+-- q is the reply where the link was brought into step, which ended so, after the visit's reply `r`: how many routes were added and deleted,
+-- or 503 `proxy` where the link failed. Want of memory has no such reply
 abbrev pub IsSyncReply : Reply → Result Synced SyncFault → Reply → Type 0
 IsSyncReply r (Ok s) q = q ≡ with_body r (synced_body s)
 IsSyncReply r (Err Fault.Routes) q = q ≡ proxy_fault r
 IsSyncReply r (Err Fault.Memory) q = ⊥
 
--- what is said of what came, in place of the visit's reply r
+-- q is the reply that says what came of the asking, in place of the visit's reply `r`
 abbrev pub IsSaidOf : Reply → Asking → Reply → Type 0
 IsSaidOf r (listing came) q = IsListReply r came q
 IsSaidOf r (syncing told end) q = IsSyncReply r end q

@@ -25,49 +25,53 @@ use Rattle.hub_run.specs.declared.visit.Unanswered.TheVariants as missed
 use Rattle.hub_run.specs.declared.served.TurnEnd.{TurnEnd}
 use Rattle.hub_run.specs.declared.served.TurnEnd.TheVariants as end
 
--- the text is the reply's, and the connection is left as wished; or it is a 507, which closes it
+-- The text is the reply's, and the connection is closed or not (`closed`), as was wished (`close`); or it is a 507, which closes it
 abbrev pub Says : spec.Reply → Bool → List ℕ → Bool → Type 0
 Says r close text closed = ((text ≡ reply_text r close) × (closed ≡ close)) ⊎ ((text ≡ no_memory) × (closed ≡ true))
 
--- the reply of what came of the route link is said, or there is a 507; r is the reply of the visit that let it be asked
+-- The reply of what came of the route link is said, or there is a 507, which closes the connection. r is the reply of the visit that let it
+-- be asked, `close` whether the connection is to be closed, and `closed` whether it is
 abbrev pub SaysAsked : spec.Reply → Asking → Bool → List ℕ → Bool → Type 0
 SaysAsked r a close text closed =
     ((q : spec.Reply) × IsSaidOf r a q × (text ≡ reply_text q close) × (closed ≡ close)) ⊎ ((text ≡ no_memory) × (closed ≡ true))
 
--- the reply of a visit is said, or the route link is asked where it lets the call go on, and what came is said
+-- The reply r of a visit is said where the call doesn't go on; where it goes this way, the route link is asked from the view x on, up to
+-- the view y, and what came is said
 abbrev pub GoesOn : View → View → Option Way → spec.Reply → Bool → List ℕ → Bool → Type 0
 GoesOn x y None r close text closed = (y ≡ x) × Says r close text closed
 GoesOn x y (Some way) r close text closed = (a : Asking) × IsAskingOf way a × AsksLink x a y × SaysAsked r a close text closed
 
--- what was made is said, or there is a 507
+-- What was made is said as a reply, or there is a 507, which closes the connection
 abbrev pub SaysMade : {E : Type 0} → Result replies.Reply E → Bool → List ℕ → Bool → Type 0
 SaysMade (Ok r) close text closed = Says (reply_view r) close text closed
 SaysMade (Err e) close text closed = (text ≡ no_memory) × (closed ≡ true)
 
--- the reply of a chain is said, or there is a 507
+-- The reply of a chain that began with the call owed, of which this tale is told, is said, or there is a 507, which closes the connection
 abbrev pub SaysTale : Todo → Option Tale → Bool → List ℕ → Bool → Type 0
 SaysTale owed None close text closed = (text ≡ no_memory) × (closed ≡ true)
 SaysTale owed (Some tale) close text closed =
     ((r : spec.Reply) × (tale_reply owed tale ≡ Some r) × (text ≡ reply_text r close) × (closed ≡ close))
     ⊎ ((text ≡ no_memory) × (closed ≡ true))
 
--- a turn answers the request of this text, and moves the view from x to y
+-- A turn answers the request of this text, and moves the view from x to y; what is said is its reply, and the connection is closed where
+-- the turn closes it, or where it is the last
 abbrev pub Made : Start → View → View → List ℕ → Bool → List ℕ → Bool → Type 0
 Made start x y text last said closed =
     (turn : Turn) × ((left : Option (List ℕ)) (rest : List ℕ) → TurnAt start left (text ++ rest) turn rest)
     × Moves x turn y × (closed ≡ (closes turn || last)) × (said ≡ turn_text turn closed)
 
--- what a call was answered, which was asked from the view x on
+-- What a call was answered by a visit from the view x on, which left y; or why it wasn't answered
 abbrev pub Asks : Start → View → View → Asked → Result Outcome Unanswered → Type 0
 Asks start x y asked (Ok o) = (v : Visit) × Visits x v y × IsDrawn v asked × IsGiven start v asked o
 Asks start x y asked (Err missed.Memory) = (v : Visit) × Visits x v y × IsDrawn v asked × (v.after ≡ v.before)
 Asks start x y asked (Err missed.NoDraw) = (draws asked.call ≡ true) × IsUndrawn x y
 
--- the refusal's text, or a 507
+-- The text that is written for this error of the wire: the reply of its refusal, or a 507
 abbrev pub Refuses : WireError → List ℕ → Type 0
 Refuses error text = ((r : spec.Reply) × (wire_refusal error ≡ Some r) × (text ≡ reply_text r true)) ⊎ (text ≡ no_memory)
 
--- what stands in place of a request, and no reply is due
+-- Where these bytes stand in place of a request, and `left` is what the source has still to give: they are none, for this reason, and no
+-- reply is due
 abbrev pub StopsAt : Option (List ℕ) → List ℕ → TurnEnd → Type 0
 StopsAt left bytes end.Ended = RequestRefusedAt left bytes wire.Ended
 StopsAt left bytes end.Cut = RequestRefusedAt left bytes wire.Cut
@@ -86,7 +90,8 @@ pub record IsBroken (start : Start) (last : Bool) (x y : View) (left held held' 
   pub text : turn_text turn (closes turn || last) ≡ part ++ more
   pub wrote : Appends held part held'
 
--- how a turn ended without a whole reply
+-- How a turn ended without a whole reply. Before it the view was x, `bytes` stood in front, `left` was still to come, and the sink held
+-- `held`; y and `held'` are what was found then
 abbrev pub TurnEnds : Start → Bool → View → View → Option (List ℕ) → Option (List ℕ) → Option (List ℕ) → List ℕ → TurnEnd → Type 0
 TurnEnds start last x y left held held' bytes end.Ended = RequestRefusedAt left bytes wire.Ended × (y ≡ x) × (held' ≡ held)
 TurnEnds start last x y left held held' bytes end.Cut = RequestRefusedAt left bytes wire.Cut × (y ≡ x) × (held' ≡ held)

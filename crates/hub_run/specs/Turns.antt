@@ -78,12 +78,13 @@ pub data Turn : Type 0 where
 
 -- ---- what is written
 
--- the bytes of a refusal of the wire; the end of the input has none
+-- What is written for bytes that are no request: the reply of their refusal, if it has one (`wire_refusal`), and else nothing. `close` says
+-- whether it has a `Connection: close`
 abbrev pub refusal_text : Option Reply → Bool → List ℕ
 refusal_text None close = []
 refusal_text (Some r) close = reply_text r close
 
--- the bytes of the one reply of a turn, with a `Connection: close` or without
+-- The bytes of the one reply of a turn. `close` says whether it has a `Connection: close`; a 507 for want of memory has it always
 abbrev pub turn_text : Turn → Bool → List ℕ
 turn_text (visited text q v r) close = reply_text r close
 turn_text (worked text q v e r) close = reply_text r close
@@ -96,7 +97,8 @@ turn_text (unfinished text q v e) close = no_memory
 turn_text (unrouted text q v a) close = no_memory
 turn_text wanting close = no_memory
 
--- the connection is closed after it, whatever its place
+-- The turn closes the connection wherever it stands in it: its request asks for that, its bytes are no request, or its reply is a 507 for
+-- want of memory
 abbrev pub closes : Turn → Bool
 closes (visited text q v r) = q.close
 closes (worked text q v e r) = q.close
@@ -115,8 +117,8 @@ closes wanting = true
 abbrev pub IsDrawn : Visit → Asked → Type 0
 IsDrawn v asked = is_some v.draw ≡ draws asked.call
 
--- the visit gave this: what the state that the entries before it left answers, or a 503 where the keeper refused the rows of an answer that
--- has some, and its count of faults rose
+-- The visit gave the outcome `o` to the call that was asked: what the state that the entries before it left answers, or a 503 where the
+-- keeper refused the rows of an answer that has some, and its count of faults rose
 abbrev pub IsGiven : Start → Visit → Asked → Outcome → Type 0
 IsGiven start v asked o =
     AnsweredAt start v.before v.after v.moment v.draw asked o ⊎ FaultedAt start v.before v.after v.faults v.faults_after v.moment v.draw
@@ -169,7 +171,7 @@ pub record IsRouted (start : Start) (q : Request) (v : Visit) (a : Asking) (r : 
   pub let_by : IsLet start q v a
   pub reply : IsSaidOf let_by.gave a r
 
--- the entries that it left are those that it found, or it gave a reply, with nothing to be done or asked for it
+-- The entries that it left are those that it found, or it gave a reply, with nothing to be done or asked for it
 abbrev pub IsLeft : Start → Request → Visit → Type 0
 IsLeft start q v = (v.after ≡ v.before) ⊎ ((r : Reply) × IsAnswered start q v r)
 
@@ -212,7 +214,8 @@ IsRight start (unfinished text q v e) = ⊥
 IsRight start (unrouted text q v a) = ⊥
 IsRight start wanting = ⊥
 
--- the turn stands at the front of the bytes, and the rest goes on; a 507 takes no more than one request
+-- The turn stands at the front of `bytes`, the rest is what stands behind it, and it is the right one for these bytes in a book that began
+-- with `start`. `left` is what the source has still to give behind `bytes`, as far as it tells that. A 507 takes no more than one request
 abbrev pub TurnAt : Start → Option (List ℕ) → List ℕ → Turn → List ℕ → Type 0
 TurnAt start left bytes (visited text q v r) rest = IsRight start (visited text q v r) × (bytes ≡ text ++ rest)
 TurnAt start left bytes (worked text q v e r) rest = IsRight start (worked text q v e r) × (bytes ≡ text ++ rest)
@@ -228,7 +231,8 @@ TurnAt start left bytes wanting rest = (gone : List ℕ) × WithinRequest gone �
 
 -- ---- what it leaves
 
--- what was drawn was the first to come, if something was
+-- If there is a draw, it was the first of those that were to come (`left`), and the others are to come still (`left'`); else none was
+-- taken. `faults` counts how often the source of draws has failed; with a prime: after
 abbrev pub Drew : Option (List ℕ) → Option (List (List ℕ)) → ℕ → Option (List (List ℕ)) → ℕ → Type 0
 Drew None left faults left' faults' = (left' ≡ left) × (faults' ≡ faults)
 Drew (Some draw) left faults left' faults' = Takes left (draw ∷ []) left' × (faults ≤ faults')
@@ -254,12 +258,13 @@ pub record Visits (x : View) (v : Visit) (y : View) : Type 0 where
   pub routes : y.routes ≡ x.routes
   pub others : (y.faults.spawner ≡ x.faults.spawner) × (y.faults.routes ≡ x.faults.routes)
 
--- the count of a device: it doesn't fall, and it rose where a call of this device was the first of the chain to fail
+-- The count of faults of a device, before and after a chain of which this tale is told, if any: it doesn't fall, and it rose where a call
+-- of this device was the first of the chain to fail
 abbrev pub IsCounted : Device → Option Tale → ℕ → ℕ → Type 0
 IsCounted device None before after = before ≤ after
 IsCounted device (Some tale) before after = (before ≤ after) × (tale.failed ≡ Some device → Rises before after)
 
--- the chain of an errand was made from the view x on. It draws nothing and asks no moment
+-- From the view x on the chain of the errand was made, up to the view y. It draws nothing and asks no moment
 pub record Drives (x : View) (e : Errand) (y : View) : Type 0 where
   pub chain : ChainEnds LeadsToLives Notes e.work (at_chain x) e.owed e.chain e.tale (at_chain y)
   pub clock : y.clock ≡ x.clock
@@ -268,11 +273,12 @@ pub record Drives (x : View) (e : Errand) (y : View) : Type 0 where
   pub spawner : IsCounted Spawner e.tale x.faults.spawner y.faults.spawner
   pub routes : IsCounted Proxy e.tale x.faults.routes y.faults.routes
 
--- a visit, and then what it gave to be done
+-- From the view x on the visit v was made, and then, from what it left on, the chain of the errand e that it gave; y is what is known
+-- behind both
 abbrev pub Works : View → Visit → Errand → View → Type 0
 Works x v e y = (z : View) × Visits x v z × Drives z e y
 
--- the route link was asked from the view x on. There is no entry, and no other device is asked
+-- From the view x on the route link was asked, and y is what is known then. There is no entry, and no other device is asked
 pub record AsksLink (x : View) (a : Asking) (y : View) : Type 0 where
   pub same : IsSamePass x.pass y.pass
   pub mine : y.pass.mine ≡ x.pass.mine
@@ -287,11 +293,12 @@ pub record AsksLink (x : View) (a : Asking) (y : View) : Type 0 where
   pub counted : x.faults.routes ≤ y.faults.routes
   pub cause : has_failed a ≡ true → Rises x.faults.routes y.faults.routes
 
--- a visit, and then the route link was asked
+-- From the view x on the visit v was made, and then, from what it left on, the route link was asked as `a` says; y is what is known behind
+-- both
 abbrev pub Routes : View → Visit → Asking → View → Type 0
 Routes x v a y = (z : View) × Visits x v z × AsksLink z a y
 
--- no draw came, and all else is as before
+-- From the view x to the view y no draw came: the source's count of faults rose, and all else is as before
 pub record IsUndrawn (x y : View) : Type 0 where
   pub pass : y.pass ≡ x.pass
   pub clock : y.clock ≡ x.clock
@@ -301,7 +308,8 @@ pub record IsUndrawn (x y : View) : Type 0 where
   pub failed : Rises x.faults.random y.faults.random
   pub others : (y.faults.spawner ≡ x.faults.spawner) × (y.faults.routes ≡ x.faults.routes)
 
--- what a turn makes of the view: its visit, what it owed or asked, or nothing
+-- What is known before the turn is x, and behind it y: its visit lies between them, and the chain or the asking of the route link that
+-- followed, where it has these. A turn without a visit changes nothing, but that a draw may have failed
 abbrev pub Moves : View → Turn → View → Type 0
 Moves x (visited text q v r) y = Visits x v y
 Moves x (worked text q v e r) y = Works x v e y
@@ -314,7 +322,7 @@ Moves x (unfinished text q v e) y = Works x v e y
 Moves x (unrouted text q v a) y = Routes x v a y
 Moves x wanting y = (y ≡ x) ⊎ IsUndrawn x y
 
--- one turn after the other
+-- These turns were made one after the other, each from the view that the one before it left, the first from x on, and the last left y
 abbrev pub Turns : View → List Turn → View → Type 0
 Turns x [] y = y ≡ x
 Turns x (t ∷ ts) y = (z : View) × Moves x t z × Turns z ts y
