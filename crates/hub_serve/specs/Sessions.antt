@@ -27,7 +27,7 @@ pub record Session : Type 0 where
   pub held_after : Option (List ℕ)
   pub ended : Result Served SessionFault
 
--- it ended as connections do for a book that began with `start`
+-- The connection ended as connections do for a book that began with `start`
 abbrev pub EndsOver : Start → Session → Type 0
 EndsOver start s = ConnectionEnds start s.before s.left s.held s.after s.left_after s.held_after s.ended
 
@@ -39,31 +39,33 @@ pub record DevicesTold : Type 0 where
   pub routes : Option (List (Routing × Told))
   pub faults : Faults
 
+-- What the devices tell in a view
 abbrev pub devices_in : View → DevicesTold
 devices_in x = record { clock = x.clock; draws = x.draws; spawner = x.spawner; routes = x.routes; faults = x.faults }
 
--- those of its worker, before it and after it
+-- What the devices of its worker told before it
 abbrev pub devices_before : Session → DevicesTold
 devices_before s = devices_in s.before
 
+-- What the devices of its worker told after it
 abbrev pub devices_after : Session → DevicesTold
 devices_after s = devices_in s.after
 
--- what the pass's own entries grew by, each with its place
+-- What the own entries of its worker's pass grew by in it, each with its place
 abbrev pub gained : Session → List (ℕ × Entry)
 gained s = drop (length s.before.pass.mine) s.after.pass.mine
 
--- these came behind that one, each where the one before it had left the pass and the devices
+-- These connections came behind that one, each where the one before it had left the pass and the devices
 abbrev pub GoOn : Session → List Session → Type 0
 GoOn s [] = Unit {0}
 GoOn s (t ∷ ts) = (t.before ≡ s.after) × GoOn t ts
 
--- all of a worker, whose pass was split off the pass p
+-- These are all connections of a worker, whose pass was split off the pass p
 abbrev pub GoFrom : PassState Entry Start → List Session → Type 0
 GoFrom p [] = Unit {0}
 GoFrom p (s ∷ ss) = (s.before.pass ≡ split_from p) × GoOn s ss
 
--- own entries, with all that these workers gained, in the order of their places
+-- Own entries, with all that the connections of these workers gained, in the order of their places
 abbrev pub with_gains : List (ℕ × Entry) → List (List Session) → List (ℕ × Entry)
 with_gains mine [] = mine
 with_gains mine (ss ∷ rest) = with_gains (merged mine (flat_map gained ss)) rest
@@ -108,6 +110,7 @@ module _ {S P C R I O : Type 0} (to_come : C → Option (ℕ → ℕ)) (draws : 
   abbrev view : PassState Entry Start → HubKit S P C R → View
   view = view_of to_come draws spawned linked draw_faults spawn_faults route_faults
 
+  -- A connection of the tally, as what its parts tell
   abbrev pub session_of : Connection (PassState Entry Start) (HubKit S P C R) I O → Session
   session_of c = record {
     before = view c.before.pass.value c.before.kit.value;
@@ -119,5 +122,6 @@ module _ {S P C R I O : Type 0} (to_come : C → Option (ℕ → ℕ)) (draws : 
     ended = c.ended;
   }
 
+  -- For each worker of the tally its connections, as what their parts tell
   abbrev pub sessions_of : Tally (PassState Entry Start) (HubKit S P C R) I O → List (List Session)
   sessions_of tally = map (λ cs. map session_of cs) (shifts_of tally)

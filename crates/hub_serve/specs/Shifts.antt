@@ -10,7 +10,7 @@ use Rattle.hub_serve.specs.declared.tally.Connection.{Connection}
 use Rattle.hub_serve.specs.declared.tally.Seen.{Seen}
 use Rattle.hub_serve.specs.declared.tally.Tally.{Tally}
 
--- how many there are in all
+-- How many there are in all lists
 abbrev pub count_of : {X : Type 0} → List (List X) → ℕ
 count_of [] = 0
 count_of (xs ∷ rest) = length xs + count_of rest
@@ -27,7 +27,7 @@ AreOf before after [] (xs ∷ xss) ks' = ⊥
 AreOf before after (k ∷ ks) (xs ∷ xss) [] = ⊥
 AreOf before after (k ∷ ks) (xs ∷ xss) (k' ∷ ks') = Spans before after k xs k' × AreOf before after ks xss ks'
 
--- the pass that is split off this one
+-- The pass that is split off this one
 abbrev pub split_from : {E A : Type 0} → PassState E A → PassState E A
 split_from p = fresh p.of p.base p.seen p.faults
 
@@ -36,16 +36,19 @@ module _ {P Q I O : Type 0} where
   abbrev pub shifts_of : Tally P Q I O → List (List (Connection P Q I O))
   shifts_of tally = map entries_of (entries_of tally.shifts)
 
-  -- its worker's pass and kit, before it and after it
+  -- The pass of its worker before it
   abbrev pub pass_before : Connection P Q I O → P
   pass_before c = c.before.pass.value
 
+  -- The pass of its worker after it
   abbrev pub pass_after : Connection P Q I O → P
   pass_after c = c.after.pass.value
 
+  -- The kit of its worker before it
   abbrev pub kit_before : Connection P Q I O → Q
   kit_before c = c.before.kit.value
 
+  -- The kit of its worker after it
   abbrev pub kit_after : Connection P Q I O → Q
   kit_after c = c.after.kit.value
 
@@ -59,8 +62,8 @@ module _ {P Q I O : Type 0} where
   GoFrom p [] = Unit {0}
   GoFrom p (c ∷ cs) = (p ≡ c.before.pass.value) × GoOn c cs
 
-  -- its two sides are those of one connection, and it ended so. How it ends is a fact of the pass, the kit and what both sides tell, before
-  -- and after
+  -- The two sides of the connection are those of one (`are_sides`), and it ended so (`ends`). How it ends is a fact of the pass, the kit
+  -- and what both sides tell, before and after; left and held say what they tell
   abbrev pub IsServed : (I → O → Type 0)
       → (P → Q → Option (List ℕ) → Option (List ℕ) → P → Q → Option (List ℕ) → Option (List ℕ) → Result Served SessionFault → Type 0)
       → (I → Option (List ℕ)) → (O → Option (List ℕ)) → Connection P Q I O → Type 0
@@ -68,25 +71,25 @@ module _ {P Q I O : Type 0} where
       × ends c.before.pass.value c.before.kit.value (left c.before.input.value) (held c.before.output.value)
       c.after.pass.value c.after.kit.value (left c.after.input.value) (held c.after.output.value) c.ended
 
-  -- a worker that began with the pass p and the kit j served these, and has the pass q and the kit k in the end
+  -- A worker that began with the pass p and the kit j served these connections, and has the pass q and the kit k in the end
   abbrev pub IsShift : (I → O → Type 0)
       → (P → Q → Option (List ℕ) → Option (List ℕ) → P → Q → Option (List ℕ) → Option (List ℕ) → Result Served SessionFault → Type 0)
       → (I → Option (List ℕ)) → (O → Option (List ℕ)) → P → Q → List (Connection P Q I O) → P → Q → Type 0
   IsShift are_sides ends left held p j cs q k =
       Spans pass_before pass_after p cs q × Spans kit_before kit_after j cs k × All (IsServed are_sides ends left held) cs
 
-  -- a worker that began with the pass p served these
+  -- These are all connections of a worker that began with the pass p, each with its own two sides and its right end
   abbrev pub IsWhole : (I → O → Type 0)
       → (P → Q → Option (List ℕ) → Option (List ℕ) → P → Q → Option (List ℕ) → Option (List ℕ) → Result Served SessionFault → Type 0)
       → (I → Option (List ℕ)) → (O → Option (List ℕ)) → P → List (Connection P Q I O) → Type 0
   IsWhole are_sides ends left held p cs = GoFrom p cs × All (IsServed are_sides ends left held) cs
 
--- what the pass of a worker that began with p has made in the end
+-- What the pass of a worker that began with p has made in the end
 abbrev pub own_of : {E A Q I O : Type 0} → PassState E A → List (Connection (PassState E A) Q I O) → List (ℕ × E)
 own_of p [] = p.mine
 own_of p (c ∷ cs) = own_of c.after.pass.value cs
 
--- own entries, and those that the workers' passes have made, each of which began with the pass p
+-- Own entries, with those that the passes of these workers have made, each of which began with the pass p
 abbrev pub all_own : {E A Q I O : Type 0} → PassState E A → List (ℕ × E) → List (List (Connection (PassState E A) Q I O)) → List (ℕ × E)
 all_own p mine [] = mine
 all_own p mine (cs ∷ rest) = all_own p (merged mine (own_of p cs)) rest
