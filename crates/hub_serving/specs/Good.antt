@@ -24,6 +24,6 @@ pub record NoneRose {K : Type 0} (faults : K → ℕ) (h h' : Hall) (k k' : K) :
 abbrev pub all_served : (connections : ℕ) → End
 all_served connections = Ok (record { count = connections; failed = false; line = Written })
 
--- all were served, or memory was wanting
+-- All connections of the plan were served, and the line says so, with the status 0; or memory was wanting, which is the status 7
 abbrev pub EndsWell : Plan → (told : Option End) → (status : ℕ) → Type 0
 EndsWell plan told status = ((status ≡ 0) × (told ≡ Some (all_served plan.connections))) ⊎ (status ≡ 7)

@@ -51,7 +51,7 @@ hall held write_faults given door_faults to_come left spawned routed draw_faults
       services = services_told ran routed to_come run_faults route_faults services;
     }
 
--- nothing was written or accepted, no moment was asked, and no device was called
+-- From h to h' nothing was written or accepted, no moment was asked, and no device was called
 pub record IsQuiet (h h' : Hall) : Type 0 where
   pub output : h'.output ≡ h.output
   pub doors : h'.doors ≡ h.doors
@@ -60,14 +60,14 @@ pub record IsQuiet (h h' : Hall) : Type 0 where
   pub kits : h'.kits ≡ h.kits
   pub services : h'.services ≡ h.services
 
--- the same of all but the workers' devices and the services
+-- The same of all but the workers' devices and the services
 pub record IsUnserved (h h' : Hall) : Type 0 where
   pub output : h'.output ≡ h.output
   pub doors : h'.doors ≡ h.doors
   pub clock : h'.clock ≡ h.clock
   pub kit : h'.kit ≡ h.kit
 
--- what the hub knows by a pass and these devices
+-- What the hub knows by a pass and the devices of the opening
 abbrev pub view_in : PassState Entry Start → Hall → View
 view_in pass h = record {
   pass = pass;
@@ -78,7 +78,7 @@ view_in pass h = record {
   faults = h.kit.faults;
 }
 
--- what is outside then, at a later view of the same devices
+-- What is outside then, at a later view y of the same devices
 abbrev pub at_view : Hall → View → Hall
 at_view h y = record h {
   clock = y.clock;

@@ -34,7 +34,7 @@ use Rattle.hub_serving.specs.declared.end.NotServed.TheVariants.{Because}
 use Rattle.hub_serving.specs.declared.plan.Plan.{Plan}
 
 -- As many connections were served as the listener gave: all that were asked for, unless its count of faults rose. The line tells their
--- number, and the devices of the opening weren't asked
+-- number, and the devices of the opening weren't asked. h is what is outside before, and h' after it
 pub record HasServed (connections : ℕ) (h h' : Hall) (end : Ended) : Type 0 where
   pub given : Gave h.doors.given end.count h'.doors.given
   pub most : end.count ≤ connections
@@ -44,13 +44,14 @@ pub record HasServed (connections : ℕ) (h h' : Hall) (end : Ended) : Type 0 wh
   pub clock : h'.clock ≡ h.clock
   pub kit : h'.kit ≡ h.kit
 
--- or memory was wanting before the first connection
+-- How so many connections were served, from h to h'; or memory was wanting before the first of them
 abbrev pub Serves : ℕ → Hall → Hall → End → Type 0
 Serves connections h h' (Ok end) = HasServed connections h h' end
 Serves connections h h' (Err why) = (why ≡ Because Memory) × IsUnserved h h'
 
 -- The calls on the route link were those that bring its routes into step with the servers of the state which the pass then saw, and with
--- the hub's own target, up to one that failed. The pass made no entry, and no other device was asked
+-- the hub's own target `hub`, up to one that failed. The pass made no entry, and no other device was asked. x is what is known before and y
+-- after it, and `answer` how it ended
 pub record Syncs (start : Start) (hub : Option (List ℕ)) (x : View) (answer : Result Synced SyncFault) (y : View) : Type 0 where
   pub same : IsSamePass x.pass y.pass
   pub comes : Comes x.pass.alone (sight x.pass) (sight y.pass)
@@ -68,24 +69,25 @@ pub record Syncs (start : Start) (hub : Option (List ℕ)) (x : View) (answer : 
   pub spawns : y.faults.spawner ≡ x.faults.spawner
 
 -- The services of the configuration, fewer than 2^32, were tended in rounds, one before the first connection and one after each, and
--- stopped at the end; or there was no memory for them
+-- stopped at the end; or there was no memory for them. h is what is outside before, and h' after it
 abbrev pub Attends : List ConfigManaged → Hall → Hall → End → Type 0
 Attends managed h h' end =
     ((length managed < 2 ^ 32) × ∥ Attended (map service_of managed) h.services h.doors.given h'.services h'.doors.given ∥₁)
     ⊎ ((end ≡ Err (Because Memory)) × (h'.services ≡ h.services))
 
--- each of these began with what the two sides of a connection tell when the listener gives it
+-- Each of these connections began with what the two sides of a connection tell when the listener gives it
 abbrev pub AreGiven : (Option (List ℕ) → Option (List ℕ) → Type 0) → List (List Session) → Type 0
 AreGiven Sides workers = All (λ ss. All (λ s. Sides s.left s.held) ss) workers
 
--- so many connections were served over a book, each on its own two sides, by workers who had the first of these devices and left the second
+-- So many connections were served over a book that began with `start`, each on its own two sides, by workers who had the first of these
+-- devices and left the second. The pass had made its entries before, and `entries` is the history then
 abbrev pub AreServedBy : (Option (List ℕ) → Option (List ℕ) → Type 0) → Start → PassState Entry Start → List Entry → ℕ
     → (kits kits' : List DevicesTold) → Type 0
 AreServedBy Sides start pass entries number kits kits' =
     (workers : List (List Session)) × AreServed start pass entries number workers × AreGiven Sides workers
     × AreOf devices_before devices_after kits workers kits'
 
--- how many connections were served
+-- How many connections were served
 abbrev pub served_by : End → ℕ
 served_by (Ok end) = end.count
 served_by (Err why) = 0
@@ -106,7 +108,8 @@ module _ {K : Type 0} (Tells : K → Type 0) (rows : K → Rows) (faults : K →
     pub devices : AreOf devices_before devices_after h.kits workers h'.kits
     pub kept : HasKept Tells rows faults start entries k'
 
-  -- the routes were brought into step, as far as the link didn't fail, and then connections were served; or memory was wanting for that
+  -- The routes were brought into step, as far as the link didn't fail, and then connections were served by this plan; or memory was wanting
+  -- for that. `pass` is the hub's own pass before, h what is outside then, h' the same afterwards, and k' the store in the end
   pub record EndsSynced (start : Start) (pass : PassState Entry Start) (plan : Plan) (h h' : Hall) (k' : K) (end : End) : Type 0 where
     pub answer : Result Synced SyncFault
     pub synced : View
@@ -114,24 +117,28 @@ module _ {K : Type 0} (Tells : K → Type 0) (rows : K → Rows) (faults : K →
     pub wanting : answer ≡ Err sync.Memory → end ≡ Err (Because Memory)
     pub ends : EndsReady start synced.pass plan (at_view h synced) h' k' end
 
-  -- from the view x on the servers that were being adopted were taken back, and then the routes brought into step and connections served
+  -- From the view x on the servers that were being adopted were taken back, and then the routes brought into step and connections served by
+  -- this plan. h is what is outside before, h' after it, and k' the store in the end
   pub record EndsBy (start : Start) (x : View) (plan : Plan) (h h' : Hall) (k' : K) (end : End) : Type 0 where
     pub told : Adopted
     pub ready : View
     pub takes : TakesBack start x told ready
     pub ends : EndsSynced start ready.pass plan (at_view h ready) h' k' end
 
-  -- memory was wanting before the first call of a device
+  -- Memory was wanting before the first call of a device: nothing was done, and the store has the rows of a history without entries, where
+  -- it tells them
   pub record IsUntouched (start : Start) (h h' : Hall) (k' : K) (end : End) : Type 0 where
     pub wanting : end ≡ Err (Because Memory)
     pub quiet : IsQuiet h h'
     pub kept : HasKept Tells rows faults start [] k'
 
-  -- by the first pass of a book without entries
+  -- How the command ends by the first pass of a book that began with `start` and has no entries: memory was wanting before the first call
+  -- of a device, or the hub served by this plan
   abbrev pub EndsDesk : Start → PassState Entry Start → Plan → Hall → Hall → K → End → Type 0
   EndsDesk start pass plan h h' k' end = IsUntouched start h h' k' end ⊎ EndsBy start (view_in pass h) plan h h' k' end
 
-  -- over a book that was opened, whose history is empty; or there was no memory for its first pass
+  -- How the command ends over a book that was opened with `start`, whose history is empty and whose keeper had counted so many faults:
+  -- there was no memory for its first pass, or that pass served
   abbrev pub EndsOver : Start → (counted : ℕ) → Plan → Hall → Hall → K → End → Type 0
   EndsOver start counted plan h h' k' end =
       IsUntouched start h h' k' end ⊎ ((table : TableId) × EndsDesk start (opening table start [] counted) plan h h' k' end)
