@@ -15,18 +15,18 @@ use Rattle.hub_core.specs.declared.start.Start.{Start}
 use Rattle.hub_sync.specs.declared.calls.RouteCall.{RouteCall}
 use Rattle.hub_sync.specs.declared.calls.RouteCall.TheVariants.{Add, Delete}
 
--- a route with this path is in the list
+-- A route with this path is in the list of routes
 abbrev pub is_listed : List ListedRoute → List ℕ → Bool
 is_listed routes path = list_any (λ (r : ListedRoute). pointwise nat_eq r.path path) routes
 
 -- ---- what is added
 
--- the route to the hub itself, where it has a target
+-- The route to the hub itself, at the path `/`, where it has a target and the list has no route there
 abbrev pub hub_additions : List ListedRoute → Option (List ℕ) → List RouteCall
 hub_additions routes None = []
 hub_additions routes (Some target) = if is_listed routes (codes "/") then [] else Add (codes "/") target None ∷ []
 
--- the route of a server, with the serial of its generation
+-- The call that adds the route of this ready server, with the serial of its generation, where the list has no route at its path
 abbrev pub addition_of : List ListedRoute → LiveServer → Option RouteCall
 addition_of routes s =
     if is_listed routes (route_path s.server) then None
@@ -34,28 +34,30 @@ addition_of routes s =
 
 -- ---- what is deleted
 
--- the path is that of the server, if there is one
+-- The path is that of the server's route, if there is a server
 abbrev is_of : List ℕ → Option ServerKey → Bool
 is_of path None = false
 is_of path (Some server) = pointwise nat_eq (route_path server) path
 
--- the generation is live for the server of this path; a path that is no server's has no live generation
+-- The generation g is live for the server of this path; a path that is no server's has no live generation
 abbrev pub is_live_at : Lives → List ℕ → ℕ → Bool
 is_live_at lives path g = is_of path (server_of lives g)
 
--- an even serial is that of an addition
+-- The call that deletes the route at this path, if one is due. A route that a hub added has an even serial, twice its generation; it is
+-- deleted, with the next serial, where that generation isn't live for the path. A route without a serial, or with an odd one, stays
 abbrev pub deletion_by : Lives → List ℕ → Option ℕ → Option RouteCall
 deletion_by lives path None = None
 deletion_by lives path (Some serial) =
     if (serial % 2 == 0) && not (is_live_at lives path (serial / 2)) then Some (Delete path (serial + 1)) else None
 
--- the deletion that a listed route asks for, if it asks for one
+-- The call that deletes this listed route, if one is due by the live servers
 abbrev pub deletion_of : Lives → ListedRoute → Option RouteCall
 deletion_of lives r = deletion_by lives r.path r.serial
 
 -- ---- all calls
 
--- the hub's route, those of the ready servers in the order of their keys, and then the deletions in the order of the list
+-- These are the calls that bring the listed routes into step with the live servers and with the hub's target, if it has one: first the
+-- hub's own route, then those of the ready servers in the order of their keys, and then the deletions in the order of the list
 pub record IsPlan (lives : Lives) (hub : Option (List ℕ)) (routes : List ListedRoute) (calls : List RouteCall) : Type 0 where
   pub servers : List LiveServer
   pub ready : AreReady lives servers
@@ -72,6 +74,6 @@ pub record IsPlanFor (start : Start) (entries : List Entry) (hub : Hub → Optio
   pub reached : Reached start entries state
   pub plan : IsPlan state.lives (hub state) routes calls
 
--- the same where its target is known from outside
+-- The same where the target of the hub's own route is known from outside, if it has one
 abbrev pub IsPlanAt : Start → List Entry → Option (List ℕ) → List ListedRoute → List RouteCall → Type 0
 IsPlanAt start entries hub = IsPlanFor start entries (λ (s : Hub). hub)
