@@ -18,30 +18,36 @@ use Rattle.hub_tables.specs.declared.parties.Party.{Party}
 use Rattle.hub_tables.specs.declared.parties.Party.TheVariants.{User, Group, Service}
 use Rattle.hub_tables.specs.contracts.parties.PartyOrd.TheImpl as party
 
+-- The order of parties: users before groups before services, each by name
 abbrev pub party_cmp : Party → Party → Ordering
 party_cmp = party.ghosts.cmp
 
+-- parties that compare alike are one: the proof of a law of `Key`, which stands here since a source cites only what stands in specs/
 pub party_exact : IsAntisymmetric party_cmp
 party_exact (User a) (User b) h = ap User (names_exact a b h)
 party_exact (Group a) (Group b) h = ap Group (names_exact a b h)
 party_exact (Service a) (Service b) h = ap Service (names_exact a b h)
 party_exact _ _ h = cc
 
+-- The owner of a token as a party
 abbrev pub of_owner : Owner → Party
 of_owner (Of.User user) = User user
 of_owner (Of.Service service) = Service service
 
+-- The recipient of a share as a party
 abbrev pub of_recipient : Recipient → Party
 of_recipient (To.User user) = User user
 of_recipient (To.Group group) = Group group
 
+-- The user whose server is shared
 abbrev pub giver_of : ShareKey → Party
 giver_of key = User key.server.user
 
--- a token is its owner's
+-- The token is the party's: that is its owner
 abbrev pub is_token_of : Party → Token → Bool
 is_token_of party token = eq_by_cmp party_cmp party (of_owner token.owner)
 
+-- The token is the party's, and has expired by the moment `now`
 abbrev pub is_over_token_of : Party → (now : ℕ) → Token → Bool
 is_over_token_of party now token = is_token_of party token && is_over now token.expires_at
 
@@ -50,10 +56,10 @@ abbrev pub owner_number : Owner → ℕ
 owner_number (Of.User user) = number_of user
 owner_number (Of.Service service) = number_of service
 
--- a token is found under the number of its owner
+-- The token is found under this number, which is its owner's
 abbrev pub is_numbered : (number : ℕ) → Token → Bool
 is_numbered number token = eq_by_cmp nat_cmp number (owner_number token.owner)
 
--- a share is the user's whose server it is, and its recipient's
+-- The share is the party's: of the user whose server it is, and of its recipient
 abbrev pub is_share_of : Party → Share → Bool
 is_share_of party share = eq_by_cmp party_cmp party (giver_of share.key) || eq_by_cmp party_cmp party (of_recipient share.key.to)
