@@ -9,14 +9,16 @@ use Rattle.keeper.specs.declared.keeper.Item.TheVariants.{Put, Delete}
 use Rattle.keeper.specs.declared.keeper.Row.{Row}
 use Rattle.keeper.specs.declared.row_key.RowKey.{RowKey}
 
+-- The places of a tree, each with a text, or without one
 abbrev pub HeldTexts : Type 0
 HeldTexts = FinMap key_cmp (Option (List ℕ))
 
+-- The text at a place, where the place is there and has one
 abbrev pub text_in : Option (Option (List ℕ)) → Option (List ℕ)
 text_in None = None
 text_in (Some text) = text
 
--- the rows that stand there
+-- The rows that stand in the tree
 abbrev pub held : HeldTexts → Rows
 held texts kind key = text_in (get texts (record { kind = kind; key = key }))
 
@@ -25,11 +27,12 @@ abbrev pub is_bare : Option (Option (List ℕ)) → Bool
 is_bare None = false
 is_bare (Some text) = is_none text
 
--- what an item does
+-- What an item does: its text at its place, or none there
 abbrev pub step_of : Item → Step
 step_of (Put row) = record { at = record { kind = row.kind; key = row.key }; text = Some row.text }
 step_of (Delete kind key) = record { at = record { kind = kind; key = key }; text = None }
 
+-- The rows after these steps, one after the other
 abbrev pub after_steps : List Step → Rows → Rows
 after_steps [] rows = rows
 after_steps (step ∷ steps) rows = after_steps steps (with_text step.at.kind step.at.key step.text rows)
@@ -48,6 +51,7 @@ abbrev pub row_at : RowKey → Option (List ℕ) → List Row
 row_at at None = []
 row_at at (Some text) = record { kind = at.kind; key = at.key; text = text } ∷ []
 
+-- The rows of these places, in their order
 abbrev pub rows_in : List (RowKey × Option (List ℕ)) → List Row
 rows_in [] = []
 rows_in (e ∷ es) = row_at e.0 e.1 ++ rows_in es

@@ -12,9 +12,11 @@ use Rattle.keeper.specs.declared.keeper.KeeperError.{KeeperError}
 use Rattle.keeper.specs.declared.keeper.KeeperError.TheVariants.{Failed, Memory}
 use Rattle.keeper.specs.declared.keeper.Row.{Row}
 
+-- The text that is kept under each kind and key, if one is
 abbrev pub Rows : Type 0
 Rows = ℕ → List ℕ → Option (List ℕ)
 
+-- The two keep the same text under each kind and key, or both none
 abbrev pub AreSame : Rows → Rows → Type 0
 AreSame a b = (kind : ℕ) (key : List ℕ) → a kind key ≡ b kind key
 
@@ -27,6 +29,7 @@ abbrev pub with_text : ℕ → List ℕ → Option (List ℕ) → Rows → Rows
 with_text kind key text rows other_kind other_key =
     if is_at kind key other_kind other_key then text else rows other_kind other_key
 
+-- The rows after an item: its row is put, or the row of its kind and key goes
 abbrev pub after_item : Item → Rows → Rows
 after_item (Put row) rows = with_text row.kind row.key (Some row.text) rows
 after_item (Delete kind key) rows = with_text kind key None rows
@@ -36,6 +39,7 @@ abbrev pub after_items : List Item → Rows → Rows
 after_items [] rows = rows
 after_items (item ∷ items) rows = after_items items (after_item item rows)
 
+-- No row is kept
 abbrev pub no_rows : Rows
 no_rows kind key = None
 
@@ -43,7 +47,7 @@ no_rows kind key = None
 abbrev pub rows_of : List Row → Rows
 rows_of rows = after_items (map Put rows) no_rows
 
--- by the kind, and then by the bytes of the key
+-- The order of rows: by the kind, and then by the bytes of the key
 abbrev pub row_cmp : Row → Row → Ordering
 row_cmp a b = ordering_then (nat_cmp a.kind b.kind) (name_cmp a.key b.key)
 
@@ -52,7 +56,7 @@ pub record Lists (rows : Rows) (listed : List Row) : Type 0 where
   pub in_order : IsStrictlySortedBy row_cmp listed
   pub same : AreSame (rows_of listed) rows
 
--- the place that is given, if one is
+-- The place that is given, if one is
 abbrev pub place_of : Option (Bor (List ℕ)) → Option (List ℕ)
 place_of None = None
 place_of (Some place) = Some place.now
