@@ -24,8 +24,8 @@ abbrev pub faults_after : {A : Type 0} → Result A KeeperError → ℕ → ℕ
 faults_after (Ok a) faults = faults
 faults_after (Err cause) faults = counted cause faults
 
--- why a store wasn't read: for want of memory; or the disk failed and counted it, the connection was shut, or there was a limit on its
--- steps
+-- Why a store wasn't read, whose connection was `old` before and is `new` then: for want of memory; or the disk failed and counted it, the
+-- connection was shut, or there was a limit on its steps
 abbrev pub IsNotRead : State → State → KeeperError → Type 0
 IsNotRead old new Memory = ⊤
 IsNotRead old new Failed = MoreFaults old.faults new.faults ⊎ ((old.is_open ≡ false) ⊎ IsSome old.step_limit)

@@ -26,6 +26,7 @@ abbrev pub values_of : Item → Row
 values_of (Put row) = Int (pos row.kind) ∷ Text row.key ∷ Text row.text ∷ []
 values_of (Delete kind key) = Int (pos kind) ∷ Text key ∷ []
 
+-- The schema has no table and no view
 abbrev pub HasNoTables : Schema → Type 0
 HasNoTables schema = (schema.tables ≡ []) × (schema.views ≡ [])
 
@@ -41,6 +42,7 @@ module _ {S : Type 0} (g : Ghosts S) where
   IsRaised Old old new = ExecutesAllInside g 0 raise_text old new (Ok tt)
   IsRaised New old new = new ≡ old
 
+  -- The store is of a form that is known, and of the newest one then
   pub record IsKnown (old new : Held S) : Type 0 where
     pub form : Form
     pub found : Held S
@@ -58,7 +60,8 @@ module _ {S : Type 0} (g : Ghosts S) where
   AreDone (item ∷ items) old new =
       (mid : _) × (count : ℕ) × Executes (text_of item) (values_of item) (state g old) (state g mid) (Ok count) × AreDone items mid new
 
-  -- what was committed is what a transaction saw in which all of them were done
+  -- The items were done in one transaction, in an empty store behind the making of its tables, and what was committed is what that
+  -- transaction saw in the end
   pub record IsCommitted (items : List Item) (old new : Held S) : Type 0 where
     pub is_empty : Bool
     pub empty : IsTrue is_empty → HasNoTables (state g old).now.schema
