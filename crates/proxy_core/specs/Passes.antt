@@ -41,7 +41,7 @@ pub record Going : Type 0 where
   pub text : List ℕ
   pub framing : Framing
 
--- `body` was taken, `given` sent and `got` received
+-- `body` was taken of the client, `given` sent to the upstream and `got` received of it, from old to new
 abbrev pub Moved : Place → Place → List ℕ → List ℕ → List ℕ → Type 0
 Moved old new body given got = Took old.left old.kept new.left (body ++ new.kept) × Moves old.told given got new.told
 
@@ -75,6 +75,7 @@ stop_of body.SendFault = stop.Refused refusal.Link
 stop_of body.Memory = stop.Refused refusal.Memory
 stop_of body.Bad = stop.Refused refusal.BadChunk
 
+-- The refusal where no reply came, by the reason
 abbrev pub refusal_of : ReplyError → Refusal
 refusal_of reply.Bad = refusal.BadUpstream
 refusal_of reply.Fault = refusal.Link
@@ -125,7 +126,7 @@ pub record IsUnwritten (q : Going) (old new : Place) (body given got part : List
       ⊎ ((r : ResponseHead) × (f : Framing) × (rest : List ℕ) × BeginsReply q.upgrade q.method got r f rest
       × IsCutBack (reply_passed r) f rest part more × WentOn q new.kept body given old.links new.links)
 
--- how a request to an upstream that is connected ends
+-- How the request q to an upstream that is connected ends. old is all that the call touches, and new the same after it
 abbrev pub PassEnds : Going → Place → Place → Result Forwarded SessionFault → Type 0
 PassEnds q old new (Ok Passed) =
     (body given got gave : List ℕ) × Moved old new body given got × WentOn q new.kept body given old.links new.links
@@ -177,5 +178,6 @@ pub record Unlinked (target : List ℕ) (old new : Place) (result : Result Forwa
   pub why : ((cause ≡ refusal.Memory) × (new.told ≡ old.told))
       ⊎ ((cause ≡ refusal.Link) × Misses old.told target new.told × Rises old.links new.links)
 
+-- How the request q to this target ends: a connection was made there, and what followed; or none was
 abbrev pub PassOn : Going → List ℕ → Place → Place → Result Forwarded SessionFault → Type 0
 PassOn q target old new result = Linked q target old new result ⊎ Unlinked target old new result
