@@ -34,10 +34,11 @@ IsMoment n = n ≤ greatest
 abbrev pub IsWord : ℕ → Type 0
 IsWord n = n < 2 ^ 64
 
+-- a moment is a word: the proof of a law of `Whole`, which stands here since a source cites only what stands in specs/
 pub moment_fits : (n : ℕ) → IsMoment n → IsWord n
 moment_fits n h = omega arith
 
--- ---- such fields read back
+-- ---- such fields read back: for the proofs of the law `plain` of `Record`, which are in specs/ since the sources cite them
 
 pub moment_plain : (o : Option ℕ) → IfThere IsMoment o → IsPlain (maybe whole o)
 moment_plain None h = tt
