@@ -15,6 +15,7 @@ use Rattle.roles.specs.Rights.{IsAllowed, IsGrantOf}
 abbrev pub Entry : Type 0
 Entry = ℕ × KeptGrant
 
+-- A cache of the grants of tokens, as contracts see it
 pub record Cache : Type 0 where
   -- the most recently used first
   pub entries : List Entry
@@ -27,27 +28,32 @@ pub record Cache : Type 0 where
 abbrev pub IsApart : Cache → Type 0
 IsApart c = (id : ℕ) (kept other : KeptGrant) → c.held ≡ Some (id, kept) → Contains c.entries (id, other) → ⊥
 
+-- A cache that has room for so many entries, and none yet
 abbrev pub no_entries : ℕ → Cache
 no_entries capacity = record { entries = []; capacity = capacity; held = None; hits = 0 }
 
 -- ---- what is there
 
+-- The grant that is kept, where it is of this stamp
 abbrev pub with_stamp : ℕ → Option KeptGrant → Option Rights
 with_stamp stamp None = None
 with_stamp stamp (Some kept) = if nat_eq kept.stamp stamp then Some kept.grant else None
 
+-- The grant of an entry, where it is of this id
 abbrev pub with_id : ℕ → Option Entry → Option KeptGrant
 with_id id None = None
 with_id id (Some entry) = if nat_eq id entry.0 then Some entry.1 else None
 
+-- The first grant, or else the second
 abbrev pub or_else : Option Rights → Option Rights → Option Rights
 or_else (Some grant) other = Some grant
 or_else None other = other
 
--- the grant of this id with this stamp in the list, and anywhere
+-- The grant of this id with this stamp in the list
 abbrev pub listed : Cache → ℕ → ℕ → Option Rights
 listed c id stamp = with_stamp stamp (lookup (nat_eq id) c.entries)
 
+-- The grant of this id with this stamp, in the list or held
 abbrev pub found : Cache → ℕ → ℕ → Option Rights
 found c id stamp = or_else (listed c id stamp) (with_stamp stamp (with_id id c.held))
 
@@ -70,15 +76,17 @@ IsAfterMiss c id kept n =
     (n ≡ record c { entries = put_entries nat_eq (lru_cache c.entries c.capacity) id kept; held = None })
     ⊎ ((lookup (nat_eq id) c.entries ≡ None) × (n ≡ record c { held = Some (id, kept) }))
 
+-- A grant as it is kept, with the stamp of now
 abbrev pub kept_now : ℕ → Rights → KeptGrant
 kept_now stamp grant = record { stamp = stamp; grant = grant }
 
--- a look was a hit, and told that entry's grant; or it was none, and told the grant that is now kept
+-- A look for this id and stamp in the cache c told this grant and left n. It was a hit, and told the grant that was there; or it was none,
+-- and told the grant that is now kept
 abbrev pub IsAfter : Cache → ℕ → ℕ → Option Rights → Rights → Cache → Type 0
 IsAfter c id stamp (Some there) grant n = (grant ≡ there) × (n ≡ after_hit c id stamp)
 IsAfter c id stamp None grant n = IsAfterMiss c id (kept_now stamp grant) n
 
--- without memory there was no hit, and the cache is as before
+-- A look for this id and stamp in the cache c came to this and left n; without memory there was no hit, and the cache is as before
 abbrev pub IsLooked : Cache → ℕ → ℕ → Result (Bor Rights) AllocError → Cache → Type 0
 IsLooked c id stamp (Ok grant) n = IsAfter c id stamp (found c id stamp) grant.now n
 IsLooked c id stamp (Err e) n = (found c id stamp ≡ None) × (n ≡ c)

@@ -13,7 +13,7 @@ abbrev pub roles_naming : State → Owner → List (List ℕ)
 roles_naming t (Own.User u) = roles_naming_user t u ++ flat_map (roles_naming_group t) (groups_of t u)
 roles_naming t (Own.Service v) = roles_naming_service t v
 
--- the scopes of a role that may be kept
+-- The scopes of a role, or none where it isn't kept
 abbrev pub scopes_at : Option Role → List RawScope
 scopes_at None = []
 scopes_at (Some role) = role.scopes

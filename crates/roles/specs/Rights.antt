@@ -43,9 +43,11 @@ received t (Own.User u) (To.User w) = same u w
 received t (Own.User u) (To.Group g) = is_member (context t) u g
 received t (Own.Service v) to = false
 
+-- The kept roles that the owner holds
 abbrev pub roles_held : State → Owner → List Role
 roles_held t w = filter (holds_role t w) (values t.roles)
 
+-- The kept shares that the owner received
 abbrev pub shares_received : State → Owner → List Share
 shares_received t w = filter (λ share. received t w share.key.to) (values t.shares)
 
@@ -76,13 +78,16 @@ OwnerMay t w a x = IsMeant t.scopes (scopes_held t w) (bare w) (context t) a x
 
 -- ---- tokens
 
+-- A token as the holder of its scopes: its owner, and the server that it was issued for
 abbrev pub holder_of : Token → Holder
 holder_of k = record { owner = k.owner; issued_for = k.issued_for }
 
+-- The scope is `inherit`
 abbrev pub is_inherit : RawScope → Bool
 is_inherit Inherit = true
 is_inherit _ = false
 
+-- One of the scopes is `inherit`
 abbrev pub inherits : List RawScope → Bool
 inherits scopes = list_any is_inherit scopes
 

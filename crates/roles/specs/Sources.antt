@@ -6,6 +6,7 @@ use Rattle.hub_rows.specs.declared.records.Token.{Token}
 use Rattle.hub_tables.specs.Lookups.{is_admin}
 use Rattle.hub_tables.specs.State.{State}
 
+-- The owner is a user who is an admin
 abbrev pub is_admin_owner : State → Owner → Bool
 is_admin_owner t (Own.User u) = is_admin t u
 is_admin_owner t (Own.Service v) = false
