@@ -11,9 +11,11 @@ use Rattle.std.proofs.lemmas.Map.Lookups.{exact_pairs}
 use Rattle.keyed_rows.specs.Rows.{is_kept_and}
 use Rattle.row_indexes.specs.declared.owned.OwnedKey.{OwnedKey}
 
--- by the owner, and then by the key; without a key before all others
+-- The order of owned keys: by the owner, and then by the key; one without a key comes before all others of its owner
 abbrev pub owned_cmp : {O K : Type 0} → (O → O → Ordering) → (K → K → Ordering) → OwnedKey O K → OwnedKey O K → Ordering
 owned_cmp Q R a b = ordering_then (Q a.owner b.owner) (option_cmp R a.key b.key)
+
+-- ---- proofs of laws of `Key` and of the order of owned keys, which stand here since a source cites only what stands in specs/
 
 options_exact : {K : Type 0} {R : K → K → Ordering} → IsAntisymmetric R → IsAntisymmetric (option_cmp R)
 options_exact exact None None h = refl
@@ -35,9 +37,13 @@ owned_together Q R a b h = elim (Q a.owner b.owner) as (λ r. ordering_then r (o
   | Greater ↦ λ h. cc
 ] h
 
+-- ---- what an index tells
+
+-- The key under its owner
 abbrev pub under : {O K : Type 0} → O → K → OwnedKey O K
 under owner key = record { owner = owner; key = Some key }
 
+-- The key, where there is one
 abbrev pub key_list : {K : Type 0} → Option K → List K
 key_list None = []
 key_list (Some key) = key ∷ []
@@ -56,6 +62,7 @@ module _ {O K : Type 0} (Q : O → O → Ordering) (R : K → K → Ordering) wh
   IsNoted owner key before after = (o : O) (k : K)
       → contains_key after (under o k) ≡ ((eq_by_cmp Q o owner && eq_by_cmp R k key) || contains_key before (under o k))
 
+  -- The key stands under the owner no more, and all else is as before
   abbrev pub IsForgotten : O → K → FinMap (owned_cmp Q R) (Unit {0}) → FinMap (owned_cmp Q R) (Unit {0}) → Type 0
   IsForgotten owner key before after = (o : O) (k : K)
       → contains_key after (under o k) ≡ (not (eq_by_cmp Q o owner && eq_by_cmp R k key) && contains_key before (under o k))
