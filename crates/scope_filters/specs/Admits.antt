@@ -10,6 +10,7 @@ use Rattle.scope_filters.specs.declared.filter.Filter.{Filter}
 use Rattle.scope_filters.specs.declared.filter.Filter.TheVariants as Fi
 use Rattle.scope_filters.specs.Contexts.{Context, same, is_member}
 
+-- The two keys are those of one server
 abbrev pub same_server : ServerKey → ServerKey → Bool
 same_server k l = same k.user l.user && same k.server l.server
 
@@ -18,7 +19,7 @@ abbrev pub reads_names : Action → Bool
 reads_names ReadUsersName = true
 reads_names _ = false
 
--- a filter admits an object
+-- The filter f admits the action a on the object x, where m has the members of the groups
 abbrev pub admits : Action → Context → Filter → Object → Bool
 admits a m Fi.All x = true
 admits a m (Fi.User u) (Ob.User w) = same u w
@@ -32,6 +33,6 @@ admits a m (Fi.Service v) (Ob.Service w) = same v w
 admits a m (Fi.OwnerOf u) (Ob.User w) = same u w
 admits a m _ _ = false
 
--- one of the filters does
+-- One of the filters admits the action on the object
 abbrev pub any_admits : Action → Context → List Filter → Object → Bool
 any_admits a m fs x = list_any (λ f. admits a m f x) fs

@@ -11,5 +11,6 @@ Context = List ℕ → List (List ℕ)
 abbrev pub same : List ℕ → List ℕ → Bool
 same = pointwise nat_eq
 
+-- The user is a member of the group
 abbrev pub is_member : Context → List ℕ → List ℕ → Bool
 is_member m user group = list_any (same user) (m group)

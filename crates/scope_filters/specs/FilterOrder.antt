@@ -7,9 +7,11 @@ use Rattle.scope_filters.specs.declared.filter.Filter.{Filter}
 use Rattle.scope_filters.specs.declared.filter.Filter.TheVariants as Fi
 use Rattle.scope_filters.specs.contracts.filter.FilterOrd.TheImpl as filter
 
--- by the kind, and then by the name
+-- The order of filters: by the kind, and then by the name
 abbrev pub filter_cmp : Filter → Filter → Ordering
 filter_cmp = filter.ghosts.cmp
+
+-- ---- filters that compare alike are one: the proof of a law of `Key`, which stands here since a source cites only what stands in specs/
 
 names_exact : IsAntisymmetric name_cmp
 names_exact = slice_cmp-IsAntisymmetric nat_cmp-IsAntisymmetric

@@ -8,7 +8,7 @@ use Rattle.keyed_rows.specs.Rows.{map_of}
 use Rattle.scope_filters.specs.declared.filter.Filter.{Filter}
 use Rattle.scope_filters.specs.FilterOrder.{filter_cmp}
 
--- the filters of both
+-- The set of filters that lies as one in front, if it is there, and a tree of the others
 abbrev pub set_of : Option Filter → BTreeMap Filter (Unit {0}) → FinSet filter_cmp
 set_of None others = map_of filter_cmp others
 set_of (Some first) others = insert (map_of filter_cmp others) first tt

@@ -10,21 +10,24 @@ use Rattle.scope_filters.specs.Contexts.{Context}
 use Rattle.scope_filters.specs.Admits.{admits, any_admits}
 use Rattle.scope_filters.specs.FilterOrder.{filter_cmp}
 
+-- What may be done: for each action that stands in it a set of filters
 abbrev pub Rights : Type 0
 Rights = FinMap action_cmp (FinSet filter_cmp)
 
+-- The filters of a set that may lack, in order
 abbrev pub listed : Option (FinSet filter_cmp) → List Filter
 listed None = []
 listed (Some filters) = keys filters
 
--- the filters under an action, in order
+-- The filters under an action, in order
 abbrev pub filters_at : Rights → Action → List Filter
 filters_at g a = listed (get g a)
 
--- one of the filters under an action admits an object
+-- The grant g admits the action a on the object x: one of the filters under the action does, where m has the members of the groups
 abbrev pub grant_admits : Context → Rights → Action → Object → Bool
 grant_admits m g a x = any_admits a m (filters_at g a) x
 
+-- A set that may lack, with one filter more
 abbrev pub with_one : Option (FinSet filter_cmp) → Filter → FinSet filter_cmp
 with_one None f = insert empty f tt
 with_one (Some filters) f = insert filters f tt
@@ -33,7 +36,7 @@ with_one (Some filters) f = insert filters f tt
 abbrev pub with_filter : Rights → Action → Filter → Rights
 with_filter g a f = insert g a (with_one (get g a) f)
 
--- the second grant admits what the first does, and under one action what a filter does, and nothing else
+-- The grant h admits what g does, and under the action a what the filter f does, and nothing else
 abbrev pub AdmitsMore : Rights → Action → Filter → Rights → Type 0
 AdmitsMore g a f h = (m : Context) (b : Action) (x : Object)
     → grant_admits m h b x ≡ ((same_action b a && admits b m f x) || grant_admits m g b x)

@@ -3,6 +3,7 @@ use Rattle.hub_kit.specs.Names.{IsName, IsServerName}
 use Rattle.scope_filters.specs.declared.scope.RawFilter.{RawFilter}
 use Rattle.scope_filters.specs.declared.scope.RawFilter.TheVariants as Raw
 
+-- What stands for a name in a filter, as it is written, is one
 abbrev pub IsFilterName : RawFilter → Type 0
 IsFilterName (Raw.User user) = IsName user
 IsFilterName (Raw.Group group) = IsName group

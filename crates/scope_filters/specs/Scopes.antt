@@ -19,13 +19,15 @@ use Rattle.scope_filters.specs.declared.scope.ScopeError.TheVariants as No
 
 -- ---- reading
 
--- what stands before the first such byte of a text, and what stands after it, where the text has one
+-- What stands before the first such byte of a text, or the whole text where it has none
 abbrev pub before : ℕ → List ℕ → List ℕ
 before byte text = before_first (λ b. b == byte) text
 
+-- What stands after the first such byte of a text, where it has one
 abbrev pub after : ℕ → List ℕ → Option (List ℕ)
 after byte text = if nat_lt (position_or_len (λ b. b == byte) text) (length text) then Some (after_first (λ b. b == byte) text) else None
 
+-- The kind that a text names, if it names one
 abbrev pub kind_read : List ℕ → Option Kind
 kind_read text =
     if same text (codes "user") then Some Ki.User
@@ -47,6 +49,7 @@ value_error at Name.Empty = No.BadValue at
 value_error at Name.TooLong = No.BadValue at
 value_error at Name.Memory = No.Memory
 
+-- The filter of a value that was read, which begins at a place, or where the value is wrong
 abbrev pub filter_of : {X : Type 0} → (X → RawFilter) → ℕ → Result X NameError → Result RawFilter ScopeError
 filter_of filter at (Ok name) = Ok (filter name)
 filter_of filter at (Err e) = Err (value_error at e)
@@ -58,6 +61,7 @@ value_read at Ki.Group value = filter_of Raw.Group at (name_read value)
 value_read at Ki.Server value = filter_of Raw.Server at (key_read value)
 value_read at Ki.Service value = filter_of Raw.Service at (name_read value)
 
+-- A filter whose kind, if it is one, ends at a place, and whose value, if it has one, stands behind the '=' there
 abbrev pub kinded_read : ℕ → Option Kind → Option (List ℕ) → Result RawFilter ScopeError
 kinded_read end None value = Err No.UnknownKind
 kinded_read end (Some kind) None = holder_read end kind
@@ -72,6 +76,7 @@ abbrev pub meta_read : RawScope → Option (List ℕ) → Result RawScope ScopeE
 meta_read scope None = Ok scope
 meta_read scope (Some filter) = Err No.FilterOnMeta
 
+-- An action with the filter that was read
 abbrev pub filtered : Action → Result RawFilter ScopeError → Result RawScope ScopeError
 filtered a (Ok filter) = Ok (Plain a filter)
 filtered a (Err e) = Err e
@@ -82,6 +87,7 @@ plain_read end None filter = Err No.UnknownName
 plain_read end (Some a) None = Ok (Plain a Raw.Unfiltered)
 plain_read end (Some a) (Some filter) = filtered a (filter_read (end + 1) filter)
 
+-- What a scope means whose text is this name, with this filter, if it has one
 abbrev pub named_read : List ℕ → Option (List ℕ) → Result RawScope ScopeError
 named_read name filter =
     if same name (codes "self") then meta_read SelfScope filter
@@ -93,6 +99,7 @@ scope_read text = named_read (before 33 text) (after 33 text)
 
 -- ---- writing
 
+-- The text of a filter behind its action
 abbrev pub filter_text : RawFilter → List ℕ
 filter_text Raw.Unfiltered = []
 filter_text (Raw.User user) = codes "!user=" ++ user
@@ -103,6 +110,7 @@ filter_text Raw.HolderUser = codes "!user"
 filter_text Raw.HolderServer = codes "!server"
 filter_text Raw.HolderService = codes "!service"
 
+-- The text of a scope
 abbrev pub scope_text : RawScope → List ℕ
 scope_text (Plain action filter) = text_of action ++ filter_text filter
 scope_text SelfScope = codes "self"
