@@ -20,20 +20,23 @@ use Rattle.scope_names.specs.declared.action.Action.TheVariants.{ReadUsersGroups
 use Rattle.scope_names.specs.declared.action.Action.TheVariants.{Tokens, Users, UsersActivity, UsersShares}
 use Rattle.scope_names.specs.Actions.{place_of, name_of}
 
--- what tells an action from every other
+-- What tells an action from every other: its place in the table, and the name of a custom one
 abbrev pub rank : Action → List ℕ
 rank a = place_of a ∷ name_of a
 
+-- The order of actions: by their ranks
 abbrev pub action_cmp : Action → Action → Ordering
 action_cmp a b = name_cmp (rank a) (rank b)
 
+-- The two actions are one
 abbrev pub same_action : Action → Action → Bool
 same_action = eq_by_cmp action_cmp
 
+-- the order is total: the proof of laws of the comparisons, which stands here since a source cites only what stands in specs/
 pub actions_total : IsTotalOrder action_cmp
 actions_total = on_total rank nat_list_cmp_total
 
--- ---- no two actions have one rank
+-- ---- no two actions have one rank: the proof of a law of `Key`, which stands here for the same reason
 
 -- all actions, at their places
 placed : List ℕ → List Action
