@@ -1,6 +1,7 @@
 -- The answers of programs in memory.
 use Rattle.std.specs.Prelude.{ℕ, ◌+◌, Bool, false, List, length, nat_lt, if◌then◌else◌, slice_get, Option, Some, None}
 
+-- The answer that may lack, which is false then
 abbrev pub answer : Option Bool → Bool
 answer None = false
 answer (Some b) = b
