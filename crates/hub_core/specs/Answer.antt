@@ -47,7 +47,8 @@ pub record Judgement : Type 0 where
   -- whether the owner of a token that the call asks for may do all that it asks
   pub inside : Inside
 
--- the rules of the call in their order, and its Ok: one definition for each call
+-- The rules of the call in their order, and its Ok: one definition for each call, in the state s, for a caller with the token k who may do
+-- `may`, at the moment `now`. `inside` is of a token that is asked for, and `draw` what was drawn for a call that draws
 abbrev pub row : Hub → Rights → Inside → (now : ℕ) → (draw : Option (List ℕ)) → Token → Call → Answer
 row s may inside now draw k GetVersion = get_version
 row s may inside now draw k GetInfo = get_info s
@@ -94,7 +95,8 @@ row s may inside now draw k PostProxy = leave
 
 -- ---- the frame
 
--- the action is held, and allowed on the object
+-- The refusals of a call by what it needs, in their order: the action isn't held on any object, or isn't allowed on the one that the call
+-- names
 abbrev pub action_rules : Judgement → Need → List (Option Refusal)
 action_rules j GoodToken = []
 action_rules j (Held a) = if_so (not j.is_held) (Needs a) ∷ []
@@ -105,9 +107,12 @@ abbrev pub if_no_client : State → Call → Option Refusal
 if_no_client t (GetAuthorize ask) = client_refusal t ask
 if_no_client t call = None
 
+-- The answer once the caller may make the call: what it speaks of has to be there, and then the call's own definition counts
 abbrev pub if_there : Hub → Rights → Inside → ℕ → Option (List ℕ) → Token → Call → Answer
 if_there s may inside now draw k call = rules (if_so (not (is_there s.tables call)) NotFound ∷ []) (row s may inside now draw k call)
 
+-- The answer to a call that needs a token, by the caller's token, if it is a good one: no client, then the rights, then what the call
+-- speaks of
 abbrev pub by_token : Hub → Judgement → ℕ → Option (List ℕ) → Call → Option Token → Answer
 by_token s j now draw call None = refuses NoValidToken
 by_token s j now draw call (Some k) =
@@ -118,6 +123,8 @@ abbrev pub by_nobody : Hub → (now : ℕ) → (draw : Option (List ℕ)) → Ca
 by_nobody s now draw (PostTrade ask) = post_trade s now draw ask
 by_nobody s now draw call = get_version
 
+-- The answer to a call whose revision the history has, before it is tested whether there is room for its change; by the caller's token, if
+-- it brought a good one
 abbrev pub by_call : Hub → Judgement → ℕ → Option (List ℕ) → Option Token → Call → Answer
 by_call s j now draw caller call = if needs_token call then by_token s j now draw call caller else by_nobody s now draw call
 
@@ -133,20 +140,24 @@ abbrev pub good_token : State → ℕ → Option (List ℕ) → Option Token
 good_token t now None = None
 good_token t now (Some text) = if_good now (row_with (λ k. k.hash) (hash_text text) t.tokens)
 
+-- The token of the caller, if what it brought is a good one
 abbrev pub caller : Hub → ℕ → Asked → Option Token
 caller s now asked = good_token s.tables now asked.token
 
 -- ---- the whole
 
+-- The caller has seen a revision past the length of the history
 abbrev pub is_past : ℕ → Option ℕ → Bool
 is_past length None = false
 is_past length (Some seen) = nat_lt length seen
 
+-- The revision that a call names, or 0 where it names none
 abbrev pub named : Option ℕ → ℕ
 named None = 0
 named (Some n) = n
 
--- `draw` is what was drawn for a call that draws
+-- The answer in the state s to a call asked at the moment `now`, with what was drawn for it, where the caller's rights come to the
+-- judgement j
 abbrev pub answer : Hub → ℕ → Option (List ℕ) → Judgement → Asked → Answer
 answer s now draw j asked =
     rules (if_so (is_past s.length asked.seen) (SeenPast (named asked.seen) s.length) ∷ [])

@@ -25,6 +25,7 @@ pub record Carrier : Type 0 where
   pub stamp : ℕ
   pub faults : ℕ
 
+-- The length of the history with the change, if there is one
 abbrev pub long_after : Option Change → ℕ → ℕ
 long_after None long = long
 long_after (Some c) long = long + 1
@@ -52,6 +53,7 @@ pub record Undid (ch : Option Change) (o : Outcome) (b b' : Carrier) : Type 0 wh
   pub stays : IsUncarried b b'
   pub rises : Rises b.faults b'.faults
 
+-- The answer was carried out, from b to b': it was done, or its rows were refused; without memory all is as before
 abbrev pub Carried : {E : Type 0} → Option Change → spec.Outcome → Result Outcome E → (b b' : Carrier) → Type 0
 Carried ch says (Ok o) b b' = Did ch says o b b' ⊎ Undid ch o b b'
 Carried ch says (Err e) b b' = IsUncarried b b'

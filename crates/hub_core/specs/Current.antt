@@ -20,11 +20,13 @@ pub record IsRightIn (t : State) (stamp : ℕ) (id : ℕ) (kept : KeptGrant) : T
   pub numbered : id < next_token t
   pub right : kept.stamp ≡ stamp → (k : Token) → get t.tokens id ≡ Some k → IsGrantOf t (IsAllowed t k) kept.grant
 
+-- Each entry of the cache is right in this state, at the book's stamp
 abbrev pub IsCurrent : Cache → State → (stamp : ℕ) → Type 0
 IsCurrent c t stamp = OfAll (IsRightIn t stamp) c
 
 -- ---- what keeps it so
 
+-- The number of the next share code
 abbrev pub next_code : State → ℕ
 next_code t = next_of t (codes "code")
 

@@ -10,7 +10,8 @@ use Rattle.hub_machine.specs.declared.call.Asked.{Asked}
 use Rattle.hub_machine.specs.declared.change.Change.{Change}
 use Rattle.hub_machine.specs.declared.change.Change.TheVariants.{Life as Lived}
 
--- what the hub answers in a state
+-- What the hub answers in the state s to a call asked at the moment `now`, with what was drawn for it: the answer by the true judgement of
+-- the caller's rights
 pub record Answers (s : Hub) (now : ℕ) (draw : Option (List ℕ)) (asked : Asked) (r : Answer) : Type 0 where
   pub judgement : Judgement
   pub judged : Judged s now asked judgement
@@ -40,9 +41,11 @@ abbrev pub IsOfLife : Hub → Change → Type 0
 IsOfLife s (Lived g event) = (is_outcome event ≡ true) × IsOk (step_at s.lives g event)
 IsOfLife s _ = ⊥
 
+-- A change that may be an entry of the history in the state s: that of an answer, or what came of a call that a generation owed
 abbrev pub IsEntry : Hub → Change → Type 0
 IsEntry s c = IsOfAnswer s c ⊎ IsOfLife s c
 
+-- The state after these entries, one after the other
 abbrev pub state_after : Hub → List Change → Hub
 state_after s [] = s
 state_after s (c ∷ cs) = state_after (apply c s) cs
@@ -54,6 +57,7 @@ IsLegal s (c ∷ cs) = IsEntry s c × IsLegal (apply c s) cs
 
 -- ---- answers at places
 
+-- The change, if there is one, is the entry at the place n
 abbrev StandsAt : Option Change → List Change → ℕ → Type 0
 StandsAt None h n = Unit {0}
 StandsAt (Some c) h n = slice_get h n ≡ Some c

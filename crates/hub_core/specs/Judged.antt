@@ -47,6 +47,7 @@ pub record JudgesToken (t : State) (k : Token) (call : Call) (j : Judgement) : T
   pub held : HeldOf t k j.is_held (needs call)
   pub inside : InsideOf t call j.inside
 
+-- The judgement is that of this token, if there is one whose rights decide; where there is none, nothing is said of it
 abbrev pub JudgesCaller : State → Call → Judgement → Option Token → Type 0
 JudgesCaller t call j None = Unit {0}
 JudgesCaller t call j (Some k) = JudgesToken t k call j
@@ -55,6 +56,7 @@ JudgesCaller t call j (Some k) = JudgesToken t k call j
 abbrev token_for : Call → Option Token → Option Token
 token_for call k = if needs_token call then k else None
 
+-- The token whose rights decide what is answered to a call at the moment `now`, if one does
 abbrev pub decider : Hub → ℕ → Asked → Option Token
 decider s now asked = if is_past s.length asked.seen then None else token_for asked.call (caller s now asked)
 

@@ -36,5 +36,6 @@ kept_of K.Kept = Chain.Kept
 kept_of K.KeeperFault = Chain.KeeperFault
 kept_of K.Memory = Chain.Memory
 
+-- A step of a life, in the words of a chain
 abbrev pub lived_of : Step → ChainLived
 lived_of made = record { todo = made.todo; kept = kept_of made.kept; length = made.length }

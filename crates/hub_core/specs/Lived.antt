@@ -38,6 +38,8 @@ pub record RefusedAt (start : Start) (before after : List Entry) (faults faults'
     pub noted : after ≡ before
     pub unasked : faults' ≡ faults
 
+-- What a visit for this outcome of the generation g came to, where it found the entries `before` and the keeper's count `faults`, and left
+-- those behind them: it was taken, or refused
 abbrev pub LivedAt : Start → (before after : List Entry) (faults faults' : ℕ) → ℕ → LifeEvent → Result Step LifeRefusal → Type 0
 LivedAt start before after faults faults' g event (Ok made) = TakenAt start before after faults faults' g event made
 LivedAt start before after faults faults' g event (Err e) = RefusedAt start before after faults faults' g event e

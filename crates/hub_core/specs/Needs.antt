@@ -35,6 +35,7 @@ needs_shares (Shares.Recipient user) = On A.ReadUsersShares (Ob.User user)
 needs_shares (Shares.Owner user) = On A.ReadShares (Ob.User user)
 needs_shares (Shares.Server server) = On A.ReadShares (Ob.Server server)
 
+-- The codes that a user offers, and those of a server
 abbrev pub needs_codes : CodesOf → Need
 needs_codes (Codes.Owner user) = On A.ReadShares (Ob.User user)
 needs_codes (Codes.Server server) = On A.ReadShares (Ob.Server server)
@@ -45,10 +46,12 @@ needs_client (Some (Whose.Server server)) = On A.AccessServers (Ob.Server server
 needs_client (Some (Whose.Service service)) = On A.AccessServices (Ob.Service service)
 needs_client None = On A.AccessServers Ob.Hub
 
+-- Whose client this id is, if there is an id and it is one
 abbrev pub whose_client : (id : Option (List ℕ)) → Option ClientOwner
 whose_client None = None
 whose_client (Some id) = client_owner id
 
+-- What the call needs of its token: that it is good, an action held on some object, or an action on one object
 abbrev pub needs : Call → Need
 needs GetVersion = GoodToken
 needs GetInfo = On A.ReadHub Ob.Hub
@@ -104,6 +107,7 @@ abbrev pub is_token_of : (user : List ℕ) → Option Token → Bool
 is_token_of user None = false
 is_token_of user (Some token) = same_owner token.owner (Own.User user)
 
+-- The user has a token under this id
 abbrev pub has_token : State → (user : List ℕ) → (id : ℕ) → Bool
 has_token t user id = is_token_of user (get t.tokens id)
 
@@ -113,6 +117,7 @@ has_sharer t (Shares.Recipient user) = contains_key t.users user
 has_sharer t (Shares.Owner user) = contains_key t.users user
 has_sharer t (Shares.Server server) = has_server t server
 
+-- Whose codes are asked for is there
 abbrev pub has_offerer : State → CodesOf → Bool
 has_offerer t (Codes.Owner user) = contains_key t.users user
 has_offerer t (Codes.Server server) = has_server t server
@@ -122,6 +127,7 @@ abbrev pub is_code_at : ServerKey → Option ShareCode → Bool
 is_code_at server None = false
 is_code_at server (Some code) = is_code_of (Codes.Server server) code
 
+-- The code that is named, if one is, is there, and of the server
 abbrev pub has_code : State → ServerKey → (id : Option ℕ) → Bool
 has_code t server None = true
 has_code t server (Some id) = is_code_at server (get t.codes id)

@@ -34,6 +34,7 @@ pub record Standing : Type 0 where
   -- how often rights have changed, which is the stamp of the grants of now
   pub stamp : ℕ
 
+-- The history of a book, as a list of its entries
 abbrev pub entries_of : Standing → List Entry
 entries_of b = b.told
 
@@ -49,6 +50,7 @@ IsReached b = Reached b.start (entries_of b) b.hub
 
 -- ---- a visit
 
+-- The state after the change, if there is one
 abbrev pub noted : Option Change → Hub → Hub
 noted None s = s
 noted (Some c) s = apply c s
@@ -63,7 +65,8 @@ abbrev pub asks_keeper : Option Change → Bool
 asks_keeper None = false
 asks_keeper (Some c) = has_commit c
 
--- the answer is given, and its change is noted
+-- A visit of the book b for a call asked at the moment `now`, with what was drawn for it, gave the outcome o: the answer is given, its
+-- change noted, and the book is b' then
 pub record Gave (b b' : Standing) (now : ℕ) (draw : Option (List ℕ)) (asked : Asked) (o : Outcome) : Type 0 where
   pub answer : Answer
   pub answers : Answers b.hub now draw asked answer
@@ -79,7 +82,8 @@ pub record IsAsBefore (b b' : Standing) : Type 0 where
   pub told : b'.told ≡ b.told
   pub stamped : b'.stamp ≡ b.stamp
 
--- the keeper refused the rows of an answer whose change has a commit
+-- The keeper refused the rows of an answer whose change has a commit, and the outcome says so; the book is as before, but for its count of
+-- faults
 pub record Faulted (b b' : Standing) (now : ℕ) (draw : Option (List ℕ)) (asked : Asked) (o : Outcome) : Type 0 where
   pub answer : Answer
   pub change : Change
@@ -90,7 +94,7 @@ pub record Faulted (b b' : Standing) (now : ℕ) (draw : Option (List ℕ)) (ask
   pub outcome : outcome_view o ≡ answered (refusal_reply b.hub.length KeeperFault)
   pub rises : Rises b.faults b'.faults
 
--- `Err` is want of memory, and leaves all as it was
+-- What a visit of the book b came to, which is b' then. `Err` is want of memory, and leaves all as it was
 abbrev pub Visited : {E : Type 0} → Standing → ℕ → Option (List ℕ) → Asked → Result Outcome E → Standing → Type 0
 Visited b now draw asked (Ok o) b' = Gave b b' now draw asked o ⊎ Faulted b b' now draw asked o
 Visited b now draw asked (Err e) b' = IsAsBefore b b'
@@ -121,7 +125,8 @@ pub record FaultedAt (start : Start) (before after : List Entry) (faults faults'
   pub outcome : outcome_view o ≡ answered (refusal_reply (length after) KeeperFault)
   pub rises : Rises faults faults'
 
--- of a keeper whose count of faults was `faults`, and is `faults'`
+-- What a visit came to that found the entries `before` and left `after`, of a keeper whose count of faults was `faults`, and is `faults'`.
+-- `Err` is want of memory, and leaves no entry
 abbrev pub VisitedAt : {E : Type 0} → Start → (before after : List Entry) (faults faults' : ℕ) → ℕ → Option (List ℕ) → Asked
     → Result Outcome E → Type 0
 VisitedAt start before after faults faults' now draw asked (Ok o) = AnsweredAt start before after now draw asked o

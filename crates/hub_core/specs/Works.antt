@@ -11,6 +11,7 @@ pub record IsSound (w : Work) : Type 0 where
   pub owes : w.todo ≢ Nothing
   pub secret : w.todo ≡ Start → IsSome w.secret
 
+-- The work of the outcome, if it has one, can be done
 abbrev pub IsSoundOutcome : out.Outcome → Type 0
 IsSoundOutcome (given.Answer r) = Unit {0}
 IsSoundOutcome (given.Work w) = IsSound w
