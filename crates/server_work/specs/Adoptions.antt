@@ -23,26 +23,32 @@ module _ {E A : Type 0} (reached : Option A → List E → Lives → Type 0) (no
 
 -- ---- the numbers; a broken chain counts in none
 
+-- 1 for a chain after which its server is ready
 abbrev pub ready_one : Option Tale → ℕ
 ready_one None = 0
 ready_one (Some t) = if t.ready then 1 else 0
 
+-- 1 for a chain after which its server isn't ready, and has stopped
 abbrev pub stopped_one : Option Tale → ℕ
 stopped_one None = 0
 stopped_one (Some t) = if t.ready then 0 else (if t.stopped then 1 else 0)
 
+-- 1 for a chain after which its server neither is ready nor has stopped
 abbrev pub parked_one : Option Tale → ℕ
 parked_one None = 0
 parked_one (Some t) = if t.ready then 0 else (if t.stopped then 0 else 1)
 
+-- How many of these chains left their servers ready
 abbrev pub readies : List (Option Tale) → ℕ
 readies [] = 0
 readies (t ∷ ts) = ready_one t + readies ts
 
+-- How many of these chains left their servers stopped
 abbrev pub stops : List (Option Tale) → ℕ
 stops [] = 0
 stops (t ∷ ts) = stopped_one t + stops ts
 
+-- How many of these chains left their servers as neither
 abbrev pub parks : List (Option Tale) → ℕ
 parks [] = 0
 parks (t ∷ ts) = parked_one t + parks ts

@@ -32,6 +32,7 @@ abbrev pub Path : Lives → List LifeEntry → Lives → Type 0
 Path lives [] after = (k : ℕ) → after k ≡ lives k
 Path lives (x ∷ xs) after = (mid : Lives) × Moves lives x mid × Path mid xs after
 
+-- The event is a wish to stop
 abbrev pub is_ask_stop : LifeEvent → Bool
 is_ask_stop AskStop = true
 is_ask_stop e = false
@@ -51,6 +52,7 @@ waits (Unrouting h) DeleteRoute = Some h
 waits (Stopping h) StopProgram = Some h
 waits phase todo = None
 
+-- The life of the generation g waits for the outcome of what is owed
 pub record Waits (lives : Lives) (g : ℕ) (owed : Todo) : Type 0 where
   pub life : Life
   pub is : lives g ≡ Some life

@@ -31,7 +31,7 @@ pub record Sight (E : Type 0) : Type 0 where
 abbrev pub sight : {E A : Type 0} → PassState E A → Sight E
 sight p = record { entries = p.seen; faults = p.faults }
 
--- a later place than the one seen, and exactly that one where nobody else is there
+-- A visit found a later place than the one seen, and exactly that one where nobody else is there
 abbrev pub Comes : {E : Type 0} → Bool → Sight E → Sight E → Type 0
 Comes alone seen found = IsPrefix seen.entries found.entries × (seen.faults ≤ found.faults) × (alone ≡ true → found ≡ seen)
 
@@ -63,6 +63,7 @@ left_by s = record { entries = s.found.entries ++ s.entry ∷ []; faults = s.fau
 abbrev pub own : {E : Type 0} → Step E → ℕ × E
 own s = (length s.found.entries, s.entry)
 
+-- The outcome that was taken in the step
 abbrev pub outcome_of : {E : Type 0} → Step E → LifeEvent
 outcome_of s = s.outcome
 
@@ -75,7 +76,7 @@ abbrev pub fails : {E : Type 0} → List (Step E) → ℕ
 fails [] = 0
 fails (s ∷ ss) = rose s + fails ss
 
--- what is told of all the steps
+-- What is told of all these steps, behind what was told before them
 abbrev pub tale_from : {E : Type 0} → Tale → List (Step E) → Tale
 tale_from t [] = t
 tale_from t (s ∷ ss) = tale_from (tale_with t s.outcome s.owes s.kept (length s.found.entries + 1)) ss

@@ -18,6 +18,7 @@ pub record Gain (E : Type 0) : Type 0 where
   pub spawner : List (Spawning × Told)
   pub routes : List (Routing × Told)
 
+-- Nothing was gained
 abbrev pub no_gain : {E : Type 0} → Gain E
 no_gain = record { entries = []; failed = 0; spawner = []; routes = [] }
 
@@ -31,6 +32,7 @@ plus a b = record {
       ++ b.routes;
 }
 
+-- All of these gains, one after the other
 abbrev pub sum_of : {E : Type 0} → List (Gain E) → Gain E
 sum_of [] = no_gain
 sum_of (t ∷ ts) = plus t (sum_of ts)
@@ -44,6 +46,7 @@ gain_of w k = record {
   routes = flat_map (routes_did w) (map outcome_of k.steps ++ k.refused);
 }
 
+-- An own entry without its place
 abbrev pub without_place : {E : Type 0} → ℕ × E → E
 without_place e = e.1
 

@@ -13,6 +13,7 @@ use Rattle.server_life.specs.LifeTable.{life_after}
 abbrev pub Lives : Type 0
 Lives = ℕ → Option Life
 
+-- What the event makes of the life of the generation g, and what it owes then; a generation without a life refuses it
 abbrev pub step_of : Option Life → ℕ → LifeEvent → Result (Life × Todo) LifeRefusal
 step_of None g event = Err (OldGeneration g)
 step_of (Some life) g event = life_after life g event
@@ -21,6 +22,7 @@ step_of (Some life) g event = life_after life g event
 abbrev pub step_at : Lives → ℕ → LifeEvent → Result (Life × Todo) LifeRefusal
 step_at lives g event = step_of (lives g) g event
 
+-- The life, unless it has ended in this phase
 abbrev pub left_in : Phase → Life → Option Life
 left_in Stopped life = None
 left_in phase life = Some life

@@ -74,6 +74,7 @@ routes_did w Unrouted = (Route.Delete w.path (deleted_serial w), Done) ∷ []
 routes_did w UnrouteFailed = (Route.Delete w.path (deleted_serial w), Tell.Failed) ∷ []
 routes_did w event = []
 
+-- The event is the end of a program
 abbrev pub is_end : LifeEvent → Bool
 is_end Ended = true
 is_end SpawnFailed = true

@@ -30,6 +30,8 @@ module _ {E A : Type 0} (reached : Option A → List E → Lives → Type 0) (no
     pub mine : q.mine ≡ p.mine
     pub failed : q.failed ≡ p.failed
 
+  -- What the visit of a pass p with the outcome of the generation g came to, which is q then: one step, or none where the outcome was
+  -- refused
   abbrev pub Took : (p q : PassState E A) → ℕ → LifeEvent → Result Lived LifeRefusal → Type 0
   Took p q g outcome (Ok l) = Made p q g outcome l
   Took p q g outcome (Err e) = Stays p q g outcome
