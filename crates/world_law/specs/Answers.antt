@@ -8,16 +8,17 @@ use Rattle.route_table.specs.declared.route.RouteRefusal.TheVariants.{NotFound, 
 use Rattle.route_table.specs.Path.{segments}
 use Rattle.route_table.specs.Table.{Table, IsAnswer, IsDeletion, IsAfterDeletion, add_refusal, added}
 
+-- What a table answers to a change: it is done, or refused
 abbrev pub Reply : Type 0
 Reply = Result (Unit {0}) RouteRefusal
 
--- an addition to the table, at a moment
+-- An addition of this route at a path, at the moment `now`, led the table from t to t' and was answered so
 pub record Adds (t : Table) (path : List ℕ) (entry : RouteEntry) (now : ℕ) (reply : Reply) (t' : Table) : Type 0 where
   pub answer : IsAnswer (add_refusal t path entry.serial) reply
   pub ok : OnOk reply (t' ≡ added t (segments path) entry now)
   pub err : OnErr reply (t' ≡ t)
 
--- a deletion
+-- A deletion at a path, with this serial or without one, led the table from t to t' and was answered so
 pub record Deletes (t : Table) (path : List ℕ) (serial : Option ℕ) (reply : Reply) (t' : Table) : Type 0 where
   pub answer : IsDeletion t path serial reply
   pub after : IsAfterDeletion t path serial t' reply

@@ -12,6 +12,7 @@ use Rattle.server_work.specs.RoutePaths.{route_path}
 use Rattle.world_law.specs.World.{Mem, Instance, World, instance_of}
 use Rattle.world_law.specs.Steps.{Run, IsOpened}
 
+-- The world is one after any number of steps from an opening
 abbrev pub IsReached : World → Type 0
 IsReached w = (u : World) × IsOpened u × Run u w
 
@@ -28,6 +29,7 @@ pub record IsRouteOf (w : World) (path : List (List ℕ)) (r : Route) (serial : 
   pub at : segments (route_path lease.server) ≡ path
   pub leads : r.entry.target ≡ lease.target
 
+-- Each listed route with a serial is that of a live generation
 abbrev pub RoutesAreLeased : World → Type 0
 RoutesAreLeased w = (path : List (List ℕ)) (r : Route) (serial : ℕ) → listed w.table.rows path ≡ Some r → r.entry.serial ≡ Some serial
     → IsRouteOf w path r serial
@@ -43,14 +45,16 @@ abbrev pub HaveOwnTargets : List Instance → Type 0
 HaveOwnTargets [] = Unit {0}
 HaveOwnTargets (p ∷ ps) = ((q : Instance) → Mem ps q → q.target ≢ p.target) × HaveOwnTargets ps
 
+-- Each program is of a live generation, at the target that is leased to it, and no two run at one target
 pub record ProgramsAreLeased (w : World) : Type 0 where
   pub leased : (p : Instance) → Mem w.programs p → IsProgramOf w p
   pub apart : HaveOwnTargets w.programs
 
--- the events that end a lease
+-- The event is one that ends a lease
 abbrev pub Ends : LifeEvent → Type 0
 Ends event = (event ≡ Ended) ⊎ (event ≡ SpawnFailed)
 
+-- No listed route has this serial
 abbrev pub IsNeverListed : World → (serial : ℕ) → Type 0
 IsNeverListed w serial = (path : List (List ℕ)) (r : Route) → listed w.table.rows path ≡ Some r → r.entry.serial ≢ Some serial
 

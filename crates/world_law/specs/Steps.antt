@@ -32,8 +32,8 @@ use Rattle.world_law.specs.World.{take_off, without, is_route_message, work_of, 
 
 -- ---- the outcome of a call in flight
 
--- The spawner told so of the call; or the proxy answered the call of the route, so that it is done. A route call may be told as failed at
--- any step, and its message may still arrive later.
+-- The outcome of the call of this number, which is owed for this work, came: the spawner told so of it; or the proxy answered the call of
+-- the route, so that it is done. A route call may be told as failed at any step, and its message may still arrive later
 pub data Came (w : World) (id : ℕ) (work : Work) (outcome : LifeEvent) : Type 0 where
   told : (c : Spawning) (t : Told) → spawner_did work outcome ≡ (c, t) ∷ []
       → Mem w.waiting (call id (Spawn c)) → Mem w.told (record { call = call id (Spawn c); answer = BySpawner t })
@@ -44,7 +44,8 @@ pub data Came (w : World) (id : ℕ) (work : Work) (outcome : LifeEvent) : Type 
   failed : (c : Routing) → routes_did work outcome ≡ (c, Tell.Failed) ∷ []
       → Mem w.waiting (call id (Route c)) → Came w id work outcome
 
--- the hub takes the outcome: this event of the generation is noted, which says of an end whether it was kept
+-- The hub takes the outcome of a call in flight, which leads from the first world to the second: this event of the generation is noted,
+-- which says of an end whether it was kept
 pub data Takes : World → ℕ → LifeEvent → World → Type 0 where
   takes : {w : World} (id g : ℕ) (l : Leased) (secret : Option (List ℕ)) (outcome : LifeEvent) (kept : Kept) (faults faults' : ℕ)
       (made : Life × Todo)
@@ -56,7 +57,8 @@ pub data Takes : World → ℕ → LifeEvent → World → Type 0 where
 
 -- ---- opening again
 
--- each live server is adopted. The pool may be another, as long as it has their targets, and no generation is given out twice
+-- The live servers `old` were opened again as `new`: each is adopted. The pool may be another, as long as it has their targets, and no
+-- generation is given out twice
 pub record IsReopened (old new : LiveServers) : Type 0 where
   pub adopted : (g : ℕ) → get new.lives g ≡ option_map (λ (l : Leased). adopted_by l.server l.target g) (get old.lives g)
   pub pooled : (g : ℕ) (l : Leased) → get new.lives g ≡ Some l → Contains new.pool l.target
@@ -64,6 +66,8 @@ pub record IsReopened (old new : LiveServers) : Type 0 where
 
 -- ---- one step
 
+-- What may happen next in the first world, and the world that it leaves. Each constructor is one thing that the hub, the spawner, the proxy
+-- or somebody else does
 pub data Step : World → World → Type 0 where
   -- the hub starts a server that has no lease, or notes the wish for a stop
   begin : {w : World} (server : ServerKey) (secret : List ℕ) → lease_of w.live.lives server ≡ None
@@ -126,7 +130,7 @@ pub data Step : World → World → Type 0 where
   reopen : {w : World} (live : LiveServers) → IsReopened w.live live
       → Step w (record w { live = live; waiting = []; sent = filter is_route_message w.sent })
 
--- the worlds after any number of steps
+-- The second world is one after any number of steps from the first
 pub data Run : World → World → Type 0 where
   here : {w : World} → Run w w
   then_step : {u v w : World} → Run u v → Step v w → Run u w

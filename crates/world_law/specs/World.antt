@@ -32,17 +32,21 @@ pub data What : Type 0 where
   Spawn : Spawning → What
   Route : Routing → What
 
+-- A call on its way, with a number of its own
 pub record Call : Type 0 where
   pub id : ℕ
   pub what : What
 
+-- The call of this number that asks for this
 abbrev pub call : ℕ → What → Call
 call id what = record { id = id; what = what }
 
+-- What the spawner told of a call, or what the proxy's table answered to it
 pub data Answer : Type 0 where
   BySpawner : Told → Answer
   ByProxy : Reply → Answer
 
+-- A call with its answer
 pub record Answered : Type 0 where
   pub call : Call
   pub answer : Answer
@@ -60,6 +64,8 @@ pub record Listing : Type 0 where
   pub path : List ℕ
   pub serial : ℕ
 
+-- The state of all: the hub's live servers, the proxy's routes, the programs that run, the calls on their way or answered, and what was
+-- seen at earlier steps
 pub record World : Type 0 where
   -- the hub's live servers, with its pool and its next generation
   pub live : LiveServers
@@ -79,6 +85,7 @@ pub record World : Type 0 where
   pub were_over : List Listing
   pub were_adopting : List Instance
 
+-- The call has another number
 abbrev is_other : ℕ → Call → Bool
 is_other id call = not (nat_eq call.id id)
 
@@ -86,18 +93,23 @@ is_other id call = not (nat_eq call.id id)
 abbrev pub take_off : ℕ → List Call → List Call
 take_off id calls = filter (is_other id) calls
 
+-- The server that has a lease of the generation g, at its target
 abbrev pub instance_of : ℕ → Leased → Instance
 instance_of g l = record { generation = g; server = l.server; target = l.target }
 
+-- The call that starts the program of this generation
 abbrev pub start_of : Instance → (secret : List ℕ) → What
 start_of i secret = Spawn (S.Start i.generation i.server i.target secret)
 
+-- The call that stops the program of the generation g at its target
 abbrev pub stop_of : ℕ → (target : List ℕ) → What
 stop_of g target = Spawn (S.Stop g target)
 
+-- The call that asks whether the program of the generation g runs
 abbrev pub poll_of : ℕ → (target : List ℕ) → What
 poll_of g target = Spawn (S.Poll g target)
 
+-- The program is of another generation
 abbrev is_elsewhere : ℕ → Instance → Bool
 is_elsewhere g program = not (nat_eq program.generation g)
 
@@ -105,16 +117,17 @@ is_elsewhere g program = not (nat_eq program.generation g)
 abbrev pub without : ℕ → List Instance → List Instance
 without g programs = filter (is_elsewhere g) programs
 
+-- The call is one of the proxy
 abbrev pub is_route_message : Call → Bool
 is_route_message call = elim call.what [ Spawn c ↦ false | Route c ↦ true ]
 
 -- ---- what the hub does
 
--- what has to be done for a live server
+-- What has to be done for the server that has the lease l of the generation g, with the secret that a start needs
 abbrev pub work_of : ℕ → Leased → Option (List ℕ) → Work
 work_of g l secret = record { generation = g; server = l.server; path = route_path l.server; target = l.target; secret = secret }
 
--- the call that is owed; a start needs the secret of the server's token
+-- The call that is owed for this work, if one is; a start needs the secret of the server's token
 abbrev pub call_of : Work → Todo → Option What
 call_of w Nothing = None
 call_of w Start = option_map (λ secret. Spawn (S.Start w.generation w.server w.target secret)) w.secret
@@ -136,7 +149,7 @@ owe (Some what) w = record w {
   fresh = w.fresh + 1;
 }
 
--- the live servers once a life has moved; one that is over has no lease
+-- The live servers once the life of the generation g, whose lease is l, has moved; one that is over has no lease
 abbrev pub with_life : ℕ → Leased → Option Life → Lives → Lives
 with_life g l None lives = remove lives g
 with_life g l (Some life) lives = insert lives g (record l { life = life })
@@ -147,7 +160,7 @@ begun server secret w =
     owe (call_of (work_of w.live.next (leased_to w.live.pool w.live.lives w.live.next server) (Some secret)) Start)
     (record w { live = begins server w.live })
 
--- a step of the life of a live server, and what it owes
+-- The world after a step of the life of the generation g, whose lease is l: `made` is what its life became, and what it owes then
 abbrev pub lived : ℕ → Leased → Life × Todo → World → World
 lived g l made w =
     owe (call_of (work_of g l None) made.1)
@@ -155,11 +168,11 @@ lived g l made w =
 
 -- ---- what the spawner and the proxy do
 
--- a call is off its way, and answered
+-- The world once the call is off its way, and answered so
 abbrev pub answered : Call → Answer → World → World
 answered c answer w = record w { sent = take_off c.id w.sent; told = record { call = c; answer = answer } ∷ w.told }
 
--- it tells whether a program of the generation runs
+-- It tells truly whether one of these programs is of the generation g
 pub record TellsWhether (programs : List Instance) (g : ℕ) (told : Bool) : Type 0 where
   pub there : told ≡ true → (p : Instance) × Mem programs p × (p.generation ≡ g)
   pub gone : told ≡ false → (p : Instance) → Mem programs p → p.generation ≢ g
