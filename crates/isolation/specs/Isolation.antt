@@ -33,12 +33,12 @@ is_get (GetRoles page) = true
 is_get (GetRole role) = true
 is_get _ = false
 
--- the row of a text, good or over
+-- The kept token that has the hash of the text, good or over
 abbrev pub token_of : State → Option (List ℕ) → Option Token
 token_of t None = None
 token_of t (Some text) = row_with (λ k. k.hash) (hash_text text) t.tokens
 
--- a state in which the call brings this token, names no revision that isn't reached, and finds each row under its own key
+-- A state in which the call brings the kept token k, names no revision that isn't reached, and finds each row under its own key
 pub record Finds (s : Hub) (asked : Asked) (k : Token) : Type 0 where
   pub own : AreOwn s.tables
   pub token : token_of s.tables asked.token ≡ Some k

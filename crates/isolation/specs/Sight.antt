@@ -36,29 +36,34 @@ use Rattle.hub_machine.specs.State.{Hub, Lives, life_of}
 use Rattle.hub_calls.specs.Facts.{roles_of_user}
 use Rattle.hub_core.specs.Needs.{has_sharer, has_offerer}
 
--- the token may do it
+-- In the state s the token k may do the action on the object
 abbrev pub May : Hub → Token → Action → Object → Type 0
 May s k a x = IsAllowed s.tables k a x
 
 -- ---- the objects of which a token may ask: those that it may list or name, and its owner
 
+-- The token may ask for the user: that is its owner, or one that it may list or name
 abbrev pub AsksUser : Hub → Token → List ℕ → Type 0
 AsksUser s k u = (k.owner ≡ Own.User u) ⊎ (May s k A.ListUsers (Ob.User u) ⊎ May s k A.ReadUsersName (Ob.User u))
 
+-- The token may ask for the group: one that it may list or name
 abbrev pub AsksGroup : Hub → Token → List ℕ → Type 0
 AsksGroup s k g = May s k A.ListGroups (Ob.Group g) ⊎ May s k A.ReadGroupsName (Ob.Group g)
 
+-- The token may ask for the service: that is its owner, or one that it may list or name
 abbrev pub AsksService : Hub → Token → List ℕ → Type 0
 AsksService s k v = (k.owner ≡ Own.Service v) ⊎ (May s k A.ListServices (Ob.Service v) ⊎ May s k A.ReadServicesName (Ob.Service v))
 
 -- ---- servers: nothing is shown of one that isn't live
 
+-- What is shown of a server
 pub record ServerSeen : Type 0 where
   pub last_activity : Option ℕ
   pub started : Option ℕ
   pub pending : Json
   pub ready : Bool
 
+-- What is shown of a server with this life and this row, if it is live
 abbrev pub seen_row : Life → Option ServerRow → Option ServerSeen
 seen_row life None = None
 seen_row life (Some r) = if is_live life.phase then Some (record {
@@ -68,6 +73,7 @@ seen_row life (Some r) = if is_live life.phase then Some (record {
   ready = is_ready life.phase;
 }) else None
 
+-- What is shown of the server q in the state s
 abbrev pub server_seen : Hub → ServerKey → Option ServerSeen
 server_seen s q = seen_row (life_of s.lives q) (get s.tables.servers q)
 
@@ -76,6 +82,7 @@ server user name = record { user = user; server = name }
 
 -- ---- tokens of a user: neither its hash is shown of one, nor the server that it was issued for
 
+-- What is shown of a token
 pub record TokenSeen : Type 0 where
   pub client : Option (List ℕ)
   pub created : ℕ
@@ -83,6 +90,7 @@ pub record TokenSeen : Type 0 where
   pub note : List ℕ
   pub scopes : List RawScope
 
+-- What is shown of this token among those of the user, if it is the user's
 abbrev pub seen_token : (user : List ℕ) → Option Token → Option TokenSeen
 seen_token user None = None
 seen_token user (Some x) = if same_owner x.owner (Own.User user) then Some (record {
@@ -93,26 +101,31 @@ seen_token user (Some x) = if same_owner x.owner (Own.User user) then Some (reco
   scopes = x.scopes;
 }) else None
 
+-- What is shown of the token with this id among those of the user
 abbrev pub token_seen : Hub → (user : List ℕ) → (id : ℕ) → Option TokenSeen
 token_seen s user id = seen_token user (get s.tables.tokens id)
 
 -- ---- shares, and share codes but their hashes
 
+-- The token may read these shares
 abbrev pub ReadsShares : Hub → Token → SharesOf → Type 0
 ReadsShares s k (Shares.Recipient u) = May s k A.ReadUsersShares (Ob.User u)
 ReadsShares s k (Shares.Owner u) = May s k A.ReadShares (Ob.User u)
 ReadsShares s k (Shares.Server q) = May s k A.ReadShares (Ob.Server q)
 
+-- The token may read these share codes
 abbrev pub ReadsCodes : Hub → Token → CodesOf → Type 0
 ReadsCodes s k (Codes.Owner u) = May s k A.ReadShares (Ob.User u)
 ReadsCodes s k (Codes.Server q) = May s k A.ReadShares (Ob.Server q)
 
+-- What is shown of a share code
 pub record CodeSeen : Type 0 where
   pub created : ℕ
   pub expires_at : ℕ
   pub scopes : List RawScope
   pub server : ServerKey
 
+-- What is shown of this code among those that are asked for, if it is one of them
 abbrev pub seen_code : CodesOf → Option ShareCode → Option CodeSeen
 seen_code whose None = None
 seen_code whose (Some c) = if is_code_of whose c then Some (record {
@@ -122,11 +135,14 @@ seen_code whose (Some c) = if is_code_of whose c then Some (record {
   server = c.server;
 }) else None
 
+-- What is shown of the code with this id among those that are asked for
 abbrev pub code_seen : Hub → CodesOf → (id : ℕ) → Option CodeSeen
 code_seen s whose id = seen_code whose (get s.tables.codes id)
 
 -- ---- the same is seen of an object in two states: each field that is shown
 
+-- Of the user u, whose row is x in the state s and y in the state t, the token k sees the same in both: each field is the same whose action
+-- it may
 pub record SameUser (k : Token) (s t : Hub) (u : List ℕ) (x y : User) : Type 0 where
   pub admin : May s k A.ReadUsers (Ob.User u) → x.admin ≡ y.admin
   pub created : May s k A.ReadUsers (Ob.User u) → x.created ≡ y.created
@@ -136,27 +152,32 @@ pub record SameUser (k : Token) (s t : Hub) (u : List ℕ) (x y : User) : Type 0
   pub servers : (name : List ℕ) → May s k A.ReadServers (Ob.Server (server u name))
       → server_seen s (server u name) ≡ server_seen t (server u name)
 
+-- The same of the group g, whose rows are x and y
 pub record SameGroup (k : Token) (s t : Hub) (g : List ℕ) (x y : Group) : Type 0 where
   pub users : May s k A.ReadGroups (Ob.Group g) → x.users ≡ y.users
   pub roles : May s k A.ReadRolesGroups (Ob.Group g) → roles_naming_group s.tables g ≡ roles_naming_group t.tables g
 
+-- The same of the service v
 pub record SameService (k : Token) (s t : Hub) (v : List ℕ) : Type 0 where
   pub there : contains_key s.tables.services v ≡ contains_key t.tables.services v
   pub roles : May s k A.ReadRolesServices (Ob.Service v) → roles_naming_service s.tables v ≡ roles_naming_service t.tables v
 
+-- The user u is there in both states or in neither, and the same is shown of its tokens
 pub record SameTokens (s t : Hub) (u : List ℕ) : Type 0 where
   pub there : contains_key s.tables.users u ≡ contains_key t.tables.users u
   pub each : (id : ℕ) → token_seen s u id ≡ token_seen t u id
 
+-- Those whose shares are asked for are there in both states or in neither, and these shares are the same
 pub record SameShares (s t : Hub) (whose : SharesOf) : Type 0 where
   pub there : has_sharer s.tables whose ≡ has_sharer t.tables whose
   pub each : (key : ShareKey) → is_share_of whose key ≡ true → get s.tables.shares key ≡ get t.tables.shares key
 
+-- Those whose share codes are asked for are there in both states or in neither, and the same is shown of these codes
 pub record SameCodes (s t : Hub) (whose : CodesOf) : Type 0 where
   pub there : has_offerer s.tables whose ≡ has_offerer t.tables whose
   pub each : (id : ℕ) → code_seen s whose id ≡ code_seen t whose id
 
--- there in both states, or in neither
+-- A row is there in both states, and the two are alike, or it is there in neither
 abbrev pub InBoth : {X : Type 0} → (X → X → Type 0) → Option X → Option X → Type 0
 InBoth Same None None = Unit {0}
 InBoth Same (Some x) (Some y) = Same x y
@@ -164,6 +185,7 @@ InBoth Same _ _ = ⊥
 
 -- ---- the whole: a token is allowed the same in two states, and sees the same in them
 
+-- The token k is allowed the same in the states s and t, and sees the same in them, as far as it is allowed
 pub record SeesSame (k : Token) (s t : Hub) : Type 0 where
   pub allowed : (a : Action) (x : Object) → May s k a x ↔ May t k a x
   pub pool : May s k A.ReadHub Ob.Hub → length s.pool ≡ length t.pool
@@ -178,28 +200,34 @@ pub record SeesSame (k : Token) (s t : Hub) : Type 0 where
 
 -- ---- states with other rows
 
+-- The state with these users in place of its own
 abbrev pub with_users : Hub → FinMap name_cmp User → Hub
 with_users s rows = record s { tables = record s.tables { users = rows } }
 
+-- The state with these rows of servers and these live servers in place of its own
 abbrev pub with_servers : Hub → FinMap key_cmp ServerRow → Lives → Hub
 with_servers s rows lives = record s { tables = record s.tables { servers = rows }; lives = lives }
 
+-- The state with these tokens in place of its own
 abbrev pub with_tokens : Hub → FinMap nat_cmp Token → Hub
 with_tokens s rows = record s { tables = record s.tables { tokens = rows } }
 
+-- The state with these shares in place of its own
 abbrev pub with_shares : Hub → FinMap share_cmp Share → Hub
 with_shares s rows = record s { tables = record s.tables { shares = rows } }
 
+-- The state with these share codes in place of its own
 abbrev pub with_codes : Hub → FinMap nat_cmp ShareCode → Hub
 with_codes s rows = record s { tables = record s.tables { codes = rows } }
 
--- of the kinds that no right and no body of a built GET depends on
+-- Rows of the kinds that no right and no body of a built GET depends on
 pub record OtherRows : Type 0 where
   pub leases : FinMap name_cmp Lease
   pub clients : FinMap name_cmp OAuthClient
   pub grant_codes : FinMap name_cmp OAuthCode
   pub nexts : FinMap name_cmp Next
 
+-- The state with these rows in place of its own of those kinds
 abbrev pub with_others : Hub → OtherRows → Hub
 with_others s rows = record s {
   tables = record s.tables {
