@@ -30,6 +30,7 @@ is_of_lives (RowKey.Lease target) = true
 is_of_lives (RowKey.Next name) = same name (codes "generation")
 is_of_lives _ = false
 
+-- The change is of a row of the live servers
 abbrev pub touches_lives : RowChange → Bool
 touches_lives r = is_of_lives (key_in r)
 
@@ -53,12 +54,13 @@ pub record FitsStop (s : Hub) (g : ℕ) (event : LifeEvent) : Type 0 where
   pub asks : event ≡ AskStop
   pub may : IsOk (step_at s.lives g event)
 
+-- The change may be carried out in the state s: its rows fit, or its start, or its wish for a stop
 abbrev pub FitsIn : Hub → Change → Type 0
 FitsIn s (Rows rows) = FitRows s rows
 FitsIn s (Begin g server rows) = (target : List ℕ) × FitsBegin s g server rows target
 FitsIn s (Lived g event) = FitsStop s g event
 
--- a commit goes with it
+-- A commit of the keeper goes with the change
 abbrev pub has_commit : Change → Bool
 has_commit (Rows rows) = true
 has_commit (Begin g server rows) = true
@@ -66,23 +68,26 @@ has_commit (Lived g event) = false
 
 -- ---- the tables and the keeper: all is done (`Ok true`), or as before
 
+-- The tables, from t to t': the change of these rows is done (`Ok true`), or all is as before
 abbrev pub RowsDone : {E : Type 0} → List RowChange → Result Bool E → (t t' : State) → Type 0
 RowsDone rows (Ok true) t t' = t' ≡ change_done rows t
 RowsDone rows (Ok false) t t' = t' ≡ t
 RowsDone rows (Err e) t t' = t' ≡ t
 
+-- The keeper's rows, from `rows` to `rows'`: these items are done (`Ok true`), or all is as before
 abbrev pub RowsKept : {E : Type 0} → List Item → Result Bool E → (rows rows' : KeptRows) → Type 0
 RowsKept items (Ok true) rows rows' = AreSame rows' (after_items items rows)
 RowsKept items (Ok false) rows rows' = AreSame rows' rows
 RowsKept items (Err e) rows rows' = AreSame rows' rows
 
--- the next generation is leased to the server, and is being started
+-- The live servers, from `live` to `live'`: the next generation is leased to the server, and is being started (`Ok true`), or all is as
+-- before
 abbrev pub BeginDone : {E : Type 0} → ServerKey → Result Bool E → (live live' : LiveServers) → Type 0
 BeginDone server (Ok true) live live' = live' ≡ begins server live
 BeginDone server (Ok false) live live' = live' ≡ live
 BeginDone server (Err e) live live' = live' ≡ live
 
--- the rows of an end are done, or all is as before
+-- The tables, from t to t': the rows of the end of the lease l are done where it was kept, or all is as before
 abbrev pub EndDone : Leased → EndKept → (t t' : State) → Type 0
 EndDone l EndKept.Kept t t' = t' ≡ change_done (end_rows t l) t
 EndDone l _ t t' = t' ≡ t
@@ -93,7 +98,7 @@ EndDone l _ t t' = t' ≡ t
 abbrev pub Kept : {E : Type 0} → Change → Result Bool E → (rows rows' : KeptRows) → Type 0
 Kept c done rows rows' = RowsKept (batch_of (rows_of c)) done rows rows'
 
--- kept (`Ok true`), or as before
+-- The state and the history: the change is kept and noted (`Ok true`), or all is as before
 abbrev pub Entered : {E : Type 0} → Change → Result Bool E → (s s' : Hub) (told told' : List Change) → Type 0
 Entered c (Ok true) s s' told told' = (s' ≡ apply c s) × (told' ≡ told ++ c ∷ [])
 Entered c (Ok false) s s' told told' = (s' ≡ s) × (told' ≡ told)

@@ -16,6 +16,7 @@ pub record HasText (t : State) (number : ℕ) (name text : List ℕ) : Type 0 wh
   pub named : key_text key ≡ name
   pub says : row_text row ≡ text
 
+-- The keeper has exactly the rows of the tables
 pub record Keeps (kept : Rows) (t : State) : Type 0 where
   -- a text is kept under a kind and a key exactly where the tables have that row, and this is its text
   pub exactly : (kind : ℕ) (name text : List ℕ) → (kept kind name ≡ Some text) ↔ HasText t kind name text

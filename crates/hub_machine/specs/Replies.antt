@@ -11,6 +11,7 @@ use Rattle.hub_machine.specs.declared.refusal.Refusal.TheVariants.{SeenPast, NoV
 use Rattle.hub_machine.specs.declared.refusal.Refusal.TheVariants.{Exists, AllLeased, Full, TrailFull, NoDraw, KeeperFault, SpawnerFault}
 use Rattle.hub_machine.specs.declared.refusal.Refusal.TheVariants.{ProxyFault, StoppedWhileStarting}
 
+-- The status of a refusal
 abbrev pub status_of : Refusal → ℕ
 status_of (SeenPast seen length) = 412
 status_of NoValidToken = 403
@@ -30,15 +31,19 @@ status_of SpawnerFault = 503
 status_of ProxyFault = 503
 status_of StoppedWhileStarting = 409
 
+-- What is said where the caller has seen a revision past the length of the history
 abbrev pub seen_message : (seen length : ℕ) → List ℕ
 seen_message seen length = codes "seen " ++ (decimal seen ++ (codes ", revision " ++ decimal length))
 
+-- What is said where all targets are leased
 abbrev pub leased_message : (live pool : ℕ) → List ℕ
 leased_message live pool = decimal live ++ (codes " of " ++ (decimal pool ++ codes " servers"))
 
+-- What is said where a kind has reached its limit
 abbrev pub full_message : (kind limit : ℕ) → List ℕ
 full_message kind limit = codes "full: " ++ (decimal kind ++ (codes " " ++ decimal limit))
 
+-- What is said of a refusal
 abbrev pub message_of : Refusal → List ℕ
 message_of (SeenPast seen length) = seen_message seen length
 message_of NoValidToken = codes "no valid token"
@@ -72,6 +77,7 @@ abbrev pub body_with : (word : Option (List ℕ)) → Refusal → Json
 body_with (Some word) r = error_body word
 body_with None r = message_body (status_of r) (message_of r)
 
+-- The body of a refusal
 abbrev pub refusal_body : Refusal → Json
 refusal_body r = body_with (word_of r) r
 
@@ -82,9 +88,11 @@ pub record Good : Type 0 where
   pub location : Option (List ℕ)
   pub no_store : Bool
 
+-- An Ok of this status and this body alone
 abbrev pub good : ℕ → Json → Good
 good status body = record { status = status; body = body; location = None; no_store = false }
 
+-- What the hub answers to a call: a refusal, or an Ok; with a change, where it has one, and with work, where that is owed
 pub data Answer : Type 0 where
   refuses : Refusal → Answer
   -- the one refusal that has a change
@@ -104,6 +112,7 @@ first_refusal [] = None
 first_refusal (None ∷ rest) = first_refusal rest
 first_refusal (Some r ∷ rest) = Some r
 
+-- The answer, unless there is a refusal
 abbrev pub or_refusal : Answer → Option Refusal → Answer
 or_refusal answer None = answer
 or_refusal answer (Some r) = refuses r
@@ -112,11 +121,13 @@ or_refusal answer (Some r) = refuses r
 abbrev pub rules : List (Option Refusal) → Answer → Answer
 rules refusals answer = or_refusal answer (first_refusal refusals)
 
+-- The refusal, where the test holds
 abbrev pub if_so : Bool → Refusal → Option Refusal
 if_so b r = if b then Some r else None
 
 -- ---- replies, with their body as tokens
 
+-- A reply, with its body as tokens
 pub record Reply : Type 0 where
   pub status : ℕ
   pub body : Json
@@ -124,14 +135,17 @@ pub record Reply : Type 0 where
   pub no_store : Bool
   pub revision : Option ℕ
 
+-- The reply of a refusal at a revision
 abbrev pub refusal_reply : ℕ → Refusal → Reply
 refusal_reply revision r =
     record { status = status_of r; body = refusal_body r; location = None; no_store = false; revision = Some revision }
 
+-- The reply of an Ok at a revision
 abbrev pub good_reply : ℕ → Good → Reply
 good_reply revision g =
     record { status = g.status; body = g.body; location = g.location; no_store = g.no_store; revision = Some revision }
 
+-- What a visit gives: a reply, or work that has to be done before one
 pub data Outcome : Type 0 where
   answered : Reply → Outcome
   working : Work → Outcome

@@ -9,6 +9,7 @@ use Rattle.hub_tables.specs.State.{State}
 use Rattle.hub_lives.specs.declared.lives.Leased.{Leased}
 pub use Rattle.hub_lives.specs.Lives.{Lives, at_rest, lease_of, life_in, life_of, has_live_server, owed, is_leased, free_target, AreApart}
 
+-- The state of the hub
 pub record Hub : Type 0 where
   -- the rows, with the limits and the custom scopes
   pub tables : State
@@ -22,6 +23,7 @@ pub record Hub : Type 0 where
   pub hub_url : Option (List ℕ)
   pub no_trail : Bool
 
+-- The number of the next generation
 abbrev pub next_generation : State → ℕ
 next_generation t = next_of t (codes "generation")
 
@@ -47,6 +49,7 @@ pub record IsBounded (s : Hub) : Type 0 where
 abbrev pub holder : State → List ℕ → Option ServerKey
 holder t target = option_map (λ (row : Lease). row.server) (get t.leases target)
 
+-- A live generation of this server has this target
 abbrev pub IsHeldBy : Lives → (target : List ℕ) → ServerKey → Type 0
 IsHeldBy lives target server = (g : ℕ) × (a : Leased) × (get lives g ≡ Some a) × (a.target ≡ target) × (a.server ≡ server)
 

@@ -14,19 +14,20 @@ use Rattle.hub_machine.specs.declared.step.Kept.{Kept as EndKept}
 use Rattle.hub_machine.specs.declared.step.Kept.TheVariants.{NotAsked, Kept, KeeperFault, Memory}
 use Rattle.hub_machine.specs.declared.step.Step.{Step}
 
--- the program is gone, so the lease ends by a commit
+-- The event is the end of a program: the program is gone, so the lease ends by a commit
 abbrev pub is_end : LifeEvent → Bool
 is_end Ended = true
 is_end SpawnFailed = true
 is_end _ = false
 
--- the event, or in place of an end whose commit was refused `EndUnkept`
+-- The event that is noted: the one that came, or in place of an end whose commit was refused `EndUnkept`
 abbrev pub noted_event : LifeEvent → EndKept → LifeEvent
 noted_event event NotAsked = event
 noted_event event Kept = event
 noted_event event KeeperFault = EndUnkept
 noted_event event Memory = EndUnkept
 
+-- The entry of an event of the generation g
 abbrev pub entry_of : ℕ → LifeEvent → EndKept → Change
 entry_of g event kept = Lived g (noted_event event kept)
 
@@ -38,6 +39,7 @@ KeptAs true faults faults' _ = Unit {0}
 KeptAs false faults faults' NotAsked = Unit {0}
 KeptAs false faults faults' _ = ⊥
 
+-- The step is taken, and then this is owed
 abbrev pub Owes : LifeStep → Todo → Type 0
 Owes (Ok next) todo = next.1 ≡ todo
 Owes (Err e) todo = ⊥
@@ -56,6 +58,8 @@ pub record IsRefused (g : ℕ) (event : LifeEvent) (e : LifeRefusal) (s s' : Hub
   pub hub : s' ≡ s
   pub noted : told' ≡ told
 
+-- What the event of the generation g came to, where the state was s, the history `told` and the keeper's count `faults`, with a prime
+-- after: it was taken, or refused
 abbrev pub Steps : ℕ → LifeEvent → Result Step LifeRefusal → (s s' : Hub) (told told' : List Change) (faults faults' : ℕ) → Type 0
 Steps g event (Ok made) s s' told told' faults faults' = Stepped g event made s s' told told' faults faults'
 Steps g event (Err e) s s' told told' faults faults' = IsRefused g event e s s' told told'

@@ -5,7 +5,7 @@ use Rattle.hub_machine.specs.Replies.{Answer, refuses, refuses_with, changes, wo
 use Rattle.hub_machine.specs.declared.refusal.Refusal.TheVariants.{TrailFull}
 use Rattle.std.specs.Prelude.{if◌then◌else◌}
 
--- a history without room for the entry is tried before an answer that has one
+-- The answer, but that one with a change is refused where the history has no room for its entry
 abbrev pub in_trail : Hub → Answer → Answer
 in_trail s (refuses_with c r) = if is_past_trail s c then refuses TrailFull else refuses_with c r
 in_trail s (changes c g) = if is_past_trail s c then refuses TrailFull else changes c g

@@ -15,9 +15,11 @@ pub record IsOfRows (rows : List RowChange) (w : Written) : Type 0 where
   pub puts : All IsValid (puts_of rows)
   pub removals : All IsValid (removals_of rows)
 
+-- What was written is the batch of the change, and its cost
 abbrev pub IsWritten : Change → Written → Type 0
 IsWritten c w = IsOfRows (rows_of c) w
 
+-- What was written before, if anything, is the batch of the change
 abbrev pub IsAsWritten : Change → Option Written → Type 0
 IsAsWritten c None = Unit {0}
 IsAsWritten c (Some w) = IsWritten c w
