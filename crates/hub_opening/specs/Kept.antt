@@ -48,6 +48,7 @@ pub record IsFirstBroken (limits : Limits) (scopes : List CustomRow) (kept : Lis
 abbrev pub IsFirstBad : Limits → List CustomRow → List KeptRow → ℕ → List ℕ → Type 0
 IsFirstBad limits scopes kept number name = IsFirstUnread kept number name ⊎ IsFirstBroken limits scopes kept number name
 
+-- The tables of these kept rows, or why there are none: the first bad row, or want of memory
 abbrev pub AreTables : Limits → List CustomRow → List KeptRow → Result State OpenError → Type 0
 AreTables limits scopes kept (Ok t) = AreTablesOf limits scopes kept t
 AreTables limits scopes kept (Err KeeperFault) = ⊥
@@ -96,10 +97,12 @@ abbrev pub where_none : Lease → Option ℕ → State → State
 where_none l None t = with_generation l t
 where_none l (Some g) t = t
 
+-- The tables with a generation for this lease, if there is one and it has none
 abbrev pub of_lease : Option Lease → State → State
 of_lease None t = t
 of_lease (Some l) t = where_none l l.generation t
 
+-- The tables with a generation for the lease of this target, where it has none
 abbrev pub generation_given : State → List ℕ → State
 generation_given t target = of_lease (get t.leases target) t
 
@@ -113,10 +116,12 @@ with_generations t = fold generation_given t (targets_of t)
 
 -- ---- the live servers
 
+-- The live servers with this lease, to be adopted, if it has a generation
 abbrev pub adopted_at : Lease → Option ℕ → Lives → Lives
 adopted_at l None lives = lives
 adopted_at l (Some g) lives = insert lives g (adopted_by l.server l.target g)
 
+-- The live servers with this lease, to be adopted
 abbrev pub adopted : Lives → Lease → Lives
 adopted lives l = adopted_at l l.generation lives
 
@@ -126,6 +131,7 @@ lives_in t = fold adopted empty (values t.leases)
 
 -- ---- a lease without its target
 
+-- The target is in the pool
 abbrev pub is_in_pool : (pool : List (List ℕ)) → List ℕ → Bool
 is_in_pool pool target = list_any (λ other. bytes_eq other target) pool
 
@@ -133,11 +139,14 @@ is_in_pool pool target = list_any (λ other. bytes_eq other target) pool
 abbrev pub first_lost : (pool : List (List ℕ)) → State → Option Lease
 first_lost pool t = find (λ l. not (is_in_pool pool l.target)) (values t.leases)
 
+-- The target of that lease, if there is one
 abbrev pub lost_target : (pool : List (List ℕ)) → State → Option (List ℕ)
 lost_target pool t = option_map (λ (l : Lease). l.target) (first_lost pool t)
 
 -- ---- what is true of the leases of such tables
 
+-- What is true of the leases of such tables: each stands under its own target, no two are of one server or of one generation, and the
+-- generations are below the next one, which isn't too great
 pub record AreLeasable (t : State) : Type 0 where
   pub own : (a : List ℕ) (l : Lease) → get t.leases a ≡ Some l → l.target ≡ a
   pub servers : (a b : List ℕ) (l m : Lease) → get t.leases a ≡ Some l → get t.leases b ≡ Some m → l.server ≡ m.server → a ≡ b

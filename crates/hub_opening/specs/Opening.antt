@@ -36,6 +36,7 @@ use Rattle.hub_opening.specs.declared.open_error.OpenError.{OpenError}
 use Rattle.hub_opening.specs.declared.open_error.OpenError.TheVariants.{KeeperFault, BadRow, LostTarget, Full, Memory}
 use Rattle.hub_opening.specs.declared.opening.Opened.{Opened}
 
+-- The greatest limits that there are
 abbrev pub greatest_limits : Limits
 greatest_limits = record {
   users = 100000;
@@ -56,6 +57,7 @@ abbrev pub user_row : ℕ → ConfigUser → Option User → User
 user_row now u None = record { name = u.name; admin = u.admin; created = now; last_activity = None }
 user_row now u (Some x) = record { name = u.name; admin = x.admin || u.admin; created = x.created; last_activity = x.last_activity }
 
+-- The tables with this configured user, at the moment `now`
 abbrev pub with_user : ℕ → State → ConfigUser → State
 with_user now t u = record t { users = insert t.users u.name (user_row now u (get t.users u.name)) }
 
@@ -78,6 +80,7 @@ abbrev pub client_with : List ℕ → Option (List ℕ) → Option (List ℕ) �
 client_with name (Some uri) (Some secret) = Some (record { id = codes "service:" ++ name; hash = hash_text secret; redirect_uri = uri })
 client_with name _ _ = None
 
+-- The client of a configured service, if it is one
 abbrev pub client_of : ConfigService → Option OAuthClient
 client_of s = client_with s.name s.redirect_uri s.secret
 
@@ -110,9 +113,11 @@ with_role t r = record t { roles = insert t.roles r.name (role_row t r) }
 
 -- ---- tokens
 
+-- The number of the next token
 abbrev pub next_token : State → ℕ
 next_token t = next_of t (codes "token")
 
+-- The row of a configured token with this id and hash, made at the moment `now`
 abbrev pub row_of_hash : ℕ → ℕ → List ℕ → ConfigToken → Token
 row_of_hash id now hash k =
     record {
@@ -127,6 +132,7 @@ row_of_hash id now hash k =
       scopes = k.scopes;
     }
 
+-- The row of a configured token with this id, made at the moment `now`
 abbrev pub token_row : ℕ → ℕ → ConfigToken → Token
 token_row id now k = row_of_hash id now (hash_text k.text) k
 
@@ -135,6 +141,7 @@ abbrev pub is_added : State → ConfigToken → Bool
 is_added t k =
     not (contains_key t.tokens (next_token t) || is_some (row_with (λ row. row.hash) (hash_text k.text) t.tokens)) && has_owner t k.owner
 
+-- The tables with this token and this next number
 abbrev pub both_put : Token → Next → State → State
 both_put k next t = record t { tokens = insert t.tokens k.id k; nexts = insert t.nexts next.name next }
 
@@ -142,12 +149,14 @@ both_put k next t = record t { tokens = insert t.tokens k.id k; nexts = insert t
 abbrev pub added : ℕ → ConfigToken → State → State
 added now k t = both_put (token_row (next_token t) now k) (record { name = codes "token"; next = next_token t + 1 }) t
 
+-- The tables with this configured token, where it is to be added, at the moment `now`
 abbrev pub with_token : ℕ → State → ConfigToken → State
 with_token now t k = if is_added t k then added now k t else t
 
 -- ---- the whole
 
--- its users, groups, services, roles and tokens, each in order, on top of what is there
+-- The tables with all that is configured, at the moment `now`: its users, groups, services, roles and tokens, each in order, on top of what
+-- is there
 abbrev pub configured : HubConfig → ℕ → State → State
 configured c now t =
     let people = fold (with_user now) t c.users in
@@ -170,6 +179,7 @@ over c t = record {
   no_trail = c.no_trail;
 }
 
+-- The state that a book begins with, over these kept tables, by this configuration at the moment `now`
 abbrev pub opened : HubConfig → ℕ → (kept : State) → Hub
 opened c now kept = over c (opened_tables c now kept)
 
@@ -224,6 +234,8 @@ pub record IsMadeOf (c : HubConfig) (now : ℕ) (kept : State) (made : Opened) :
   pub fits : first_full (opened_tables c now kept) ≡ None
   pub brings : Brings kept made.batch (opened_tables c now kept)
 
+-- What the configuration makes of kept tables at the moment `now`, or why it makes nothing of them: first a lease without its target, and
+-- then a kind past its limit
 abbrev pub IsMade : HubConfig → ℕ → (kept : State) → Result Opened OpenError → Type 0
 IsMade c now kept (Ok made) = IsMadeOf c now kept made
 IsMade c now kept (Err KeeperFault) = ⊥
@@ -233,8 +245,8 @@ IsMade c now kept (Err (Full number limit)) = (lost_target c.pool kept ≡ None)
     × (first_full (opened_tables c now kept) ≡ Some (number, limit))
 IsMade c now kept (Err Memory) = Unit {0}
 
--- this is the state that the configuration makes of the rows that the keeper had: each reads, none breaks a rule across rows, each lease
--- has its target in the pool, and no kind has more rows than its limit
+-- This is the state that the configuration makes at the moment `now` of the rows `has` that the keeper had, if it tells them (`Tells`):
+-- each reads, none breaks a rule across rows, each lease has its target in the pool, and no kind has more rows than its limit
 pub record IsSetUp (c : HubConfig) (now : ℕ) (Tells : Type 0) (has : Rows) (state : Hub) : Type 0 where
   pub kept : State
   pub loaded : AreLoaded c.limits c.custom_scopes Tells has kept
@@ -242,11 +254,13 @@ pub record IsSetUp (c : HubConfig) (now : ℕ) (Tells : Type 0) (has : Rows) (st
   pub pooled : lost_target c.pool kept ≡ None
   pub fits : first_full (opened_tables c now kept) ≡ None
 
+-- The refusal of an opening, by that of the keeper
 abbrev pub refusal_of : KeeperError → OpenError
 refusal_of Failed = KeeperFault
 refusal_of Wanting = Memory
 
--- why the keeper's rows aren't taken
+-- Why the keeper's rows `has` aren't taken, if it tells them (`Tells`): it failed, and its count rose from `before` to `after`; a row is
+-- bad; or memory was wanting
 abbrev pub IsUnread : Limits → List CustomRow → (Tells : Type 0) → Rows → (before after : ℕ) → OpenError → Type 0
 IsUnread limits scopes Tells has before after KeeperFault = Rises before after
 IsUnread limits scopes Tells has before after (BadRow number name) = IsRefusedRow limits scopes Tells has number name
@@ -254,7 +268,7 @@ IsUnread limits scopes Tells has before after (LostTarget target) = ⊥
 IsUnread limits scopes Tells has before after (Full number limit) = ⊥
 IsUnread limits scopes Tells has before after Memory = Unit {0}
 
--- why rows aren't kept
+-- Why rows aren't kept: the keeper failed, and its count rose, or memory was wanting
 abbrev pub IsUnkept : (before after : ℕ) → OpenError → Type 0
 IsUnkept before after KeeperFault = Rises before after
 IsUnkept before after (BadRow number name) = ⊥
