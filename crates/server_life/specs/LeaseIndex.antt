@@ -15,12 +15,15 @@ IsIndex {K} R key_of leased es = (q : K) → MatchOption (find R q es)
     ((i : ℕ) (h : Held) → slice_get leased i ≡ Some (Some h) → key_of h ≢ q)
     (λ i. (h : Held) × (slice_get leased i ≡ Some (Some h)) × (key_of h ≡ q))
 
+-- The list has exactly the places without a lease
 abbrev pub IsFreeIndex : List (Option Held) → List (ℕ × Unit {0}) → Type 0
 IsFreeIndex leased es = (i : ℕ) → MatchOption (find nat_cmp i es) (IsFree leased i → ⊥) (λ _. IsFree leased i)
 
+-- The generation of a lease
 abbrev pub generation_in : Held → ℕ
 generation_in h = h.generation
 
+-- The server of a lease
 abbrev pub server_in : Held → ServerKey
 server_in h = h.server
 
@@ -43,22 +46,27 @@ abbrev pub is_below : ServerKey → Option (Option Held) → Bool
 is_below q (Some (Some h)) = is_lt (key_cmp h.server q)
 is_below q o = false
 
+-- What stands at the place is the lease of the server q
 abbrev pub is_of : ServerKey → Option (Option Held) → Bool
 is_of q (Some (Some h)) = eq_by_cmp key_cmp q h.server
 is_of q o = false
 
+-- What stands at the place is the lease of a server whose user comes before this one
 abbrev pub user_below : List ℕ → Option (Option Held) → Bool
 user_below u (Some (Some h)) = is_lt (name_cmp h.server.user u)
 user_below u o = false
 
+-- What stands at the place is the lease of a server of this user
 abbrev pub user_of : List ℕ → Option (Option Held) → Bool
 user_of u (Some (Some h)) = eq_by_cmp name_cmp h.server.user u
 user_of u o = false
 
+-- The server of the lease at the place, if one stands there
 abbrev pub server_of : Option (Option Held) → Option ServerKey
 server_of (Some (Some h)) = Some h.server
 server_of o = None
 
+-- The place of an entry
 abbrev pub place_in : ServerKey × ℕ → ℕ
 place_in e = e.1
 
@@ -68,6 +76,7 @@ pub record AreServersAt (leased : List (Option Held)) (places : List ℕ) (serve
   pub rise : T (is_sorted key_cmp servers)
   pub index : IsIndex key_cmp server_in leased servers
 
+-- The places of the free targets, of the generations and of the servers are those of this table, the servers' in the order of their keys
 abbrev pub HasLookUps : LeaseTable → List (ℕ × Unit {0}) → List (ℕ × ℕ) → List ℕ → Type 0
 HasLookUps t free generations places = (servers : List (ServerKey × ℕ)) × (places ≡ map place_in servers)
     × HasOrderedLists t free generations servers

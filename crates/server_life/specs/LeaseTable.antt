@@ -5,6 +5,7 @@ use Rattle.hub_kit.specs.declared.names.ServerKey.{ServerKey}
 use Rattle.server_life.specs.declared.leases.Held.{Held}
 use Rattle.server_life.specs.Leased.{HoldsLease}
 
+-- The leases of a pool, at the places of their targets, and the next generation
 pub record LeaseTable : Type 0 where
   pub pool : List Target
   pub leased : List (Option Held)  -- at each place, the lease of the target there

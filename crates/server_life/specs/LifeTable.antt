@@ -56,6 +56,7 @@ abbrev pub stop_refusal : Phase → LifeRefusal
 stop_refusal Stopped = NotNow
 stop_refusal phase = PendingStop
 
+-- The generation that a phase is of; a server at rest has none
 abbrev pub generation_of : Phase → Option ℕ
 generation_of Stopped = None
 generation_of (Adopting h) = Some h
@@ -66,10 +67,12 @@ generation_of (Unrouting h) = Some h
 generation_of (Stopping h) = Some h
 generation_of (Parked h at) = Some h
 
+-- The generation, if there is one, is g
 abbrev pub is_generation : ℕ → Option ℕ → Bool
 is_generation g None = false
 is_generation g (Some h) = nat_eq h g
 
+-- What the line of the table says, or this refusal where it has no line
 abbrev pub or_refused : Option (Life × Todo) → LifeRefusal → Result (Life × Todo) LifeRefusal
 or_refused (Some made) refusal = Ok made
 or_refused None refusal = Err refusal

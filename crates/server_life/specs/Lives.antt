@@ -24,6 +24,7 @@ is_failure EndUnkept = true
 is_failure PollFailed = true
 is_failure event = false
 
+-- The event is the wish for a start
 abbrev pub is_begin : LifeEvent → Bool
 is_begin Begin = true
 is_begin event = false
@@ -34,6 +35,7 @@ is_outcome Begin = false
 is_outcome AskStop = false
 is_outcome event = true
 
+-- The server is on its way to be ready in this phase
 abbrev pub is_starting : Phase → Bool
 is_starting (Adopting h) = true
 is_starting (Spawning h) = true

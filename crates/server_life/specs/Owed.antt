@@ -3,6 +3,7 @@ use Rattle.std.specs.Prelude.{ℕ}
 use Rattle.server_life.specs.declared.life.Phase.{Phase}
 use Rattle.server_life.specs.declared.life.Phase.TheVariants.{Stopped, Adopting, Spawning, Routing, Ready, Unrouting, Stopping, Parked}
 
+-- How many outcomes may still come in this phase at most, until nothing is owed
 abbrev pub owed : Phase → ℕ
 owed Stopped = 0
 owed (Adopting h) = 4
