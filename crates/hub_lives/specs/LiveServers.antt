@@ -8,6 +8,7 @@ use Rattle.server_life.specs.LifeTable.{generation_of}
 use Rattle.hub_lives.specs.Lives.{Lives, leased_to}
 use Rattle.hub_lives.specs.declared.lives.Leased.{Leased}
 
+-- The live servers with their pool and the next generation, as contracts see them
 pub record LiveServers : Type 0 where
   -- the targets that servers may hold
   pub pool : List (List ℕ)

@@ -21,6 +21,7 @@ use Rattle.hub_lives.specs.declared.lives.Leased.{Leased}
 abbrev pub Lives : Type 0
 Lives = FinMap nat_cmp Leased
 
+-- The life of a server that was never started, or has stopped
 abbrev pub at_rest : Life
 at_rest = record { phase = Stopped; stop_asked = false }
 
@@ -28,6 +29,7 @@ at_rest = record { phase = Stopped; stop_asked = false }
 abbrev pub lease_of : Lives → ServerKey → Option (ℕ × Leased)
 lease_of lives k = find (λ e. same_server e.1.server k) (entries lives)
 
+-- The life that goes with a lease; without one the server is at rest
 abbrev pub life_in : Option (ℕ × Leased) → Life
 life_in None = at_rest
 life_in (Some e) = e.1.life
@@ -36,10 +38,11 @@ life_in (Some e) = e.1.life
 abbrev pub life_of : Lives → ServerKey → Life
 life_of lives k = life_in (lease_of lives k)
 
+-- A server of the user u is live
 abbrev pub has_live_server : Lives → List ℕ → Bool
 has_live_server lives u = list_any (λ l. same l.server.user u) (values lives)
 
--- the entries that are still owed
+-- How many entries are still owed for all live servers, at most
 abbrev pub owed : Lives → ℕ
 owed lives = sum_by (λ l. owed_in l.life.phase) (values lives)
 
@@ -48,6 +51,7 @@ abbrev pub owed_by : Option Leased → ℕ
 owed_by None = 0
 owed_by (Some l) = owed_in l.life.phase
 
+-- A live server holds the target
 abbrev pub is_leased : Lives → List ℕ → Bool
 is_leased lives target = list_any (λ l. same l.target target) (values lives)
 
@@ -70,6 +74,7 @@ adopted_by server target g = record { server = server; target = target; life = r
 abbrev pub LifeStep : Type 0
 LifeStep = Result (Life × Todo) LifeRefusal
 
+-- What the event makes of the life of the generation g, by its lease; a generation without one refuses it
 abbrev pub step_of : Option Leased → ℕ → LifeEvent → LifeStep
 step_of None g event = Err (OldGeneration g)
 step_of (Some l) g event = life_after l.life g event
