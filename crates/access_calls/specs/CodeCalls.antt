@@ -28,10 +28,12 @@ use Rattle.access_calls.specs.ShareCalls.{by_rules, put_share}
 
 -- ---- lists
 
+-- The body of a share code; nothing stands for one that isn't kept
 abbrev pub body_of_code : Option ShareCode → Json
 body_of_code None = []
 body_of_code (Some code) = code_body code
 
+-- The body of the code with this id
 abbrev pub code_at : Hub → (id : ℕ) → Json
 code_at s id = body_of_code (get s.tables.codes id)
 
@@ -46,6 +48,7 @@ get_codes s whose page = gives (good 200 (paged_list (codes_path whose) page (ma
 
 -- ---- POST /users/{user}/shared
 
+-- The user brings the text of a code, and gets its share
 abbrev pub accept_code : Hub → (now : ℕ) → (user text : List ℕ) → Answer
 accept_code s now user text = by_rules (shares.accept_code s.tables user text now) (put_share s)
 
@@ -55,12 +58,14 @@ accept_code s now user text = by_rules (shares.accept_code s.tables user text no
 abbrev pub is_without_room : State → (over : List ℕ) → Bool
 is_without_room t over = nat_le t.limits.codes (len t.codes - length over) || nat_le (2 ^ 64 - 1) (next_of t (codes "code"))
 
+-- What refuses a new code, in this order, where those in `over` go with it: its hash is kept, or there is no room for it
 abbrev pub code_rules : State → (over : List ℕ) → ShareCode → List (Option Refusal)
 code_rules t over code =
     if_so (is_some (code_of_hash t code.hash)) (Exists (codes "code"))
     ∷ if_so (is_without_room t over) (Full 9 t.limits.codes)
     ∷ []
 
+-- The codes with these ids go
 abbrev pub removals : (ids : List ℕ) → List RowChange
 removals ids = map (λ id. Remove (RowKey.ShareCode id)) ids
 
@@ -75,6 +80,7 @@ code_rows code over =
 abbrev pub made : ShareCode → (over : List ℕ) → (text : List ℕ) → Answer
 made code over text = rows_then (code_rows code over) (good 201 (new_code_body code text))
 
+-- The answer for a new code of this text, where those in `over` go with it
 abbrev pub put_code : Hub → (over : List ℕ) → (text : List ℕ) → ShareCode → Answer
 put_code s over text code = rules (code_rules s.tables over code) (made code over text)
 
@@ -95,5 +101,6 @@ abbrev pub named_codes : State → ServerKey → Option ℕ → List ℕ
 named_codes t server None = codes_of t (Server server)
 named_codes t server (Some id) = id ∷ []
 
+-- The code of the server that is named goes, or all of them where none is
 abbrev pub delete_codes : Hub → ServerKey → Option ℕ → Answer
 delete_codes s server id = rows_then (removals (named_codes s.tables server id)) (good 204 [])

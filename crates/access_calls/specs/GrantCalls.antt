@@ -47,6 +47,7 @@ abbrev pub refusal_in : Result OAuthClient OAuthError → Option Refusal
 refusal_in (Ok client) = None
 refusal_in (Err error) = Some (refusal_of error)
 
+-- Why no client asks for this authorization, if none does
 abbrev pub client_refusal : State → AuthorizeAsk → Option Refusal
 client_refusal t ask = refusal_in (client_of t ask)
 
@@ -71,12 +72,14 @@ sent_to place = record { status = 302; body = []; location = Some place; no_stor
 abbrev pub is_full : State → (over : List (List ℕ)) → Bool
 is_full t over = nat_le t.limits.codes (len t.grant_codes - length over)
 
+-- What refuses a new code, in this order, where those in `over` go with it: its hash is kept, or there is no room for it
 abbrev pub code_rules : State → (over : List (List ℕ)) → OAuthCode → List (Option Refusal)
 code_rules t over code =
     if_so (contains_key t.grant_codes code.hash) (Exists (codes "code"))
     ∷ if_so (is_full t over) (Full 11 t.limits.codes)
     ∷ []
 
+-- The codes with these hashes go
 abbrev pub removals : (hashes : List (List ℕ)) → List RowChange
 removals hashes = map (λ hash. Remove (RowKey.OAuthCode hash)) hashes
 
@@ -88,6 +91,7 @@ code_rows code over = Put (Row.OAuthCode code) ∷ removals over
 abbrev pub granted : OAuthCode → (over : List (List ℕ)) → (text : List ℕ) → (given : Option (List ℕ)) → Answer
 granted code over text given = rows_then (code_rows code over) (sent_to (place_of code.redirect_uri text (text_in given)))
 
+-- The answer for a new code of this text, where those in `over` go with it; `given` is the state that the client gave
 abbrev pub put_code : State → (over : List (List ℕ)) → (text : List ℕ) → (given : Option (List ℕ)) → OAuthCode → Answer
 put_code t over text given code = rules (code_rules t over code) (granted code over text given)
 
@@ -101,6 +105,7 @@ abbrev pub by_client : Result OAuthClient OAuthError → (OAuthClient → Answer
 by_client (Ok client) answer = answer client
 by_client (Err error) answer = refuses (refusal_of error)
 
+-- The answer to an authorization for this owner, at the moment `now`, whose code has this text
 abbrev pub authorize : State → (now : ℕ) → (text : List ℕ) → Owner → AuthorizeAsk → Answer
 authorize t now text owner ask = by_client (client_of t ask) (grant_to t now text owner ask.state)
 
@@ -124,6 +129,7 @@ bearer text = record { status = 200; body = bearer_body text; location = None; n
 abbrev pub trade_rows : OAuthCode → Token → (over : List ℕ) → List RowChange
 trade_rows code token over = Put (Row.OAuthCode code) ∷ token_rows token over
 
+-- The answer for a code that is traded for a token of this text, where the tokens in `over` go with it
 abbrev pub put_traded : State → (over : List ℕ) → (text : List ℕ) → OAuthCode → Token → Answer
 put_traded t over text code token = rules (if_so (is_without_room t over) (Full 5 t.limits.tokens) ∷ [])
     (rows_then (trade_rows code token over) (bearer text))
@@ -142,9 +148,11 @@ abbrev pub refuses_without : (token : Option ℕ) → Refusal → Answer
 refuses_without None refusal = refuses refusal
 refuses_without (Some token) refusal = refuses_with (Rows (Remove (RowKey.Token token) ∷ [])) refusal
 
+-- The answer to a trade that is refused: a code that was used before takes the token along that it was traded for
 abbrev pub refused_trade : OAuthError → Answer
 refused_trade error = refuses_without (revoked error) (refusal_of error)
 
+-- The answer for what a code is traded for, or the refusal of the trade
 abbrev pub by_trade : Result (OAuthCode × Token) OAuthError → (OAuthCode × Token → Answer) → Answer
 by_trade (Ok given) answer = answer given
 by_trade (Err error) answer = refused_trade error

@@ -45,10 +45,12 @@ by_rules (Err refusal) answer = refuses (refusal_of refusal)
 
 -- ---- lists
 
+-- The body of a share; nothing stands for one that isn't kept
 abbrev pub body_of_share : Option Share → Json
 body_of_share None = []
 body_of_share (Some share) = share_body share
 
+-- The body of the share under this key
 abbrev pub share_at : Hub → ShareKey → Json
 share_at s key = body_of_share (get s.tables.shares key)
 
@@ -73,9 +75,11 @@ abbrev pub is_as_before : Share → Option Share → Bool
 is_as_before share None = false
 is_as_before share (Some kept) = length kept.scopes == length share.scopes
 
+-- The rows that put a share, where `kept` is the one that is kept: none where it is as before
 abbrev pub share_put : Share → Option Share → List RowChange
 share_put share kept = if is_as_before share kept then [] else Put (Row.Share share) ∷ []
 
+-- The answer for a share that is put
 abbrev pub put_share : Hub → Share → Answer
 put_share s share =
     rules (if_so (is_without_room s.tables share) (Full 8 s.tables.limits.shares) ∷ [])
@@ -98,20 +102,25 @@ left_rows left None = []
 left_rows None (Some kept) = Remove (RowKey.Share kept.key) ∷ []
 left_rows (Some share) (Some kept) = share_put share (Some kept)
 
+-- The body of what is left of a share, or of no share
 abbrev pub left_body : Option Share → Json
 left_body None = pairs []
 left_body (Some share) = share_body share
 
+-- The answer to a revocation, where `kept` was kept and `left` is left of it
 abbrev pub left_share : (kept left : Option Share) → Answer
 left_share kept left = rows_then (left_rows left kept) (good 200 (left_body left))
 
+-- The recipient loses these scopes of the share of the server, or all where none are named
 abbrev pub patch_share : Hub → ServerKey → Option Recipient → List RawScope → Answer
 patch_share s server to scopes = by_rules (revoke_share s.tables server to scopes) (left_share (share_with s.tables server to))
 
 -- ---- DELETE /shares/{owner}/{server}
 
+-- The shares under these keys go
 abbrev pub removals : List ShareKey → List RowChange
 removals keys = map (λ key. Remove (RowKey.Share key)) keys
 
+-- All shares of the server go
 abbrev pub delete_shares : Hub → ServerKey → Answer
 delete_shares s server = rows_then (removals (shares_of s.tables (Server server))) (good 204 [])

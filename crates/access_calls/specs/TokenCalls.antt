@@ -27,10 +27,12 @@ use Rattle.hub_machine.specs.declared.refusal.Refusal.TheVariants.{Exists, Full,
 
 -- ---- tokens that are kept
 
+-- The body of a token; nothing stands for one that isn't kept
 abbrev pub body_of_token : Option Token → Json
 body_of_token None = []
 body_of_token (Some token) = token_body token
 
+-- The body of the token with this id
 abbrev pub token_at : Hub → (id : ℕ) → Json
 token_at s id = body_of_token (get s.tables.tokens id)
 
@@ -61,6 +63,8 @@ if_not_held (In.NotHeld action filter) = Some (NotHeld (scope_text (Plain action
 abbrev pub is_without_room : State → (over : List ℕ) → Bool
 is_without_room t over = nat_le t.limits.tokens (len t.tokens - length over) || nat_le (2 ^ 64 - 1) (next_of t (codes "token"))
 
+-- What refuses a token of this text that is asked for, in this order, where those in `over` go with it: a scope isn't declared, the owner
+-- doesn't hold a row of what is asked (`inside`), its hash is kept, or there is no room for it
 abbrev pub token_rules : State → (over : List ℕ) → (text : List ℕ) → Inside → TokenAsk → List (Option Refusal)
 token_rules t over text inside ask =
     if_unknown t ask
@@ -84,6 +88,7 @@ token_rows token over =
 abbrev pub made : Token → (over : List ℕ) → (text : List ℕ) → Answer
 made token over text = rows_then (token_rows token over) (good 201 (new_token_body token text))
 
+-- The answer for a token of this text that is asked for at the moment `now`, where those in `over` go with it
 abbrev pub issue_with : Hub → (now : ℕ) → (text : List ℕ) → Inside → TokenAsk → (over : List ℕ) → Answer
 issue_with s now text inside ask over = rules (token_rules s.tables over text inside ask) (made (new_token s.tables now text ask) over text)
 
