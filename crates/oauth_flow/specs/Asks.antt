@@ -9,6 +9,7 @@ abbrev pub is_text : List ℕ → Option (List ℕ) → Bool
 is_text text None = false
 is_text text (Some field) = same field text
 
+-- The refusal, where the test holds
 abbrev pub if_so : Bool → OAuthError → Option OAuthError
 if_so test error = if test then Some error else None
 

@@ -18,14 +18,17 @@ use Rattle.oauth_flow.specs.declared.clients.ClientOwner.TheVariants.{Server, Se
 
 -- ---- whose it is
 
+-- The server of a key that was read, if it is one
 abbrev pub of_server : Result ServerKey NameError → Option ClientOwner
 of_server (Ok server) = Some (Server server)
 of_server (Err e) = None
 
+-- The service of a name that was read, if it is one
 abbrev pub of_service : Result (List ℕ) NameError → Option ClientOwner
 of_service (Ok service) = Some (Service service)
 of_service (Err e) = None
 
+-- Whose client an id is that names this kind, and this name behind its first colon, if it has one
 abbrev pub named : (kind : List ℕ) → Option (List ℕ) → Option ClientOwner
 named kind None = None
 named kind (Some name) =
@@ -38,6 +41,7 @@ whose id = named (before 58 id) (after 58 id)
 
 -- ---- which one asks
 
+-- The kept client of this id, if one is named
 abbrev pub client_named : State → (id : Option (List ℕ)) → Option OAuthClient
 client_named t None = None
 client_named t (Some id) = get t.clients id
@@ -46,6 +50,7 @@ client_named t (Some id) = get t.clients id
 abbrev pub is_whole : AuthorizeAsk → Bool
 is_whole ask = is_text (codes "code") ask.response_type && is_some ask.client_id && is_some ask.redirect_uri && is_some ask.state
 
+-- The client that asks, where there is one and this is its own URI
 abbrev pub at_uri : (uri : Option (List ℕ)) → Option OAuthClient → Result OAuthClient OAuthError
 at_uri uri None = Err InvalidClient
 at_uri uri (Some client) = if is_text client.redirect_uri uri then Ok client else Err InvalidRequest

@@ -24,6 +24,7 @@ made_code client owner text now = record {
   token = None;
 }
 
+-- The code has expired by the moment `now`
 abbrev pub is_expired_code : (now : ℕ) → OAuthCode → Bool
 is_expired_code now code = is_over now (Some code.expires_at)
 

@@ -46,10 +46,12 @@ abbrev pub traded_scopes : Option ClientOwner → List RawScope
 traded_scopes None = []
 traded_scopes (Some client) = access client ∷ user_name ∷ []
 
+-- The server whose client it is, if it is a server's
 abbrev pub traded_for : Option ClientOwner → Option ServerKey
 traded_for (Some (Server server)) = Some server
 traded_for _ = None
 
+-- The token that a code is traded for at the moment `now`, with this hash and id: its user's, for two weeks, with the scopes of its client
 abbrev pub traded_token : OAuthCode → (hash : List ℕ) → (id now : ℕ) → Token
 traded_token code hash id now = record {
   id = id;
@@ -71,6 +73,7 @@ has_secret secret None = false
 has_secret None (Some client) = false
 has_secret (Some secret) (Some client) = same (hash_text secret) client.hash
 
+-- All fields are there that a trade needs beside the type of its grant
 abbrev pub is_whole : TradeAsk → Bool
 is_whole ask = is_some ask.code && is_some ask.redirect_uri && is_some ask.client_id && is_some ask.client_secret
 
@@ -93,12 +96,15 @@ code_named t (Some text) = get t.grant_codes (hash_text text)
 abbrev pub is_asked : TradeAsk → OAuthCode → Bool
 is_asked ask code = is_text code.client ask.client_id && is_text code.redirect_uri ask.redirect_uri
 
+-- The token, where it is kept
 abbrev pub if_kept : State → (token : ℕ) → Option ℕ
 if_kept t token = if contains_key t.tokens token then Some token else None
 
+-- A kept token has this hash
 abbrev pub is_hash_kept : State → (hash : List ℕ) → Bool
 is_hash_kept t hash = is_some (token_of_hash t hash)
 
+-- What a code that wasn't used before is traded for: it must not have expired, and the new token's hash must not be kept
 abbrev pub unused : State → OAuthCode → (text : List ℕ) → (id now : ℕ) → Result (OAuthCode × Token) OAuthError
 unused t code text id now =
     by_rule (option_or (if_so (is_over now (Some code.expires_at)) (InvalidGrant None)) (if_so (is_hash_kept t (hash_text text)) HashKept))
@@ -109,6 +115,7 @@ abbrev pub by_use : State → OAuthCode → (text : List ℕ) → (id now : ℕ)
 by_use t code text id now None = unused t code text id now
 by_use t code text id now (Some token) = Err (InvalidGrant (if_kept t token))
 
+-- What a kept code is traded for, if there is one: it must be one of this client and URI
 abbrev pub on_code : State → TradeAsk → (text : List ℕ) → (id now : ℕ) → Option OAuthCode → Result (OAuthCode × Token) OAuthError
 on_code t ask text id now None = Err (InvalidGrant None)
 on_code t ask text id now (Some code) = if is_asked ask code then by_use t code text id now code.token else Err (InvalidGrant None)
