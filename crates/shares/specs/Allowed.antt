@@ -13,6 +13,7 @@ use Rattle.scope_filters.specs.declared.scope.RawScope.TheVariants.{Plain, SelfS
 use Rattle.shares.specs.declared.allowed.ShareError.{ShareError}
 use Rattle.shares.specs.declared.allowed.ShareError.TheVariants.{ScopeNotAllowed, Memory}
 
+-- The action is one on servers that a share may carry
 abbrev pub is_server_action : Action → Bool
 is_server_action AccessServers = true
 is_server_action ReadServers = true
@@ -20,6 +21,7 @@ is_server_action Servers = true
 is_server_action DeleteServers = true
 is_server_action _ = false
 
+-- The filter is that of this server
 abbrev pub is_of_server : ServerKey → RawFilter → Bool
 is_of_server server (Raw.Server other) = same_server other server
 is_of_server server _ = false
@@ -52,9 +54,11 @@ abbrev pub after_rule : {X : Type 0} → Option ShareError → Result X ShareErr
 after_rule None later = later
 after_rule (Some refusal) later = Err refusal
 
+-- The refusal, where the test holds
 abbrev pub if_so : Bool → ShareError → Option ShareError
 if_so test refusal = if test then Some refusal else None
 
+-- The refusal of the first scope that a share of this server may not carry, if there is one
 abbrev pub if_refused_scope : ServerKey → List RawScope → Option ShareError
 if_refused_scope server scopes = option_map ScopeNotAllowed (refused_place server scopes)
 

@@ -38,6 +38,7 @@ make_code server scopes life text id now =
 
 -- ---- accepting
 
+-- The share that a code grants a user at the moment `now`, if there is such a code, and it hasn't expired
 abbrev pub accepted : State → (user : List ℕ) → (now : ℕ) → Option ShareCode → Result Share ShareError
 accepted t user now None = Err CodeUnknown
 accepted t user now (Some code) =
@@ -50,6 +51,7 @@ accept_code t user text now = accepted t user now (code_of_hash t (hash_text tex
 
 -- ---- expiring
 
+-- The code is of this server, and has expired by the moment `now`
 abbrev pub is_expired_code : (now : ℕ) → ServerKey → ShareCode → Bool
 is_expired_code now server code = same_server code.server server && is_over now (Some code.expires_at)
 

@@ -13,6 +13,7 @@ use Rattle.shares.specs.Allowed.{or_access, after_rule, by_rules, if_so, if_refu
 use Rattle.shares.specs.declared.allowed.ShareError.{ShareError}
 use Rattle.shares.specs.declared.allowed.ShareError.TheVariants.{NoRecipient}
 
+-- The recipient is kept
 abbrev pub is_kept : State → Recipient → Bool
 is_kept t (To.User user) = contains_key t.users user
 is_kept t (To.Group group) = contains_key t.groups group
@@ -43,6 +44,7 @@ abbrev pub granted_share : State → (now : ℕ) → ServerKey → Recipient →
 granted_share t now server to scopes =
     granted now (record { server = server; to = to }) (or_access server scopes) (get t.shares (record { server = server; to = to }))
 
+-- The share that these scopes leave, granted to the one who is named at the moment `now`, or the first rule that refuses
 abbrev pub grant_share : State → ServerKey → Option Recipient → List RawScope → (now : ℕ) → Result Share ShareError
 grant_share t server to scopes now = for_recipient (checked t server to scopes) (λ who. granted_share t now server who scopes)
 
@@ -58,10 +60,12 @@ abbrev pub share_of : Share → List RawScope → Option Share
 share_of share [] = None
 share_of share (x ∷ xs) = Some (record share { scopes = x ∷ xs })
 
+-- What remains of a share without these scopes, if it was kept
 abbrev pub remains : List RawScope → Option Share → Option Share
 remains gone None = None
 remains gone (Some kept) = share_of kept (left gone kept.scopes)
 
+-- What remains of the share with the one who is named, without these scopes, or the first rule that refuses
 abbrev pub revoke_share : State → ServerKey → Option Recipient → List RawScope → Result (Option Share) ShareError
 revoke_share t server to scopes = for_recipient (checked t server to scopes)
     (λ who. remains scopes (get t.shares (record { server = server; to = who })))

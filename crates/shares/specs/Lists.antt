@@ -17,6 +17,7 @@ use Rattle.shares.specs.declared.lists.SharesOf.TheVariants as Shares
 
 -- ---- shares
 
+-- The share is one of those that are asked for: a user's who received it, one's who gave it, or a server's
 abbrev pub is_share_of : SharesOf → ShareKey → Bool
 is_share_of (Shares.Recipient user) key = same_recipient key.to (To.User user)
 is_share_of (Shares.Owner user) key = same key.server.user user
@@ -28,6 +29,7 @@ shares_of t whose = map (λ (share : Share). share.key) (filter (λ (share : Sha
 
 -- ---- share codes
 
+-- The code is one of those that are asked for: of a user's servers, or of a server
 abbrev pub is_code_of : CodesOf → ShareCode → Bool
 is_code_of (Codes.Owner user) code = same code.server.user user
 is_code_of (Codes.Server server) code = same_server code.server server
