@@ -9,10 +9,12 @@ use Rattle.hub_tables.specs.State.{State}
 use Rattle.token_store.specs.declared.finding.TokenError.{TokenError}
 use Rattle.token_store.specs.declared.finding.TokenError.TheVariants.{Unknown, Expired, Memory}
 
+-- The id of a token with this end, unless it is over by the moment `now`
 abbrev pub until : ℕ → ℕ → Option ℕ → Result ℕ TokenError
 until now id None = Ok id
 until now id (Some end) = if is_over now (Some end) then Err (Expired end) else Ok id
 
+-- The id of a token, if there is one, unless it is over by the moment `now`
 abbrev pub in_time : ℕ → Option Token → Result ℕ TokenError
 in_time now None = Err Unknown
 in_time now (Some k) = until now k.id k.expires_at

@@ -80,6 +80,7 @@ AreWithin t rights owner scopes (NotHeld action filter) =
 
 -- ---- the rules in their order
 
+-- A kept token has this hash
 abbrev pub is_hash_kept : State → (hash : List ℕ) → Bool
 is_hash_kept t hash = is_some (token_of_hash t hash)
 
