@@ -13,6 +13,7 @@ use Rattle.keeper.specs.declared.keeper.KeeperError.TheVariants.{Memory}
 use Rattle.store_thread.specs.declared.calls.Answer.{Answer}
 use Rattle.store_thread.specs.Mailbox.{IsAnswered, IsUnanswered}
 
+-- The call that takes the place, where one is named
 abbrev pub choice : Option (List ℕ) → Call
 choice None = Stay
 choice (Some place) = Open place
@@ -28,6 +29,7 @@ IsReadThere talk read =
     (before : Talk) × (place : List ℕ) × (answer : Answer) × IsAnswered before (Open place) answer talk × (answer.done ≡ Ok tt)
     × (answer.rows ≡ Some read)
 
+-- What the far store has from the last reading, if anything, is what was read where the last call took a place
 abbrev pub HasRead : Talk → Read → Type 0
 HasRead talk read = IfSome read (λ said. IsReadThere talk said)
 
@@ -35,13 +37,16 @@ HasRead talk read = IfSome read (λ said. IsReadThere talk said)
 abbrev pub StaysTold : Talk → Talk → Type 0
 StaysTold before after = IsTrue (is_some (told_in after)) → IsTrue (is_some (told_in before)) × AreSame (rows_in after) (rows_in before)
 
--- a call came to this: it was answered so, and none stays without an answer; or it wasn't answered, which is want of memory
+-- The call came to this: it was answered so, and none stays without an answer. before and after are what was said between the two ends,
+-- here and below
 abbrev pub WasHeard : Talk → Call → Result (Unit {0}) KeeperError → Talk → Type 0
 WasHeard before call done after = (answer : Answer) × (answer.done ≡ done) × IsAnswered before call answer after
 
+-- The call wasn't answered, which is want of memory
 abbrev pub Unheard : Talk → Call → Result (Unit {0}) KeeperError → Talk → Type 0
 Unheard before call done after = (done ≡ Err Memory) × IsUnanswered before call after
 
+-- The call came to this: it was answered so, or it wasn't answered
 abbrev pub IsHeard : Talk → Call → Result (Unit {0}) KeeperError → Talk → Type 0
 IsHeard before call done after = WasHeard before call done after ⊎ Unheard before call done after
 
@@ -50,13 +55,15 @@ abbrev pub said_read : Read → Result (Vec Row Global) KeeperError
 said_read None = Err Memory
 said_read (Some read) = read
 
--- a load came to this: it was answered so; or it wasn't answered
+-- The load came to this: it was answered so
 abbrev pub WasRead : Talk → Result (Vec Row Global) KeeperError → Talk → Type 0
 WasRead before read after = (answer : Answer) × (said_read answer.rows ≡ read) × IsAnswered before Load answer after
 
+-- The load wasn't answered, which is want of memory
 abbrev pub NotRead : Talk → Result (Vec Row Global) KeeperError → Talk → Type 0
 NotRead before read after = (read ≡ Err Memory) × IsUnanswered before Load after
 
+-- The load came to this: it was answered so, or it wasn't answered
 abbrev pub IsReadNow : Talk → Result (Vec Row Global) KeeperError → Talk → Type 0
 IsReadNow before read after = WasRead before read after ⊎ NotRead before read after
 

@@ -11,6 +11,7 @@ use Rattle.store_thread.specs.declared.mailbox.Talk.{Talk}
 use Rattle.store_thread.specs.declared.mailbox.View.{View}
 use Rattle.store_thread.specs.Told.{known_of, IsFaithful}
 
+-- Nothing was said yet
 abbrev pub no_talk : Talk
 no_talk = record { seen = []; asked = None }
 
@@ -18,16 +19,19 @@ no_talk = record { seen = []; asked = None }
 abbrev pub first_view : View
 first_view = record { asks = true; answers = true; talk = no_talk }
 
+-- The call with its answer; `told` says whether the store tells its rows then
 abbrev pub exchange : Call → Answer → Bool → Exchange
 exchange call answer told = record { call = call; done = answer.done; rows = answer.rows; told = told }
 
--- a call was asked; it was answered; it was taken back
+-- A call was asked
 abbrev pub with_call : Call → Talk → Talk
 with_call call talk = record talk { asked = Some call }
 
+-- The call was answered, after which the store tells its rows or doesn't
 abbrev pub with_answer : Call → Answer → Bool → Talk → Talk
 with_answer call answer told talk = record { seen = talk.seen ++ exchange call answer told ∷ []; asked = None }
 
+-- The call was taken back, before anybody had heard it
 abbrev pub without_call : Talk → Talk
 without_call talk = record talk { asked = None }
 
@@ -40,20 +44,24 @@ Between (Reply answer ∷ []) far near =
     × IsFaithful (known_of far.seen) (exchange call answer told)
 Between (p ∷ q ∷ ps) far near = ⊥
 
--- one end at most asks and one at most answers, and each knows what was said
+-- The end at this place, which knows v, is the one that asks and knows f, or the one that answers and knows n, as far as it says that it is
+-- either
 abbrev pub Fits : ℕ → ℕ → Talk → Talk → ℕ → View → Type 0
 Fits far near f n seat v = (v.asks ≡ true → (seat ≡ far) × (v.talk ≡ f)) × (v.answers ≡ true → (seat ≡ near) × (v.talk ≡ n))
 
+-- These parcels lie in the mailbox, and its ends know these views: one end at most asks and one at most answers, and each knows what was
+-- said
 abbrev pub Mailed : List Parcel → List View → Type 0
 Mailed parcels views =
     (far : ℕ) × (near : ℕ) × (f : Talk) × (n : Talk) × Between parcels f n
     × ((seat : ℕ) (v : View) → get_elem? views seat ≡ some v → Fits far near f n seat v)
 
--- what each step tells an end: of what it knew, the parcel, and what it knows then
+-- What an end knows once it has put a call, w, of what it knew, v; an answer is given otherwise (`Gave`)
 abbrev pub Put : View → Parcel → View → Type 0
 Put v (Question call) w = w ≡ record v { talk = with_call call v.talk }
 Put v (Reply answer) w = ⊥
 
+-- What an end knows once it has given an answer, w, of what it knew, v; `told` says whether the store tells its rows then
 abbrev pub Gave : Bool → View → Parcel → View → Type 0
 Gave told v (Question call) w = ⊥
 Gave told v (Reply answer) w =
@@ -82,5 +90,6 @@ IsAnswered before call answer after =
     (told : Bool) × (before.asked ≡ None) × (after ≡ with_answer call answer told before)
     × IsFaithful (known_of before.seen) (exchange call answer told)
 
+-- What a call that wasn't answered came to: nothing was said, or it stays without an answer
 abbrev pub IsUnanswered : Talk → Call → Talk → Type 0
 IsUnanswered before call after = (after ≡ before) ⊎ ((before.asked ≡ None) × (after ≡ with_call call before))

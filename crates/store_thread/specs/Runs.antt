@@ -37,11 +37,13 @@ module _ {K : Type 0} (Tells : K → Type 0) (rows : K → Rows) (is_told : K �
   Opens k place (Ok _) read k' = (m : K) × Chooses k (Some place) m × (faults k ≤ faults m) × Reads m read k'
   Opens k place (Err error) read k' = (read ≡ None) × Stays k k' × IsCaused {A = Unit {0}} (Err error) k k'
 
+  -- The items were committed, and that came to `done`: all of them were done, or none
   abbrev pub Commits : K → List Item → Result (Unit {0}) KeeperError → K → Type 0
   Commits k items done k' =
       (Tells k' → Tells k) × (Tells k' → OnOk done (AreSame (rows k') (after_items items (rows k))))
       × (Tells k' → OnErr done (AreSame (rows k') (rows k))) × IsCaused done k k'
 
+  -- The call was made on the store k, which is k' then, and came to `done`, with what was read, if anything was
   abbrev pub Calls : Call → K → Result (Unit {0}) KeeperError → Read → K → Type 0
   Calls (Open place) k done read k' = Opens k place done read k'
   Calls Stay k done read k' = (read ≡ None) × OnOk done (Chooses k None k') × Stays k k' × IsCaused done k k'

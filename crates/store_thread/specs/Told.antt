@@ -23,6 +23,7 @@ kept false Unread = Unread
 kept false (Told rows) = Untold
 kept false Untold = Untold
 
+-- What an answer brings of the rows, if it brings them: the rows, or why they weren't read
 abbrev pub Read : Type 0
 Read = Option (Result (Vec Row Global) KeeperError)
 
@@ -48,9 +49,11 @@ after_call Load done read told known = kept told known
 after_call (Commit batch) (Ok _) read told known = kept told (with_batch batch known)
 after_call (Commit batch) (Err error) read told known = kept told known
 
+-- What is known after the exchange
 abbrev pub after : Known → Exchange → Known
 after known x = after_call x.call x.done x.rows x.told known
 
+-- What is known after these exchanges, one after the other
 abbrev pub known_from : Known → List Exchange → Known
 known_from known [] = known
 known_from known (x ∷ xs) = known_from (after known x) xs
@@ -75,12 +78,15 @@ told_while None Unread = None
 told_while None Untold = None
 told_while (Some call) known = None
 
+-- The rows that are told by all that was said, if any are
 abbrev pub told_in : Talk → Option Rows
 told_in talk = told_while talk.asked (known_of talk.seen)
 
+-- The rows, or none where none are told
 abbrev pub rows_or_none : Option Rows → Rows
 rows_or_none None = no_rows
 rows_or_none (Some rows) = rows
 
+-- The rows that are told by all that was said, or none
 abbrev pub rows_in : Talk → Rows
 rows_in talk = rows_or_none (told_in talk)
