@@ -23,7 +23,7 @@ pub record IsSame (x y : View) : Type 0 where
   pub base : y.pass.base ≡ x.pass.base
   pub alone : y.pass.alone ≡ x.pass.alone
 
--- one connection from the view x on, which had this request and nothing else to read, and gave that
+-- One connection was made from the view x on, which had this request and nothing else to read; it gave that, and y is what is known then
 pub record Connects (start : Start) (x : View) (request : List ℕ) (given : Result (List ℕ) LinkError) (y : View) : Type 0 where
   pub left : Option (List ℕ)
   pub said : List ℕ
@@ -37,6 +37,7 @@ Gives start x request (Ok reply) y = Connects start x request (Ok reply) y
 Gives start x request (Err Failed) y = ⊥
 Gives start x request (Err Memory) y = (y ≡ x) ⊎ Connects start x request (Err Memory) y
 
+-- One ask of a direct link, from the view x on, gave that and left y
 pub record Direct (x : View) (request : List ℕ) (given : Result (List ℕ) LinkError) (y : View) : Type 0 where
   pub same : IsSame x y
   pub gives : (start : Start) → x.pass.base ≡ Some start → Gives start x request given y
