@@ -31,6 +31,7 @@ use Rattle.hub_machine.specs.declared.refusal.Refusal.TheVariants.{AllLeased, Ex
 
 -- ---- the rows
 
+-- The row of a server once it is started at the moment `now`, made of the one that is kept, if one is
 abbrev pub started : (now : ℕ) → ServerKey → Option ServerRow → ServerRow
 started now server None = record { key = server; created = now; last_activity = None; started = Some now }
 started now server (Some row) = record row { started = Some now; last_activity = None }
@@ -57,6 +58,8 @@ server_token t now secret server = record {
 abbrev pub callback_of : ServerKey → List ℕ
 callback_of server = server_url server ++ codes "oauth_callback"
 
+-- The rows of a start at the moment `now` on this target: the server's token of this secret, its row, its lease, its client, and the next
+-- numbers
 abbrev pub begin_rows : State → (now : ℕ) → (secret : List ℕ) → ServerKey → (target : List ℕ) → List RowChange
 begin_rows t now secret server target =
     Put (Row.Token (server_token t now secret server))
@@ -73,6 +76,7 @@ begin_rows t now secret server target =
 abbrev pub named_among : List ServerKey → ℕ
 named_among keys = count_by (λ key. not (is_default key.server)) keys
 
+-- How many servers with a name the user has
 abbrev pub named_servers : State → List ℕ → ℕ
 named_servers t user = named_among (servers_of t user)
 
@@ -85,12 +89,16 @@ is_past_limit t server =
 abbrev pub is_without_token : State → Bool
 is_without_token t = nat_le t.limits.tokens (len t.tokens) || nat_le (2 ^ 64 - 1) (next_of t (codes "token"))
 
+-- How many clients there may be
 abbrev pub clients_limit : ℕ
 clients_limit = 2000
 
+-- There is no room for the client of the server, where it isn't kept
 abbrev pub is_without_client : State → ServerKey → Bool
 is_without_client t server = not (contains_key t.clients (client_of server)) && nat_le clients_limit (len t.clients)
 
+-- What refuses the start of a server whose token has this secret, in this order: the limit of servers, the token's hash, the room for the
+-- token, the room for the client
 abbrev pub start_rules : State → (secret : List ℕ) → ServerKey → List (Option Refusal)
 start_rules t secret server =
     if_so (is_past_limit t server) (Rule (codes "server limit"))
@@ -108,6 +116,7 @@ on_target s now secret server (Some target) =
     works (Of.Begin (next_generation s.tables) server (begin_rows s.tables now secret server target))
     (record { generation = next_generation s.tables; server = server; target = target; todo = Start; secret = Some secret })
 
+-- The answer to a start that the life of the server lets begin
 abbrev pub may_start : Hub → (now : ℕ) → (secret : List ℕ) → ServerKey → Answer
 may_start s now secret server = rules (start_rules s.tables secret server) (on_target s now secret server (free_target s.pool s.lives))
 

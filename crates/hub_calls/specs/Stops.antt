@@ -34,6 +34,7 @@ on_lease_of server g lease = on_stop server g lease (life_after lease.life g Ask
 abbrev pub at_rest : Hub → ServerKey → (remove : Bool) → Answer
 at_rest s server remove = if remove then by_rules s (servers.delete_server s.tables server) done else gives (done s)
 
+-- The answer to a stop, or to a deletion where `remove` says so, by the lease of the server, if it has one
 abbrev pub on_lease : Hub → ServerKey → (remove : Bool) → Option (ℕ × Leased) → Answer
 on_lease s server remove None = at_rest s server remove
 on_lease s server remove (Some held) = on_lease_of server held.0 held.1

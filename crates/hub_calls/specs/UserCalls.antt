@@ -32,13 +32,16 @@ get_info s = gives (good 200 (pairs (
 
 -- ---- GET /user: the token's owner
 
+-- The identity of a token whose owner is a user; nothing is shown where the user isn't kept
 abbrev pub identity_of_user : Rights → Hub → Token → Option ServerKey → Option User → Json
 identity_of_user may s k server None = nothing
 identity_of_user may s k server (Some u) = user_identity may (facts_of s u) k.scopes server
 
+-- The identity of a token whose owner is a service
 abbrev pub identity_of_service : Rights → Hub → Token → Option ServerKey → List ℕ → Json
 identity_of_service may s k server v = service_identity may v (roles_naming_service s.tables v) k.scopes server
 
+-- The identity of the token k, by its owner; `server` is the one that the call asks about, if any
 abbrev pub identity : Rights → Hub → Token → Option ServerKey → Owner → Json
 identity may s k server (Own.User u) = identity_of_user may s k server (get s.tables.users u)
 identity may s k server (Own.Service v) = identity_of_service may s k server v
