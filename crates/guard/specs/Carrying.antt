@@ -50,7 +50,7 @@ pub record CarryJudged {R W : Type 0} (key : ServerKey) (target : List ℕ) (sid
   pub follows : CarryFollows verdict sides (going (head_of head) framing) target (record old { left = left; kept = kept; reads = reads })
       new result
 
--- How one request at a guard is carried, which stands before the server of this key at this target: no head came, one whose body can't be
+-- How one request is carried at the guard of the server with this key, which is at this target: no head came, one whose body can't be
 -- served did, or its token decided. asks are what the hub was asked, faults the link's count of faults, and old all else that the call
 -- touches; with a prime, and new: after
 abbrev pub GuardCarries : {R W : Type 0} → ServerKey → List ℕ → (R → W → Sides) → List Exchange → ℕ → ℕ → Place → Place

@@ -105,9 +105,9 @@ pub record Judged (key : ServerKey) (target : List ℕ) (asks : List Exchange) (
       target
       (record old { left = left; kept = kept; reads = reads }) new result
 
--- How one request at a guard ends, which stands before the server of this key at this target: no head came, one whose body can't be served
--- did, or its token decided. asks are what the hub was asked, faults the link's count of faults, and old all else that the call touches;
--- with a prime, and new: after
+-- How one request ends at the guard of the server with this key, which is at this target: no head came, one whose body can't be served did,
+-- or its token decided. asks are what the hub was asked, faults the link's count of faults, and old all else that the call touches; with a
+-- prime, and new: after
 abbrev pub GuardEnds : ServerKey → List ℕ → List Exchange → ℕ → ℕ → Place → Place → Result Forwarded SessionFault → Type 0
 GuardEnds key target asks faults faults' old new result =
     Unread asks old new result ⊎ (Unframed asks old new result ⊎ Judged key target asks faults faults' old new result)

@@ -158,13 +158,13 @@ pub data Answer : Type 0 where
   sends : List ℕ → List ℕ → Answer
   gives : List ℕ → List ℕ → Answer
 
--- The answer that sends a browser to sign in, by a draw, or the refusal where none came. The place where it goes on is what it asked for,
--- if that is allowed, in hex
+-- The answer that sends a browser to sign in, by a draw, or the refusal where none came. It tells in hex where the browser goes on then:
+-- what it asked for, where that is allowed, and else the base of the server's paths
 abbrev pub started : Door → Head → Option (List ℕ) → Answer
 started door head None = refuses Random
 started door head (Some draw) = sends (encode_lower draw) (encode_lower (next_of (base_of door.key) head.target))
 
--- The answer to a step, with the draw where one is taken
+-- The answer to a step; `draw` is what was drawn, if a draw was taken and came
 abbrev pub answered : Door → Head → Step → Option (List ℕ) → Answer
 answered door head Pass draw = passes
 answered door head (Deny denial) draw = refuses denial

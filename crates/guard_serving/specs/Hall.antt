@@ -8,7 +8,8 @@ pub record Hall : Type 0 where
   pub accepts : ℕ
   pub writes : ℕ
 
--- What a listener and an output tell: the first four arguments say of each kind what it tells, the last two are the listener and the output
+-- What a listener and an output tell. The first four arguments say of each kind how it tells it: the connections given and the faults, what
+-- stands on it and the faults; the last two are the listener and the output
 abbrev pub hall : {L O : Type 0} → (L → Option ℕ) → (L → ℕ) → (O → Option (List ℕ)) → (O → ℕ) → L → O → Hall
 hall given accepts held writes doors output =
     record { given = given doors; held = held output; accepts = accepts doors; writes = writes output }
