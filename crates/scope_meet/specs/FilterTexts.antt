@@ -26,9 +26,11 @@ text_cmp f g = name_cmp (filter_text (written f)) (filter_text (written g))
 
 -- ---- the same, by parts
 
+-- The text of a server's key
 abbrev pub key_text : ServerKey → List ℕ
 key_text k = k.user ++ codes "/" ++ k.server
 
+-- What stands before the value in a filter's text
 abbrev pub kind_text : Filter → List ℕ
 kind_text Fi.All = []
 kind_text (Fi.User u) = codes "!user="
@@ -37,6 +39,7 @@ kind_text (Fi.Server k) = codes "!server="
 kind_text (Fi.Service v) = codes "!service="
 kind_text (Fi.OwnerOf u) = []
 
+-- The order of two filters of one kind by their values; of two kinds it says nothing
 abbrev pub value_cmp : Filter → Filter → Ordering
 value_cmp (Fi.User u) (Fi.User w) = name_cmp u w
 value_cmp (Fi.Group u) (Fi.Group w) = name_cmp u w

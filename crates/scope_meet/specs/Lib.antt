@@ -4,3 +4,4 @@ pub mod FilterNames
 pub mod FilterTexts
 pub mod Meets
 pub mod Named
+pub mod NamesAdmitted

@@ -12,7 +12,7 @@ use Rattle.scope_filters.specs.Admits.{reads_names, same_server, any_admits}
 use Rattle.scope_filters.specs.Contexts.{Context, same, is_member}
 use Rattle.scope_filters.specs.Grants.{Rights, grant_admits}
 
--- all that the first filter admits, the second does
+-- The second filter admits all that the first does, for the action a, where m has the members of the groups
 abbrev pub within : Action → Context → Filter → Filter → Bool
 within a m f Fi.All = true
 within a m (Fi.User u) (Fi.User w) = same u w
@@ -30,28 +30,30 @@ within a m _ _ = false
 
 -- ---- the groups among filters
 
+-- The filter is one of a group
 abbrev pub is_group : Filter → Bool
 is_group (Fi.Group g) = true
 is_group _ = false
 
+-- The group that the filter names, if it is one of a group
 abbrev pub group_names : Filter → List (List ℕ)
 group_names (Fi.Group g) = g ∷ []
 group_names _ = []
 
 -- ---- what groups have in common
 
--- a name is among names
+-- The name n is among the names
 abbrev pub is_among : List (List ℕ) → List ℕ → Bool
 is_among names n = list_any (λ k. is_eq (name_cmp k n)) names
 
--- filters admit exactly what a group of the one list and a group of the other do, under any action
+-- The filters `met` admit exactly what a group among the filters gs and a group among hs both do, under any action
 abbrev pub AreGroupMeets : Context → List Filter → List Filter → List Filter → Type 0
 AreGroupMeets m gs hs met = (a : Action) (x : Object) → any_admits a m met x
     ≡ (any_admits a m (map Fi.Group (flat_map group_names gs)) x && any_admits a m (map Fi.Group (flat_map group_names hs)) x)
 
 -- ---- what grants have in common
 
--- the grant admits what it did, and under an action what both the filters and a further grant do
+-- The grant `new` admits what `old` did, and under the action b what both the filters fs and the grant h do
 abbrev pub IsMetUnder : Context → Action → List Filter → Rights → Rights → Rights → Type 0
 IsMetUnder m b fs h old new = (a : Action) (x : Object)
     → grant_admits m new a x ≡ (grant_admits m old a x || (same_action a b && (any_admits b m fs x && grant_admits m h b x)))

@@ -10,9 +10,11 @@ use Rattle.scope_filters.specs.declared.filter.Filter.TheVariants as Fi
 use Rattle.scope_filters.specs.Contexts.{Context}
 use Rattle.scope_filters.specs.Grants.{Rights, grant_admits}
 
+-- The key is of a user and a server with names
 abbrev pub IsKey : ServerKey → Type 0
 IsKey k = IsName k.user × IsServerName k.server
 
+-- The object is one that there may be: the hub, or one whose name is a name
 abbrev pub IsObject : Object → Type 0
 IsObject Ob.Hub = Unit {0}
 IsObject (Ob.User u) = IsName u
@@ -20,6 +22,7 @@ IsObject (Ob.Group g) = IsName g
 IsObject (Ob.Server k) = IsKey k
 IsObject (Ob.Service v) = IsName v
 
+-- The names in the filter are names
 abbrev pub IsFilter : Filter → Type 0
 IsFilter Fi.All = Unit {0}
 IsFilter (Fi.User u) = IsName u
@@ -28,6 +31,6 @@ IsFilter (Fi.Server k) = IsKey k
 IsFilter (Fi.Service v) = IsName v
 IsFilter (Fi.OwnerOf u) = IsName u
 
--- a grant admits an action on some object
+-- The grant g admits the action a on some object that there may be
 abbrev pub AdmitsSomething : Context → Rights → Action → Type 0
 AdmitsSomething m g a = (x : Object) × IsObject x × IsTrue (grant_admits m g a x)

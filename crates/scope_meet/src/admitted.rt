@@ -12,6 +12,7 @@ ghost use Rattle.scope_filters.specs.Grants.{grant_admits};
 ghost use Rattle.scope_names.specs.declared.action.Action.{Action};
 ghost use Rattle.scope_meet.specs.Admitted.{is_admitted};
 ghost use Rattle.scope_meet.specs.FilterNames as spec;
+ghost use Rattle.scope_meet.specs.NamesAdmitted.{users_are_named, groups_are_named, services_are_named};
 
 use crate::within::reads_names;
 use hub_kit::key::Key;
@@ -56,7 +57,7 @@ impl Named for UserName {
 
     ghost named_by = { spec.users_named };
 
-    ghost named = { spec.users_are_named };
+    ghost named = { users_are_named };
 
     fn push_named<M: Members>(
         names: &mut Vec<UserName>,
@@ -79,7 +80,7 @@ impl Named for GroupName {
 
     ghost named_by = { spec.groups_named };
 
-    ghost named = { spec.groups_are_named };
+    ghost named = { groups_are_named };
 
     fn push_named<M: Members>(
         names: &mut Vec<GroupName>,
@@ -99,7 +100,7 @@ impl Named for ServiceName {
 
     ghost named_by = { spec.services_named };
 
-    ghost named = { spec.services_are_named };
+    ghost named = { services_are_named };
 
     fn push_named<M: Members>(
         names: &mut Vec<ServiceName>,
