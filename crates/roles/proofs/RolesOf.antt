@@ -14,7 +14,7 @@ use Rattle.hub_rows.specs.declared.records.Group.{Group}
 use Rattle.hub_rows.specs.declared.records.Role.{Role}
 use Rattle.hub_tables.specs.Lookups.{roles_naming_user, roles_naming_group, groups_of}
 use Rattle.hub_tables.specs.State.{State}
-use Rattle.roles.specs.Naming.{roles_naming, scopes_at}
+use Rattle.roles.specs.Naming.{roles_naming, role_scopes}
 use Rattle.roles.specs.Rights.{holds_role, roles_held}
 use Rattle.keyed_rows.proofs.InOrder.{found_among, found_give, found_in_order}
 use Rattle.roles.proofs.AmongKeys.{among_both, none_of}
@@ -74,5 +74,5 @@ module _ (t : State) (own : OwnKeys (λ (row : Role). row.name) t.roles) where
       found_in_order nat_list_cmp_total names_exact (λ (row : Role). row.name) (holds_role t w) t.roles own (roles_naming t w) (among_held own_groups w)
 
   -- the scopes at these names are those of the roles
-  pub held_scopes : (w : Owner) → flat_map (λ name. scopes_at (get t.roles name)) (map (λ (role : Role). role.name) (roles_held t w)) ≡ flat_map (λ (role : Role). role.scopes) (roles_held t w)
-  held_scopes w = found_give nat_list_cmp_total names_exact (λ (row : Role). row.name) (holds_role t w) t.roles own scopes_at
+  pub held_scopes : (w : Owner) → flat_map (λ name. role_scopes (get t.roles name)) (map (λ (role : Role). role.name) (roles_held t w)) ≡ flat_map (λ (role : Role). role.scopes) (roles_held t w)
+  held_scopes w = found_give nat_list_cmp_total names_exact (λ (row : Role). row.name) (holds_role t w) t.roles own role_scopes

@@ -19,7 +19,7 @@ use Rattle.hub_rows.specs.declared.records.Group.{Group}
 use Rattle.hub_rows.specs.declared.records.Share.{Share}
 use Rattle.hub_tables.specs.Lookups.{same_recipient, is_given_by, is_share_with, shares_with, groups_of}
 use Rattle.hub_tables.specs.State.{State}
-use Rattle.roles.specs.Received.{scopes_at}
+use Rattle.roles.specs.Received.{share_scopes}
 use Rattle.roles.specs.Rights.{received, shares_received}
 use Rattle.keyed_rows.proofs.InOrder.{found_among, found_give, found_in_order}
 use Rattle.roles.proofs.AmongKeys.{among_filter, among_both, none_of}
@@ -70,11 +70,11 @@ module _ (t : State) (user : List ℕ) (own : OwnKeys (λ (row : Share). row.key
       ∙ of_row q (get t.shares q) refl
 
   -- the scopes at the keys in order are those of the shares that the user received
-  pub received_scopes : flat_map (λ key. scopes_at (get t.shares key)) (in_order share_cmp all_keys) ≡ flat_map (λ (share : Share). share.scopes) (shares_received t (Own.User user))
+  pub received_scopes : flat_map (λ key. share_scopes (get t.shares key)) (in_order share_cmp all_keys) ≡ flat_map (λ (share : Share). share.scopes) (shares_received t (Own.User user))
   received_scopes =
-      ap (flat_map (λ key. scopes_at (get t.shares key)))
+      ap (flat_map (λ key. share_scopes (get t.shares key)))
       (found_in_order share_key.total-law share_exact (λ (row : Share). row.key) (λ (share : Share). received t (Own.User user) share.key.to) t.shares own all_keys among_all)
-      ∙ found_give share_key.total-law share_exact (λ (row : Share). row.key) (λ (share : Share). received t (Own.User user) share.key.to) t.shares own scopes_at
+      ∙ found_give share_key.total-law share_exact (λ (row : Share). row.key) (λ (share : Share). received t (Own.User user) share.key.to) t.shares own share_scopes
 
 -- ---- a service received nothing
 

@@ -14,6 +14,6 @@ roles_naming t (Own.User u) = roles_naming_user t u ++ flat_map (roles_naming_gr
 roles_naming t (Own.Service v) = roles_naming_service t v
 
 -- The scopes of a role, or none where it isn't kept
-abbrev pub scopes_at : Option Role → List RawScope
-scopes_at None = []
-scopes_at (Some role) = role.scopes
+abbrev pub role_scopes : Option Role → List RawScope
+role_scopes None = []
+role_scopes (Some role) = role.scopes

@@ -4,6 +4,6 @@ use Rattle.scope_filters.specs.declared.scope.RawScope.{RawScope}
 use Rattle.hub_rows.specs.declared.records.Share.{Share}
 
 -- The scopes of a share, or none where it isn't kept
-abbrev pub scopes_at : Option Share → List RawScope
-scopes_at None = []
-scopes_at (Some share) = share.scopes
+abbrev pub share_scopes : Option Share → List RawScope
+share_scopes None = []
+share_scopes (Some share) = share.scopes

@@ -4,7 +4,7 @@ ghost use Rattle.std.specs.FinMap as finite;
 ghost use Rattle.std.specs.List.{flat_map};
 ghost use Rattle.scope_names.specs.Actions.{listed};
 ghost use Rattle.hub_tables.specs.Lookups.{is_admin};
-ghost use Rattle.roles.specs.Naming.{scopes_at};
+ghost use Rattle.roles.specs.Naming.{role_scopes};
 ghost use Rattle.roles.specs.Rights.{roles_held, shares_received};
 ghost use Rattle.roles.specs.Rights as spec;
 
@@ -105,7 +105,7 @@ fn push_roles(
 
 /// Appends the scopes of the roles of these names.
 fn push_named(scopes: &mut Vec<RawScope>, t: &Tables, names: &[RoleName]) -> Result<(), AllocError>
-    ensures { OnOk result (scopes.new.items ≡ scopes.old.items ++ flat_map (λ name. scopes_at (finite.get t.now.roles name)) names.now) }
+    ensures { OnOk result (scopes.new.items ≡ scopes.old.items ++ flat_map (λ name. role_scopes (finite.get t.now.roles name)) names.now) }
 {
     for name in names {
         push_role(scopes, t, name)?;
@@ -114,7 +114,7 @@ fn push_named(scopes: &mut Vec<RawScope>, t: &Tables, names: &[RoleName]) -> Res
 }
 
 fn push_role(scopes: &mut Vec<RawScope>, t: &Tables, name: &RoleName) -> Result<(), AllocError>
-    ensures { OnOk result (scopes.new.items ≡ scopes.old.items ++ scopes_at (finite.get t.now.roles name.now)) }
+    ensures { OnOk result (scopes.new.items ≡ scopes.old.items ++ role_scopes (finite.get t.now.roles name.now)) }
 {
     match t.role(name) {
         Some(role) => scopes.extend_from_slice(role.scopes.as_slice()),

@@ -5,7 +5,7 @@ ghost use Rattle.std.specs.FinMap as finite;
 ghost use Rattle.hub_tables.specs.Lookups.{same_recipient, shares_with, groups_of};
 ghost use Rattle.scope_filters.specs.declared.holder.Owner.TheVariants as Own;
 ghost use Rattle.roles.specs.Rights.{shares_received};
-ghost use Rattle.roles.specs.Received.{scopes_at};
+ghost use Rattle.roles.specs.Received.{share_scopes};
 
 use hub_kit::names::{GroupName, UserName};
 use hub_rows::keys::{Recipient, ShareKey};
@@ -67,7 +67,7 @@ fn keys_to_user(alloc: Global, t: &Tables, user: &UserName) -> Result<Vec<ShareK
 
 /// Appends the scopes of the shares of these keys.
 fn push_scopes(scopes: &mut Vec<RawScope>, t: &Tables, keys: &[ShareKey]) -> Result<(), AllocError>
-    ensures { OnOk result (scopes.new.items ≡ scopes.old.items ++ flat_map (λ key. scopes_at (finite.get t.now.shares key)) keys.now) }
+    ensures { OnOk result (scopes.new.items ≡ scopes.old.items ++ flat_map (λ key. share_scopes (finite.get t.now.shares key)) keys.now) }
 {
     for key in keys {
         push_share(scopes, t, key)?;
@@ -76,7 +76,7 @@ fn push_scopes(scopes: &mut Vec<RawScope>, t: &Tables, keys: &[ShareKey]) -> Res
 }
 
 fn push_share(scopes: &mut Vec<RawScope>, t: &Tables, key: &ShareKey) -> Result<(), AllocError>
-    ensures { OnOk result (scopes.new.items ≡ scopes.old.items ++ scopes_at (finite.get t.now.shares key.now)) }
+    ensures { OnOk result (scopes.new.items ≡ scopes.old.items ++ share_scopes (finite.get t.now.shares key.now)) }
 {
     match t.share(&key.server, &key.to) {
         Some(share) => scopes.extend_from_slice(share.scopes.as_slice()),
