@@ -15,7 +15,7 @@ use Rattle.guard.specs.Access.{access_request, IsAnswered, IsUnanswered}
 use Rattle.guard.specs.Guards.{Unsent}
 use Rattle.guard.specs.declared.access.Access.{Access}
 use Rattle.guard.specs.declared.denials.Denial.{Denial}
-use Rattle.guard_login.specs.Answers.{IsUngiven, Steps, Writes, Answers}
+use Rattle.guard_login.specs.Answers.{IsUngiven, Steps, Writes, WritesAnswer}
 use Rattle.guard_login.specs.Logins.{Ends, Finishes, IsTreated}
 use Rattle.guard_login.specs.Signed.{Given, said, failed, traded, IsTradedBy, sent_back, by_called, asks_trade, called, asks_access, token_given, by_access, by_token, step_of, is_callback, asked, stepped, started}
 use Rattle.guard_login.specs.Texts.{trade_text}
@@ -140,7 +140,7 @@ writes_as text other answer held held' writes writes' result same wrote =
 
 -- a browser was sent to sign in, or there was no draw
 pub started_ends : (door : Door) (head : Head) (f : Framing) (draw : Option (List ℕ)) (old new : Place) (result : Result Signed SessionFault)
-    → Unsent old new → Answers door (started door head draw) old.held new.held old.writes new.writes result
+    → Unsent old new → WritesAnswer door (started door head draw) old.held new.held old.writes new.writes result
     → Ends door head f (started door head draw) old new result
 started_ends door head f None old new result unsent answers = (unsent, answers)
 started_ends door head f (Some draw) old new result unsent answers = (unsent, answers)

@@ -97,10 +97,10 @@ Writes text answer held held' writes writes' (Err (WriteFault n)) =
     (part more : List ℕ) × (text ≡ part ++ more) × Appends held part held' × Rises writes writes' × (n ≡ 0)
 
 -- An answer of a guard of this door that is no request passed on was written, or there was no memory for its text
-abbrev pub Answers : Door → Answer → Option (List ℕ) → Option (List ℕ) → ℕ → ℕ → Result Signed SessionFault → Type 0
-Answers door passes held held' writes writes' result = ⊥
-Answers door (refuses denial) held held' writes writes' result = Denies denial held held' writes writes' result
-Answers door (sends state next) held held' writes writes' result =
+abbrev pub WritesAnswer : Door → Answer → Option (List ℕ) → Option (List ℕ) → ℕ → ℕ → Result Signed SessionFault → Type 0
+WritesAnswer door passes held held' writes writes' result = ⊥
+WritesAnswer door (refuses denial) held held' writes writes' result = Denies denial held held' writes writes' result
+WritesAnswer door (sends state next) held held' writes writes' result =
     Writes (sends_text door state next) signed.Sent held held' writes writes' result ⊎ Wants held held' writes writes' result
-Answers door (gives token next) held held' writes writes' result =
+WritesAnswer door (gives token next) held held' writes writes' result =
     Writes (gives_text door token next) signed.GaveCookie held held' writes writes' result ⊎ Wants held held' writes writes' result

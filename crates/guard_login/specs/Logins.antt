@@ -13,7 +13,7 @@ use Rattle.proxy_wire.specs.Heads.{request_text}
 use Rattle.proxy_core.specs.declared.refusals.Forwarded.{Forwarded}
 use Rattle.proxy_core.specs.Passes.{Place, Going, PassOn}
 use Rattle.guard.specs.Guards.{Unsent, Unread, Unframed}
-use Rattle.guard_login.specs.Answers.{IsGiven, IsUngiven, draws, Drew, signing, carrying, Wants, Answers}
+use Rattle.guard_login.specs.Answers.{IsGiven, IsUngiven, draws, Drew, signing, carrying, Wants, WritesAnswer}
 use Rattle.guard_login.specs.Signed.{Given, Answer, passes, refuses, sends, gives, asked, stepped, answered}
 use Rattle.guard_login.specs.declared.answers.Signed.{Signed}
 use Rattle.guard_login.specs.declared.door.Door.{Door}
@@ -29,11 +29,11 @@ abbrev pub Ends : Door → Head → Framing → Answer → Place → Place → R
 Ends door head framing passes old new result =
     (f : Result Forwarded SessionFault) × PassOn (going_of head framing) door.target old new f × (result ≡ carrying f)
 Ends door head framing (refuses denial) old new result =
-    Unsent old new × Answers door (refuses denial) old.held new.held old.writes new.writes result
+    Unsent old new × WritesAnswer door (refuses denial) old.held new.held old.writes new.writes result
 Ends door head framing (sends state next) old new result =
-    Unsent old new × Answers door (sends state next) old.held new.held old.writes new.writes result
+    Unsent old new × WritesAnswer door (sends state next) old.held new.held old.writes new.writes result
 Ends door head framing (gives token next) old new result =
-    Unsent old new × Answers door (gives token next) old.held new.held old.writes new.writes result
+    Unsent old new × WritesAnswer door (gives token next) old.held new.held old.writes new.writes result
 
 -- What was done for this step, with a draw where it takes one. random is the source of draws, of which `left` and `faults` say what it
 -- tells; with a prime: after

@@ -1,7 +1,7 @@
 //! The answers of a guard that lets browsers sign in.
 ghost use Rattle.std.specs.Prelude.{◌≡◌, ◌≤◌, IfOk};
 ghost use Rattle.hex.specs.Hex.{encode_lower};
-ghost use Rattle.guard_login.specs.Answers.{as_signed, signing, carrying, Wants, Denies, Writes, Answers};
+ghost use Rattle.guard_login.specs.Answers.{as_signed, signing, carrying, Wants, Denies, Writes, WritesAnswer};
 ghost use Rattle.guard_login.specs.Nexts.{base_of, next_of};
 ghost use Rattle.guard_login.specs.Signed.{gives};
 ghost use Rattle.guard_login.specs.Texts.{sends_text};
@@ -102,7 +102,7 @@ pub fn give<O: Sink>(
     next: &Bytes,
     output: &mut O,
 ) -> Result<Signed, SessionFault>
-    ensures gives { Answers door.now (gives token.now next.now) (O.held output.old) (O.held output.new)
+    ensures gives { WritesAnswer door.now (gives token.now next.now) (O.held output.old) (O.held output.new)
         (O.faults output.old) (O.faults output.new) result }
     ensures counted { O.faults output.old ≤ O.faults output.new }
 {

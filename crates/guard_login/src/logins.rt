@@ -1,7 +1,7 @@
 //! One request at a guard that lets browsers sign in.
 ghost use Rattle.std.specs.Prelude.{◌≡◌, ◌≢◌, ◌≤◌, ◌++◌, ℕ, List, Option, [], true};
 ghost use Rattle.hub_link.specs.Links.{Exchange, Asks};
-ghost use Rattle.guard_login.specs.Answers.{Answers, Drew};
+ghost use Rattle.guard_login.specs.Answers.{WritesAnswer, Drew};
 ghost use Rattle.guard_login.specs.Logins.{Finishes, IsTreated, LoginEnds};
 ghost use Rattle.guard_login.specs.Signed.{started};
 
@@ -33,7 +33,7 @@ fn start<R: Random, O: Sink>(
     output: &mut O,
 ) -> Result<Signed, SessionFault>
     ensures starts { (draw : Option (List ℕ)) × Drew R.left R.faults random.old random.new true draw
-        × Answers door.now (started door.now head.now draw) (O.held output.old) (O.held output.new)
+        × WritesAnswer door.now (started door.now head.now draw) (O.held output.old) (O.held output.new)
         (O.faults output.old) (O.faults output.new) result }
     ensures draws { R.faults random.old ≤ R.faults random.new }
     ensures writes { O.faults output.old ≤ O.faults output.new }
