@@ -28,7 +28,7 @@ use Rattle.hub_api.specs.Calls.{call_read}
 use Rattle.hub_api.specs.Refusals.{api_refusal, no_draw}
 use Rattle.hub_api.specs.declared.refusal.ApiRefusal.{ApiRefusal}
 use Rattle.reply_texts.specs.ReplyText.{reply_text, no_memory}
-use Rattle.hub_run.specs.Turns.{Turn, visited, worked, declined, undrawn, refused, unsaid, unfinished, wanting, View, Visit, Errand, Visits, Drew, IsDrawn, IsGiven, IsSent, IsUndrawn, IsCounted, Drives, Moves, TurnAt, IsLeft, closes, turn_text, refusal_text}
+use Rattle.hub_run.specs.Turns.{Turn, visited, worked, declined, undrawn, refused, unsaid, unfinished, wanting, View, Visit, Errand, Visits, Drew, IsDrawn, IsGiven, IsSent, IsUndrawn, IsCounted, Drives, Moves, TurnAt, LeavesNoWork, closes, turn_text, refusal_text}
 use Rattle.hub_run.specs.Steps.{Asks, Says, SaysTale, Made, Refuses, StopsAt, TurnEnds}
 use Rattle.hub_run.specs.Routed.{lets}
 use Rattle.hub_run.specs.Works.{errand_of, path_for}
@@ -56,7 +56,7 @@ made_wanting start x y request text last said closed is moves text_is closed_is 
 
 -- no memory for the reply, or for the visit
 pub made_unsaid : (start : Start) (x y : View) (request : Request) (text : List ℕ) (asked : Asked) (v : Visit) (last : Bool) (said : List ℕ) (closed : Bool)
-    → IsRequestText request text → call_read request ≡ Ok asked → IsDrawn v asked → Visits x v y → IsLeft start request v → said ≡ no_memory → closed ≡ true
+    → IsRequestText request text → call_read request ≡ Ok asked → IsDrawn v asked → Visits x v y → LeavesNoWork start request v → said ≡ no_memory → closed ≡ true
     → Made start x y text last said closed
 made_unsaid start x y request text asked v last said closed is read drawn visits kept text_is closed_is =
     (unsaid text request v, (λ left rest. (is, record { asked = asked; read = read; drawn = drawn; left = kept }, refl)), visits, closed_is, text_is)

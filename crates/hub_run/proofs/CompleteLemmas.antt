@@ -22,7 +22,7 @@ use Rattle.hub_machine.specs.declared.call.Asked.{Asked}
 use Rattle.hub_machine.specs.declared.refusal.Refusal.TheVariants.{KeeperFault}
 use Rattle.hub_machine.specs.declared.work.Work as owed
 use Rattle.hub_run.specs.Complete.{IsOf, IsDue, IsDone, IsUndone, IsSetOut, IsServed, IsLetOn, IsWithoutWork, is_work}
-use Rattle.hub_run.specs.Turns.{Turn, View, Visit, Visits, Errand, visited, worked, declined, undrawn, refused, unsaid, unfinished, wanting, routed, unrouted, TurnAt, IsLet, IsRouted, IsDrawn, IsGiven, IsAnswered, IsSent, IsWorked, IsLeft, Moves, Turns}
+use Rattle.hub_run.specs.Turns.{Turn, View, Visit, Visits, Errand, visited, worked, declined, undrawn, refused, unsaid, unfinished, wanting, routed, unrouted, TurnAt, IsLet, IsRouted, IsDrawn, IsGiven, IsAnswered, IsSent, IsWorked, LeavesNoWork, Moves, Turns}
 use Rattle.hub_run.specs.Routed.{Asking, IsSaidOf, lets}
 use Rattle.hub_run.specs.declared.routed.Way.{Way}
 use Rattle.hub_run.proofs.CountLemmas.{between, never_risen}
@@ -146,7 +146,7 @@ its_answer states answers start request v r a h due = given_answer states answer
 
 -- what a visit whose reply wasn't said has left is no work
 pub its_loss : StateIsOne → AnswerIsOne → (start : Start) (request : Request) (v : Visit) (a : Answer)
-    → IsLeft start request v → IsDue start request v a → IsWithoutWork v a
+    → LeavesNoWork start request v → IsDue start request v a → IsWithoutWork v a
 its_loss states answers start request v a (inl same) due = inl same
 its_loss states answers start request v a (inr (r, h)) due =
     ⊎_elim (λ done. inr (r, done)) (λ undone. inl undone.entry) (its_answer states answers start request v r a h due)
@@ -223,7 +223,7 @@ its_reply one states answers start x y before after (refused e) left text more r
     its_turn one start left text more rest request (refused e) is at
 its_reply one states answers start x y before after (unsaid text' q v) left text more rest request turns same below is at =
     let mine : q ≡ request = its_turn one start left text more rest request (unsaid text' q v) is at in
-    (mine, λ a due. its_loss states answers start request v a (subst (λ (p : Request). IsLeft start p v) mine at.1.left) due)
+    (mine, λ a due. its_loss states answers start request v a (subst (λ (p : Request). LeavesNoWork start p v) mine at.1.left) due)
 its_reply one states answers start x y before after (unfinished text' q v e) left text more rest request turns same below is at =
     let mine : q ≡ request = its_turn one start left text more rest request (unfinished text' q v e) is at in
     (mine, λ a due. its_work states answers start request v e a (subst (λ (p : Request). IsSent start p v e) mine at.1) due)

@@ -28,7 +28,7 @@ use Rattle.hub_machine.specs.declared.refusal.Refusal.TheVariants.{NoValidToken,
 use Rattle.hub_machine.specs.declared.reply.Outcome.{Outcome}
 use Rattle.hub_machine.specs.declared.work.Work as owed
 use Rattle.hub_run.specs.Removed.{Knows, StandsIn, IsTokenRefusal, IsTurnedAway}
-use Rattle.hub_run.specs.Turns.{Turn, View, Visit, Visits, Errand, visited, worked, declined, undrawn, refused, unsaid, unfinished, wanting, routed, unrouted, TurnAt, IsLet, IsGiven, IsAnswered, IsSent, IsLeft, Moves}
+use Rattle.hub_run.specs.Turns.{Turn, View, Visit, Visits, Errand, visited, worked, declined, undrawn, refused, unsaid, unfinished, wanting, routed, unrouted, TurnAt, IsLet, IsGiven, IsAnswered, IsSent, LeavesNoWork, Moves}
 use Rattle.hub_run.specs.Routed.{Asking, lets}
 use Rattle.hub_run.specs.declared.routed.Way.{Way}
 use Rattle.hub_run.proofs.CompleteLemmas.{NextIsOne, its_turn}
@@ -160,7 +160,7 @@ module _ (one : NextIsOne) (start : Start) (x y : View) (left : Option (List ℕ
       (given start text gone later removed x v asked begins knows within token needed h.outcome
       (subst (λ (c : Asked). IsGiven start v c h.outcome) (its_call q h.asked mine h.read) h.given))
 
-  left_so : (q : Request) (v : Visit) → q ≡ request → IsLeft start q v → IsPrefix x.pass.seen v.before → IsPrefix v.before (gone ++ later) → v.after ≡ v.before
+  left_so : (q : Request) (v : Visit) → q ≡ request → LeavesNoWork start q v → IsPrefix x.pass.seen v.before → IsPrefix v.before (gone ++ later) → v.after ≡ v.before
   left_so q v mine (inl same) begins within = same
   left_so q v mine (inr (r, h)) begins within = (reply_away q v r mine h begins within).0
 

@@ -172,15 +172,15 @@ pub record IsRouted (start : Start) (q : Request) (v : Visit) (a : Asking) (r : 
   pub reply : IsSaidOf let_by.gave a r
 
 -- The entries that it left are those that it found, or it gave a reply, with nothing to be done or asked for it
-abbrev pub IsLeft : Start → Request → Visit → Type 0
-IsLeft start q v = (v.after ≡ v.before) ⊎ ((r : Reply) × IsAnswered start q v r)
+abbrev pub LeavesNoWork : Start → Request → Visit → Type 0
+LeavesNoWork start q v = (v.after ≡ v.before) ⊎ ((r : Reply) × IsAnswered start q v r)
 
 -- the visit was for the call of the request
 pub record IsUnsaid (start : Start) (q : Request) (v : Visit) : Type 0 where
   pub asked : Asked
   pub read : call_read q ≡ Ok asked
   pub drawn : IsDrawn v asked
-  pub left : IsLeft start q v
+  pub left : LeavesNoWork start q v
 
 -- the call of the request draws
 pub record Draws (q : Request) : Type 0 where
