@@ -7,7 +7,7 @@ use Rattle.hub_core.specs.Visits.{Standing}
 use Rattle.hub_main.specs.Ends.{End}
 use Rattle.hub_main.specs.Told.{Sides}
 use Rattle.hub_main.specs.Opened.{AreNames, IsOpened, Opens, Stays}
-use Rattle.hub_main.specs.Served.{EndsOver}
+use Rattle.hub_main.specs.Served.{SessionEndsOver}
 use Rattle.hub_main.specs.Sessions.{EndsChosen, EndsOpened}
 use Rattle.hub_main.proofs.Moved.{names_before, set_up_before}
 
@@ -35,6 +35,6 @@ module _ {K : Type 0} (Tells : K → Type 0) (rows : K → Rows) (faults : K →
   -- what follows over the book
   pub ends_over : (config : HubConfig) (now : ℕ) (s s' : Sides) (k k' : K) (b : Standing) (end : End)
       → Opens config now (rows k) (faults k) b → (Tells k' → IsTrue b.start.has_rows)
-      → EndsOver Tells rows faults b.start b.faults now s s' k' end → EndsChosen Tells rows faults config now s s' k k' end
+      → SessionEndsOver Tells rows faults b.start b.faults now s s' k' end → EndsChosen Tells rows faults config now s s' k k' end
   ends_over config now s s' k k' b end opened had over =
       inr (b.start, b.faults, opened_by_end config now k k' b opened had, over)

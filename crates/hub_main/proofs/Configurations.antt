@@ -22,7 +22,7 @@ use Rattle.hub_config.specs.declared.config.FileConfig.{FileConfig}
 use Rattle.hub_words.specs.declared.session.SessionWords.{SessionWords}
 use Rattle.hub_devices.specs.NamedFiles.{Reads}
 use Rattle.hub_main.specs.Told.{FilesTold}
-use Rattle.hub_main.specs.Configured.{AreNone, IsConfig, IsFile, IsFound, IsUnfound, IsUnsaid, most}
+use Rattle.hub_main.specs.Configured.{AreNone, IsConfig, IsFile, IsFound, IsUnfound, SaysNothing, most}
 use Rattle.hub_main.specs.declared.cause.Cause.{Cause}
 use Rattle.hub_main.specs.declared.cause.Cause.TheVariants.{Words, Memory, NoFile, NoConfig, UnknownName, NoStore, NotOpened}
 
@@ -158,7 +158,7 @@ config_scopes files words config is =
 -- ---- bytes that say nothing
 
 pub unfound : {A : Type 0} (files files' : FilesTold) (name bytes : List ℕ) (r : Result A Cause)
-    → Reads files.files name most bytes → IfErr r (IsUnsaid bytes) → IfErr r (IsUnfound files files' (Some name))
+    → Reads files.files name most bytes → IfErr r (SaysNothing bytes) → IfErr r (IsUnfound files files' (Some name))
 unfound files files' name bytes (Ok found) reads unsaid = tt
 unfound files files' name bytes (Err (NoConfig read)) reads unsaid = (
   subst (λ (b : List ℕ). Reads files.files name most b) (sym unsaid.0) reads,

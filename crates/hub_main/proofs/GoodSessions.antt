@@ -17,7 +17,7 @@ use Rattle.hub_main.specs.Told.{FilesTold, Sides}
 use Rattle.hub_main.specs.Ends.{End, cause_status, open_status, served_status, status_of}
 use Rattle.hub_main.specs.Configured.{IsConfig, IsUnfound}
 use Rattle.hub_main.specs.Opened.{IsNotOpened, IsUnchosen, IsUnknown, IsUnopened}
-use Rattle.hub_main.specs.Served.{EndsOver, IsFault, PassEnds}
+use Rattle.hub_main.specs.Served.{SessionEndsOver, IsFaultCounted, PassEnds}
 use Rattle.hub_main.specs.Sessions.{EndsChosen, EndsConfigured, EndsUnchosen, EndsUnconfigured, EndsUnopened, RunEnds, SessionEnds}
 use Rattle.hub_main.specs.Known.{are_known, unknown_name}
 use Rattle.hub_main.specs.Good.{Fits, IsGood, IsGoodStatus, NoneRose, Stands}
@@ -36,7 +36,7 @@ seven = inr (inr refl)
 -- ---- the connection
 
 served_good : (s s' : Sides) (end : Result Served SessionFault) → Stands s.input.faults s'.input.faults → Stands s.output.faults s'.output.faults
-    → IsFault s s' end → IsGoodStatus (served_status end)
+    → IsFaultCounted s s' end → IsGoodStatus (served_status end)
 served_good s s' (Ok (Ended n)) input output fault = inl refl
 served_good s s' (Ok (Closed n)) input output fault = inl refl
 served_good s s' (Ok (Cut n)) input output fault = inr (inl refl)
@@ -107,7 +107,7 @@ module _ {K : Type 0} (Tells : K → Type 0) (rows : K → Rows) (faults : K →
   unopened_good config now k k' NoStore told stands fits why = absurd why
 
   over_good : (start : Start) (counted now : ℕ) (s s' : Sides) (k' : K) (end : End) → Stands s.input.faults s'.input.faults → Stands s.output.faults s'.output.faults
-      → EndsOver Tells rows faults start counted now s s' k' end → IsGoodStatus (status_of end)
+      → SessionEndsOver Tells rows faults start counted now s s' k' end → IsGoodStatus (status_of end)
   over_good start counted now s s' k' end input output (inl wanting) = subst (λ (e : End). IsGoodStatus (status_of e)) (sym wanting.0) seven
   over_good start counted now s s' k' end input output (inr over) = pass_good start _ over.1.last s s' end input output over.1.ends
 

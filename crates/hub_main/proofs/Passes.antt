@@ -17,13 +17,13 @@ use Rattle.hub_run.proofs.CountLemmas.{ends_grow}
 use Rattle.hub_adopt.specs.Adopting.{TakesBack}
 use Rattle.hub_main.specs.Told.{Sides, IsQuiet}
 use Rattle.hub_main.specs.Ends.{End}
-use Rattle.hub_main.specs.Served.{EndsBy, EndsOver, IsFault, IsServed, PassEnds, kit_in, view_with}
+use Rattle.hub_main.specs.Served.{SessionEndsBy, SessionEndsOver, IsFaultCounted, IsServed, PassEnds, kit_in, view_with}
 use Rattle.hub_main.specs.declared.cause.Cause.TheVariants.{Memory}
 use Rattle.hub_main.proofs.Commands.{still}
 
 fault_of : (s s' : Sides) (end : Result Served SessionFault)
     → ((n : ℕ) → end ≡ Err (ReadFault n) → Rises s.input.faults s'.input.faults)
-    → ((n : ℕ) → end ≡ Err (WriteFault n) → Rises s.output.faults s'.output.faults) → IsFault s s' end
+    → ((n : ℕ) → end ≡ Err (WriteFault n) → Rises s.output.faults s'.output.faults) → IsFaultCounted s s' end
 fault_of s s' (Ok served) read write = tt
 fault_of s s' (Err (ReadFault n)) read write = read n refl
 fault_of s s' (Err (WriteFault n)) read write = write n refl
@@ -56,7 +56,7 @@ module _ {K : Type 0} (Tells : K → Type 0) (rows : K → Rows) (faults : K →
   pub ends_by : (pass : PassState Entry Start) (start : Start) (now : ℕ) (s s' : Sides) (k' : K) (end : End) (last : View) (book : Standing)
       → PassEnds start (view_with pass now s.kit) last s s' end → last.pass.base ≡ Some book.start → last.pass.base ≡ Some start
       → entries_of book ≡ last.pass.seen → Reached book.start (entries_of book) book.hub → (Tells k' → Keeps (rows k') book.hub.tables)
-      → faults k' ≡ last.pass.faults → EndsBy Tells rows faults pass start now s s' k' end
+      → faults k' ≡ last.pass.faults → SessionEndsBy Tells rows faults pass start now s s' k' end
   ends_by pass start now s s' k' end last book ends found given seen reached kept count = record {
     last = last;
     ends = ends;
@@ -67,20 +67,20 @@ module _ {K : Type 0} (Tells : K → Type 0) (rows : K → Rows) (faults : K →
   -- the first pass of a book without entries
   pub over_opened : (book : Standing) (now : ℕ) (s s' : Sides) (k' : K) (end : End) (table : TableId) (pass : PassState Entry Start)
       → pass ≡ opening table book.start (entries_of book) book.faults → entries_of book ≡ []
-      → ((start : Start) → pass.base ≡ Some start → EndsBy Tells rows faults pass start now s s' k' end)
-      → EndsOver Tells rows faults book.start book.faults now s s' k' end
+      → ((start : Start) → pass.base ≡ Some start → SessionEndsBy Tells rows faults pass start now s s' k' end)
+      → SessionEndsOver Tells rows faults book.start book.faults now s s' k' end
   over_opened book now s s' k' end table pass first none ends =
       let first' : pass ≡ opening table book.start [] book.faults = first ∙ ap (λ (h : List Entry). opening table book.start h book.faults) none in
       inr (
         table,
-        subst (λ (p : PassState Entry Start). EndsBy Tells rows faults p book.start now s s' k' end) first'
+        subst (λ (p : PassState Entry Start). SessionEndsBy Tells rows faults p book.start now s s' k' end) first'
             (ends book.start (ap (λ (p : PassState Entry Start). p.base) first')),
       )
 
   -- no memory for a pass
   pub untouched : (book back : Standing) (now : ℕ) (s : Sides) (k' : K) → back ≡ book → entries_of book ≡ []
       → Reached back.start (entries_of back) back.hub → (Tells k' → Keeps (rows k') back.hub.tables)
-      → EndsOver Tells rows faults book.start book.faults now s s k' (Err Memory)
+      → SessionEndsOver Tells rows faults book.start book.faults now s s k' (Err Memory)
   untouched book back now s k' same none reached kept = inl (
     refl,
     record {

@@ -52,14 +52,14 @@ AreNone bytes = (file : FileConfig) → config_in bytes ≡ Some file → ¬ (Is
 
 -- Why these bytes say nothing: they are no configuration, which the cause hands back as they were read, or memory was wanting. No other
 -- cause comes here
-abbrev pub IsUnsaid : List ℕ → Cause → Type 0
-IsUnsaid bytes (NoConfig read) = (read ≡ bytes) × AreNone bytes
-IsUnsaid bytes Memory = ⊤
-IsUnsaid bytes Words = ⊥
-IsUnsaid bytes NoFile = ⊥
-IsUnsaid bytes (UnknownName unknown) = ⊥
-IsUnsaid bytes NoStore = ⊥
-IsUnsaid bytes (NotOpened e) = ⊥
+abbrev pub SaysNothing : List ℕ → Cause → Type 0
+SaysNothing bytes (NoConfig read) = (read ≡ bytes) × AreNone bytes
+SaysNothing bytes Memory = ⊤
+SaysNothing bytes Words = ⊥
+SaysNothing bytes NoFile = ⊥
+SaysNothing bytes (UnknownName unknown) = ⊥
+SaysNothing bytes NoStore = ⊥
+SaysNothing bytes (NotOpened e) = ⊥
 
 -- What is said of the hub by the file of this name, or where no file is named
 abbrev pub IsFound : FilesTold → (name : Option (List ℕ)) → HubConfig → Type 0

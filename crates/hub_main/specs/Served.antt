@@ -30,10 +30,10 @@ kit_in y = record { draws = y.draws; spawner = y.spawner; routes = y.routes; fau
 
 -- Where the connection ended with a fault of the input or the output, the count of faults of that one rose; s is what is outside before the
 -- connection, and s' after it
-abbrev pub IsFault : Sides → Sides → Result Served SessionFault → Type 0
-IsFault s s' (Ok served) = ⊤
-IsFault s s' (Err (ReadFault n)) = Rises s.input.faults s'.input.faults
-IsFault s s' (Err (WriteFault n)) = Rises s.output.faults s'.output.faults
+abbrev pub IsFaultCounted : Sides → Sides → Result Served SessionFault → Type 0
+IsFaultCounted s s' (Ok served) = ⊤
+IsFaultCounted s s' (Err (ReadFault n)) = Rises s.input.faults s'.input.faults
+IsFaultCounted s s' (Err (WriteFault n)) = Rises s.output.faults s'.output.faults
 
 -- ---- one pass
 
@@ -44,7 +44,7 @@ pub record IsServed (start : Start) (x y : View) (s s' : Sides) (end : Result Se
   pub ready : View
   pub takes : TakesBack start x told ready
   pub connection : ConnectionEnds start ready s.input.bytes s.output.bytes y s'.input.bytes s'.output.bytes end
-  pub fault : IsFault s s' end
+  pub fault : IsFaultCounted s s' end
   pub kit : s'.kit ≡ kit_in y
 
 -- Memory was wanting before the first call and the first byte, so that what is outside stays as it was; the pass has seen nothing more
@@ -75,7 +75,7 @@ module _ {K : Type 0} (Tells : K → Type 0) (rows : K → Rows) (faults : K →
 
   -- The command ended so by this pass, with a clock that gives the moment `now` for ever; the store k' has the rows of the entries that the
   -- pass saw last, where it tells them, and the count of faults that the pass saw last
-  pub record EndsBy (pass : PassState Entry Start) (start : Start) (now : ℕ) (s s' : Sides) (k' : K) (end : End) : Type 0 where
+  pub record SessionEndsBy (pass : PassState Entry Start) (start : Start) (now : ℕ) (s s' : Sides) (k' : K) (end : End) : Type 0 where
     pub last : View
     pub ends : PassEnds start (view_with pass now s.kit) last s s' end
     pub kept : HasKept start last.pass.seen k'
@@ -89,6 +89,7 @@ module _ {K : Type 0} (Tells : K → Type 0) (rows : K → Rows) (faults : K →
 
   -- How the command ended over a book that was opened with `start`, whose history is empty and whose keeper had counted so many faults: by
   -- its first pass, or there was no memory for that pass. s is what is outside before, s' after it, and k' the store then
-  abbrev pub EndsOver : Start → (counted now : ℕ) → Sides → Sides → K → End → Type 0
-  EndsOver start counted now s s' k' end =
-      ((end ≡ Err Memory) × IsUntouched start s s' k') ⊎ ((table : TableId) × EndsBy (opening table start [] counted) start now s s' k' end)
+  abbrev pub SessionEndsOver : Start → (counted now : ℕ) → Sides → Sides → K → End → Type 0
+  SessionEndsOver start counted now s s' k' end =
+      ((end ≡ Err Memory) × IsUntouched start s s' k')
+      ⊎ ((table : TableId) × SessionEndsBy (opening table start [] counted) start now s s' k' end)

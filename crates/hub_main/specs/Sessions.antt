@@ -8,7 +8,7 @@ use Rattle.hub_main.specs.Told.{FilesTold, Sides}
 use Rattle.hub_main.specs.Ends.{End, status_of}
 use Rattle.hub_main.specs.Configured.{IsConfig, IsUnfound}
 use Rattle.hub_main.specs.Opened.{IsLeft, IsUnchosen, IsChosen, IsUnopened, IsOpened}
-use Rattle.hub_main.specs.Served.{EndsOver}
+use Rattle.hub_main.specs.Served.{SessionEndsOver}
 use Rattle.hub_main.specs.declared.cause.Cause.TheVariants.{Words, Memory, NoFile, NoConfig, UnknownName, NoStore, NotOpened}
 
 -- of stores of a kind that tells of each whether its rows are told, its rows and its count of faults: the store k, which is k' at the end
@@ -33,7 +33,7 @@ module _ {K : Type 0} (Tells : K → Type 0) (rows : K → Rows) (faults : K →
   abbrev pub EndsOpened : HubConfig → (now : ℕ) → Sides → Sides → K → K → End → Type 0
   EndsOpened config now s s' k k' end =
       (start : Start) × (counted : ℕ) × IsOpened config now (Tells k') (rows k) (faults k) start counted
-      × EndsOver Tells rows faults start counted now s s' k' end
+      × SessionEndsOver Tells rows faults start counted now s s' k' end
 
   -- What follows the choice of the store, which left it as k: no book is opened over it, or one is
   abbrev pub EndsChosen : HubConfig → (now : ℕ) → Sides → Sides → K → K → End → Type 0

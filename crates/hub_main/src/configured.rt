@@ -45,7 +45,7 @@ fn bare(alloc: Global) -> HubConfig
 /// The configuration that these bytes are.
 fn file_in(alloc: Global, bytes: Bytes) -> Result<FileConfig, Cause>
     ensures ok { IfOk result (spec.IsSaid bytes) }
-    ensures err { IfErr result (spec.IsUnsaid bytes) }
+    ensures err { IfErr result (spec.SaysNothing bytes) }
 {
     match read_config(alloc, bytes.as_slice()) {
         Ok(file) => {

@@ -31,7 +31,7 @@ pub(crate) fn serve_book<W: World, T: Trail<Entry = Change>, R: Wait>(
     outside: &mut Outside<W>,
 ) -> (End, W::Store)
     requires new { entries_of book ≡ [] }
-    ensures ends { spec.EndsOver W.Store.Tells W.Store.rows W.Store.faults book.start book.faults now
+    ensures ends { spec.SessionEndsOver W.Store.Tells W.Store.rows W.Store.faults book.start book.faults now
         (sides W.In.left W.In.faults W.Out.held W.Out.faults outside.old.input outside.old.output
         (kit_told W.Draws.left W.Starts.calls W.Paths.calls W.Draws.faults W.Starts.faults W.Paths.faults outside.old.kit))
         (sides W.In.left W.In.faults W.Out.held W.Out.faults outside.new.input outside.new.output
@@ -64,7 +64,7 @@ fn serve_alone<W: World, T: Trail<Entry = Change>, R: Wait>(
 ) -> (End, W::Store)
     requires of { pass.of ≡ desk }
     requires alone { pass.alone ≡ true }
-    ensures ends { (start : Start) → pass.base ≡ Some start → spec.EndsBy W.Store.Tells W.Store.rows W.Store.faults pass start now
+    ensures ends { (start : Start) → pass.base ≡ Some start → spec.SessionEndsBy W.Store.Tells W.Store.rows W.Store.faults pass start now
         (sides W.In.left W.In.faults W.Out.held W.Out.faults outside.old.input outside.old.output
         (kit_told W.Draws.left W.Starts.calls W.Paths.calls W.Draws.faults W.Starts.faults W.Paths.faults outside.old.kit))
         (sides W.In.left W.In.faults W.Out.held W.Out.faults outside.new.input outside.new.output
