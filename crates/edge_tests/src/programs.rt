@@ -14,6 +14,7 @@ use hub_kit::target::Target;
 use hub_kit::targets::read_target;
 use hub_kit::text::Text;
 use std::alloc::Global;
+use std::fs;
 use std::process::Abort;
 use std::sync::{Arc, Mutex, Wait};
 use std::thread::{self, Threads};
@@ -118,6 +119,58 @@ fn a_program_starts_and_ends(rt: HostRuntime) {
         let wanted = [Some(true), Some(true), Some(true), Some(false)];
         check(&rt, told == wanted, script);
     }
+}
+
+/// A file that the tests of this process have to themselves.
+fn own_path(handle: &impl Abort, rt: HostRuntime) -> String {
+    let process = fs::read_link(&rt, "/proc/self").expect(handle, "the number of this process");
+    let number = process.as_str();
+    let path = format!(in rt.alloc(); "/tmp/hub-edge-tests-{number}").expect(handle, "a path");
+    drop(process);
+    path
+}
+
+/// What a program's script starts by these words: it works for a second once it is to end, and leaves its number in a file.
+fn script_of(handle: &impl Abort, alloc: Global, starter: &str, path: &str) -> String {
+    let trap = format!(in alloc; "sleep 1; echo $$ > {path}; exit").expect(handle, "a trap");
+    let waits = "echo ready; while :; do sleep 0.1; done";
+    let script = format!(in alloc;
+        "read s; {starter} sh -c 'trap \"{trap}\" TERM; {waits}' & exec sleep 100"
+    );
+    drop(trap);
+    script.expect(handle, "a script")
+}
+
+/// Whether a file has the number of a process, and that process is over. The file is removed.
+fn told_its_end(handle: &impl Abort, rt: HostRuntime, path: &str) -> bool {
+    let Ok(number) = fs::read_to_string(&rt, path) else {
+        return false;
+    };
+    let number = number.trim_end();
+    let words = format!(in rt.alloc(); "/proc/{number}/cmdline").expect(handle, "a path");
+    let is_over = match fs::read(&rt, words.as_str()) {
+        Ok(words) => words.is_empty(),
+        Err(_) => true,
+    };
+    drop(words);
+    fs::remove_file(&rt, path).is_ok() & is_over
+}
+
+/// What a program started has time to end too, in its group and outside of it.
+#[test]
+fn what_a_program_started_ends(rt: HostRuntime) {
+    let path = own_path(&rt, rt);
+    for starter in ["env", "setsid"] {
+        for ender in [Ender::Own, Ender::Next] {
+            let script = script_of(&rt, rt.alloc(), starter, path.as_str());
+            let told = life(rt, rt, script.as_str(), ender);
+            drop(script);
+            let wanted = [Some(true), Some(true), Some(true), Some(false)];
+            check(&rt, told == wanted, starter);
+            check(&rt, told_its_end(&rt, rt, path.as_str()), starter);
+        }
+    }
+    drop(path);
 }
 
 const NEVER_READY: [&str; 3] = ["echo steady; sleep 100", "exit 3", "read s"];

@@ -4,7 +4,6 @@
 //! The program stands above it.
 #![tactic(auto)]
 
-mod adopted;
 pub mod clock;
 mod commands;
 pub mod connection;
@@ -14,6 +13,7 @@ mod groups;
 pub mod limits;
 mod line;
 pub mod listener;
+mod marked;
 pub mod output;
 mod processes;
 pub mod programs;

@@ -60,8 +60,11 @@ pub const TARGET_READ_SECONDS: u64 = 300;
 /// How many seconds a program may take to say that it is ready.
 pub const READY_SECONDS: u64 = 60;
 
-/// How many seconds a program has to end in peace.
+/// How many seconds a program, and what it started, has to end in peace.
 pub const END_SECONDS: u64 = 10;
+
+/// How many seconds what was killed then may take to be gone, as a large process does until the system has taken its memory back.
+pub const GONE_SECONDS: u64 = 5;
 
 /// How many seconds the address of a program that another run of the hub started may be held behind its end, as a large one holds it until
 /// the system has taken its memory back.

@@ -1,4 +1,5 @@
 //! What the system tells of processes, in the files under `/proc`.
+use libc::getpid;
 use std::{fs, io};
 
 /// What one of a process's files holds.
@@ -37,6 +38,16 @@ pub(crate) fn has_ended(rt: &HostRuntime, number: u32) -> io::Result<bool> {
 pub(crate) fn running_group(rt: &HostRuntime, number: u32) -> Option<u32> {
     let stat = told(rt, number, "stat").ok()?;
     group_in(behind_name(stat.as_slice()))
+}
+
+/// The group of this process.
+pub(crate) fn own_group(rt: &HostRuntime) -> Option<u32> {
+    running_group(rt, own_number())
+}
+
+/// The number of this process.
+fn own_number() -> u32 {
+    getpid().cast_unsigned()
 }
 
 /// What stands behind the program's name, which is in brackets and may have any bytes.

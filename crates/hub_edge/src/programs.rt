@@ -1,8 +1,7 @@
 //! The programs of single-user servers.
 ghost use Rattle.std.specs.Prelude.{None};
 
-use crate::adopted::{Marked, end_found};
-use crate::groups::end;
+use crate::marked::{Marked, end_child, end_found};
 use crate::processes::has_ended;
 use crate::starting::{StartFault, await_ready, drain, start_program, tell_secret};
 use crate::targets::{is_held, is_served};
@@ -94,10 +93,10 @@ impl<H: Threads + Wait + Copy> Programs<H> {
     }
 
     /// Puts a program on the list. One for which there is no memory is ended.
-    fn keep(&self, generation: u64, child: Child) -> Result<(), StartFault> {
+    fn keep(&self, generation: u64, child: Child, target: &Target) -> Result<(), StartFault> {
         match self.put(Started { generation, child }) {
             Ok(()) => Ok(()),
-            Err(refused) => self.refuse(refused),
+            Err(refused) => self.refuse(refused, target),
         }
     }
 
@@ -111,8 +110,9 @@ impl<H: Threads + Wait + Copy> Programs<H> {
     }
 
     /// Ends a program for which there is no memory.
-    fn refuse(&self, mut program: Started) -> Result<(), StartFault> {
-        end(&self.rt, &mut program.child)?;
+    fn refuse(&self, mut program: Started, target: &Target) -> Result<(), StartFault> {
+        let generation = program.generation;
+        end_child(&self.rt, &mut program.child, generation, target)?;
         Err(StartFault::System(ErrorKind::OutOfMemory))
     }
 
@@ -131,10 +131,10 @@ impl<H: Threads + Wait + Copy> Programs<H> {
             target,
         )?;
         if let Err(fault) = self.greet(&mut child, output, secret) {
-            end(&self.rt, &mut child)?;
+            end_child(&self.rt, &mut child, generation, target)?;
             return Err(fault);
         }
-        self.keep(generation, child)
+        self.keep(generation, child, target)
     }
 
     /// Says on standard error why a program wasn't started.
@@ -171,7 +171,7 @@ impl<H: Threads + Wait + Copy> Programs<H> {
     /// Ends the program of a generation.
     fn quit(&self, generation: u64, target: &Target) -> io::Result<()> {
         match self.take(generation) {
-            Some(mut started) => end(&self.rt, &mut started.child),
+            Some(mut started) => end_child(&self.rt, &mut started.child, generation, target),
             None => self.quit_adopted(generation, target),
         }
     }
@@ -182,6 +182,7 @@ impl<H: Threads + Wait + Copy> Programs<H> {
         let marked = Marked {
             generation: Some(generation),
             target,
+            child: None,
         };
         end_found(&self.rt, marked)?;
         if is_held(&self.rt, target)? {
@@ -195,6 +196,7 @@ impl<H: Threads + Wait + Copy> Programs<H> {
         let marked = Marked {
             generation: None,
             target,
+            child: None,
         };
         end_found(&self.rt, marked)
     }

@@ -1,7 +1,7 @@
 //! How a program of a server is started.
-use crate::adopted::{MARK, mark_of};
 use crate::commands::{add, connect, set};
 use crate::limits::READY_SECONDS;
+use crate::marked::{MARK, mark_of};
 use crate::targets::address_of;
 use crate::variables::hide_secrets;
 use crate::waiting::time_left;
