@@ -94,12 +94,9 @@ fn life<H: Threads + Wait + Abort + Copy>(
 ) -> [Option<bool>; 4] {
     let mut programs = programs_of(rt, handle, script);
     let mut next = programs_of(rt, handle, script);
-    let secret = text(&handle, rt.alloc(), "secret-word");
-    let key = read_key(b"ann/lab").expect(&handle, "it is a key");
     // nobody listens there
     let target = read_target(rt.alloc(), b"http://127.0.0.1:1").expect(&handle, "it is a target");
-    let begins = programs.start(7, &key, &target, &secret).is_ok();
-    drop(secret);
+    let begins = starts(rt, &handle, &mut programs, 7, &target);
     let runs = programs.poll(7, &target).ok();
     let ends = ends(&mut programs, &mut next, &target, ender);
     let after = runs_on(rt, &mut programs, &target);
@@ -171,6 +168,81 @@ fn what_a_program_started_ends(rt: HostRuntime) {
         }
     }
     drop(path);
+}
+
+/// Programs of a script, of which the first was started as generation 7.
+fn started<H: Threads + Wait + Abort + Copy>(
+    rt: HostRuntime,
+    handle: H,
+    target: &Target,
+    script: &str,
+) -> Programs<H> {
+    let mut programs = programs_of(rt, handle, script);
+    check(
+        &handle,
+        starts(rt, &handle, &mut programs, 7, target),
+        script,
+    );
+    programs
+}
+
+/// Whether a generation starts at a target.
+fn starts<H: Threads + Wait + Abort + Copy>(
+    rt: HostRuntime,
+    handle: &H,
+    programs: &mut Programs<H>,
+    generation: u64,
+    target: &Target,
+) -> bool {
+    let secret = text(handle, rt.alloc(), "secret-word");
+    let key = read_key(b"ann/lab").expect(handle, "it is a key");
+    let starts = programs.start(generation, &key, target, &secret).is_ok();
+    drop(secret);
+    starts
+}
+
+/// A start ends what is left at its target, as of a hub that kept nothing.
+#[test]
+fn a_start_ends_what_was_left(rt: HostRuntime) {
+    let target = read_target(rt.alloc(), b"http://127.0.0.1:2").expect(&rt, "it is a target");
+    let script = "read s; echo ready; exec sleep 100";
+    let mut programs = started(rt, rt, &target, script);
+    let mut next = programs_of(rt, rt, script);
+    check(&rt, starts(rt, &rt, &mut next, 8, &target), "it starts");
+    check(
+        &rt,
+        runs_on(rt, &mut programs, &target) == Some(false),
+        "the other one is over",
+    );
+    check(&rt, next.stop(8, &target).is_ok(), "a stop");
+    check(
+        &rt,
+        programs.stop(7, &target).is_ok(),
+        "a stop of what is over",
+    );
+    drop(programs);
+    drop(next);
+    drop(target);
+}
+
+/// A program that names another process as its hub, which runs.
+const ANOTHER_HUBS: &str =
+    "read s; env -i sleep 99& exec env HUB_PROCESS=\"$! $(sed 's/.*) //' /proc/$!/stat | cut -d' ' -f20)\" sh -c 'echo ready; sleep 99'";
+
+/// What another hub started isn't left while that hub runs.
+#[test]
+fn a_program_of_another_hub_runs_on(rt: HostRuntime) {
+    let target = read_target(rt.alloc(), b"http://127.0.0.1:3").expect(&rt, "it is a target");
+    let mut programs = started(rt, rt, &target, ANOTHER_HUBS);
+    check(&rt, programs.end_left(&target).is_ok(), "nothing is left");
+    check(
+        &rt,
+        programs.poll(7, &target).ok() == Some(true),
+        "it runs on",
+    );
+    check(&rt, programs.stop(7, &target).is_ok(), "a stop");
+    drop(programs);
+    drop(target);
 }
 
 const NEVER_READY: [&str; 3] = ["echo steady; sleep 100", "exit 3", "read s"];

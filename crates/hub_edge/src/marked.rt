@@ -2,7 +2,10 @@
 //! program that another run of the hub started, which is none of its children.
 use crate::groups::signal;
 use crate::limits::{END_SECONDS, GONE_SECONDS};
-use crate::processes::{cut, has_ended, own_group, read_number, read_process, running_group, told};
+use crate::processes::{
+    beginning, cut, has_ended, own_group, own_number, read_number, read_process, running_group,
+    told,
+};
 use crate::waiting::{is_over, pause};
 use hub_kit::target::Target;
 use std::alloc::{AllocError, Global};
@@ -14,10 +17,15 @@ use std::time::{Duration, Instant};
 /// The variable that says of a program for which target and as which generation it was started.
 pub(crate) const MARK: &str = "HUB_PROGRAM";
 
-/// The variable as it stands in an environment.
-const PREFIX: &[u8] = b"HUB_PROGRAM=";
+/// The variable that says which hub started it.
+pub(crate) const HUB: &str = "HUB_PROCESS";
 
-/// What stands in that variable.
+/// The variables as they stand in an environment.
+const MARK_PREFIX: &[u8] = b"HUB_PROGRAM=";
+
+const HUB_PREFIX: &[u8] = b"HUB_PROCESS=";
+
+/// What stands in the first variable.
 pub(crate) fn mark_of(
     alloc: Global,
     generation: u64,
@@ -27,9 +35,19 @@ pub(crate) fn mark_of(
     format!(in alloc; "{generation} {target}")
 }
 
-/// Which programs are meant: those that were started for a target, as one generation or as any, and what they started.
+/// What stands in the second variable: the number of this process, and when it began.
+pub(crate) fn own_hub(rt: &HostRuntime) -> io::Result<String> {
+    let number = own_number();
+    match beginning(rt, number) {
+        Some(begun) => Ok(format!(in rt.alloc(); "{number} {begun}")?),
+        None => Err(io::Error::from(ErrorKind::NotFound)),
+    }
+}
+
+/// Which programs are meant: those that were started for a target, and what they started.
 #[derive(Clone, Copy)]
 pub(crate) struct Marked<'a> {
+    /// As which generation. `None`: as any, but not by another hub that runs.
     pub(crate) generation: Option<u64>,
     pub(crate) target: &'a Target,
     /// The program, where it is a child that wasn't waited for. What is in its group is meant too, whatever its environment says.
@@ -145,47 +163,70 @@ fn group_of(rt: &HostRuntime, found: DirEntry, marked: Marked<'_>) -> Option<u32
     }
 }
 
-/// Whether a process was started with such a mark in its environment. Of another user's process, and of one that has ended, this isn't
-/// known: it is none of the hub's.
+/// Whether the environment that a process was started with says that it is meant. Of another user's process, and of one that has ended,
+/// this isn't known: it is none of the hub's.
 fn has_mark(rt: &HostRuntime, number: u32, marked: Marked<'_>) -> bool {
     match told(rt, number, "environ") {
-        Ok(text) => has_entry(text.as_slice(), marked),
+        Ok(text) => is_meant(rt, text.as_slice(), marked),
         Err(_) => false,
     }
 }
 
-/// Whether one of the entries between zeros is such a mark.
-fn has_entry(text: &[u8], marked: Marked<'_>) -> bool {
-    let mut rest = text;
-    for _ in 0..text.len() {
+/// Whether an environment says so.
+fn is_meant(rt: &HostRuntime, environment: &[u8], marked: Marked<'_>) -> bool {
+    let Some(mark) = value_of(environment, MARK_PREFIX) else {
+        return false;
+    };
+    is_mark(mark, marked) && (marked.generation.is_some() || is_left(rt, environment))
+}
+
+/// The value of the first variable that begins so, in an environment: zeros stand between them.
+fn value_of<'a>(environment: &'a [u8], prefix: &[u8]) -> Option<&'a [u8]> {
+    let mut rest = environment;
+    for _ in 0..environment.len() {
         let Some((entry, more)) = cut(rest, 0) else {
             break;
         };
-        if is_mark(entry, marked) {
-            return true;
+        if let Some(value) = entry.strip_prefix(prefix) {
+            return Some(value);
         }
         rest = more;
     }
-    is_mark(rest, marked)
+    rest.strip_prefix(prefix)
 }
 
-/// Whether an entry is such a mark: the variable, the generation, and behind a blank the target.
-fn is_mark(entry: &[u8], marked: Marked<'_>) -> bool {
-    let Some(value) = entry.strip_prefix(PREFIX) else {
+/// Whether this is the mark that is meant: the generation, and behind a blank the target.
+fn is_mark(mark: &[u8], marked: Marked<'_>) -> bool {
+    let Some((number, target)) = cut(mark, b' ') else {
         return false;
     };
-    match cut(value, b' ') {
-        Some((number, target)) => {
-            target == marked.target.as_text().as_bytes() && is_meant(number, marked.generation)
-        }
+    if target != marked.target.as_text().as_bytes() {
+        return false;
+    }
+    match marked.generation {
+        Some(generation) => read_number(number) == Some(generation),
+        None => true,
+    }
+}
+
+/// Whether no other hub that runs has started what has this environment. Where the hub isn't named, it was an earlier one.
+fn is_left(rt: &HostRuntime, environment: &[u8]) -> bool {
+    match value_of(environment, HUB_PREFIX) {
+        Some(hub) => !is_other_hub(rt, hub),
+        None => true,
+    }
+}
+
+/// Whether this names a hub that runs, and is another process than this.
+fn is_other_hub(rt: &HostRuntime, hub: &[u8]) -> bool {
+    match read_hub(hub) {
+        Some((number, begun)) => { number != own_number() && beginning(rt, number) == Some(begun) }
         None => false,
     }
 }
 
-/// Whether the generation is the one that is meant, or any is.
-fn is_meant(number: &[u8], generation: Option<u64>) -> bool {
-    match generation {
-        Some(generation) => read_number(number) == Some(generation),
-        None => true,
-    }
+/// The number of a process, and when it began.
+fn read_hub(hub: &[u8]) -> Option<(u32, u64)> {
+    let (number, begun) = cut(hub, b' ')?;
+    Some((read_process(number)?, read_number(begun)?))
 }

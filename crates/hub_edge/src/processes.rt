@@ -40,13 +40,19 @@ pub(crate) fn running_group(rt: &HostRuntime, number: u32) -> Option<u32> {
     group_in(behind_name(stat.as_slice()))
 }
 
+/// When a process that runs began, as the system counts it. Another process that has its number later has begun later.
+pub(crate) fn beginning(rt: &HostRuntime, number: u32) -> Option<u64> {
+    let stat = told(rt, number, "stat").ok()?;
+    beginning_in(behind_name(stat.as_slice()))
+}
+
 /// The group of this process.
 pub(crate) fn own_group(rt: &HostRuntime) -> Option<u32> {
     running_group(rt, own_number())
 }
 
 /// The number of this process.
-fn own_number() -> u32 {
+pub(crate) fn own_number() -> u32 {
     getpid().cast_unsigned()
 }
 
@@ -71,6 +77,15 @@ fn group_in(state: &[u8]) -> Option<u32> {
         None
     } else {
         read_process(word_behind(state, 3)?)
+    }
+}
+
+/// When a process that runs began.
+fn beginning_in(state: &[u8]) -> Option<u64> {
+    if is_over(state) {
+        None
+    } else {
+        read_number(word_behind(state, 20)?)
     }
 }
 

@@ -116,6 +116,28 @@ impl<H: Threads + Wait + Copy> Programs<H> {
         Err(StartFault::System(ErrorKind::OutOfMemory))
     }
 
+    /// Ends what was left running at a target.
+    fn clear(&self, target: &Target) -> Result<(), StartFault> {
+        match self.end_left(target) {
+            Ok(()) => Ok(()),
+            Err(error) => Err(StartFault::Left(error.kind())),
+        }
+    }
+
+    /// Why a program didn't come to be ready that has been ended: where somebody listens at its target all the same, that is why.
+    fn cause(&self, fault: StartFault, target: &Target) -> StartFault {
+        match fault {
+            StartFault::Ended | StartFault::OtherLine | StartFault::Late => {
+                match is_served(&self.rt, target) {
+                    Ok(true) => StartFault::Taken,
+                    _ => fault,
+                }
+            }
+            _ => fault,
+        }
+    }
+
+    /// Starts a program, once nothing is left that an earlier one started at its target.
     fn run(
         &self,
         generation: u64,
@@ -123,6 +145,7 @@ impl<H: Threads + Wait + Copy> Programs<H> {
         target: &Target,
         secret: &Text,
     ) -> Result<(), StartFault> {
+        self.clear(target)?;
         let (mut child, output) = start_program(
             &self.rt,
             self.command.as_slice(),
@@ -132,20 +155,21 @@ impl<H: Threads + Wait + Copy> Programs<H> {
         )?;
         if let Err(fault) = self.greet(&mut child, output, secret) {
             end_child(&self.rt, &mut child, generation, target)?;
-            return Err(fault);
+            return Err(self.cause(fault, target));
         }
         self.keep(generation, child, target)
     }
 
     /// Says on standard error why a program wasn't started.
-    pub fn say(&self, key: &ServerKey, fault: StartFault) {
+    fn say(&self, key: &ServerKey, target: &Target, fault: StartFault) {
         let program = match self.command.as_slice() {
             [program, ..] => program.as_str(),
             [] => "",
         };
         let (user, server) = (key.user.as_str(), key.server.as_str());
+        let target = target.as_text().as_str();
         let _ = eprintln!(self.rt;
-            "hub: the program {program} of the server {user}/{server} is not started: {fault}"
+            "hub: the program {program} of the server {user}/{server} at {target} is not started: {fault}"
         );
     }
 
@@ -191,7 +215,8 @@ impl<H: Threads + Wait + Copy> Programs<H> {
         Ok(())
     }
 
-    /// Ends what another run of the hub started for a target and left running, whichever generation it was.
+    /// Ends what was started for a target and left running, whichever generation it was, by this hub or one that runs no more: another
+    /// hub that runs may have programs at the same target.
     pub fn end_left(&self, target: &Target) -> io::Result<()> {
         let marked = Marked {
             generation: None,
@@ -227,7 +252,7 @@ impl<H: Threads + Wait + Copy> Spawner for Programs<H> {
         match self.run(g, key, target, secret) {
             Ok(()) => Ok(()),
             Err(fault) => {
-                self.say(key, fault);
+                self.say(key, target, fault);
                 self.faults = self.faults.saturating_add(1);
                 Err(Failed)
             }

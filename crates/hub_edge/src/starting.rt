@@ -1,7 +1,7 @@
 //! How a program of a server is started.
 use crate::commands::{add, connect, set};
 use crate::limits::READY_SECONDS;
-use crate::marked::{MARK, mark_of};
+use crate::marked::{HUB, MARK, mark_of, own_hub};
 use crate::targets::address_of;
 use crate::variables::hide_secrets;
 use crate::waiting::time_left;
@@ -26,6 +26,8 @@ pub enum StartFault {
     SecretName,
     /// What an earlier hub left running at its target can't be ended, and the system's error.
     Left(ErrorKind),
+    /// Another program listens at its target.
+    Taken,
     /// The system's error.
     System(ErrorKind),
     /// The program ended before it was ready.
@@ -58,6 +60,7 @@ impl Display for StartFault {
                 f,
                 "what an earlier hub left running at its target can't be ended: {kind:?}"
             ),
+            StartFault::Taken => f.write_str("its target is taken by another program"),
             StartFault::System(kind) => write!(f, "{kind:?}"),
             StartFault::Ended => f.write_str("it ended before it said that it is ready"),
             StartFault::OtherLine => f.write_str("its first line is not `ready`"),
@@ -104,6 +107,7 @@ fn prepare(
     add_words(rt.alloc(), command, words, key, port_of(target))?;
     hide_secrets(rt, rt.alloc(), command)?;
     add_mark(rt.alloc(), command, generation, target)?;
+    add_hub(rt, command)?;
     Ok(())
 }
 
@@ -139,6 +143,13 @@ fn add_mark(
 ) -> Result<(), AllocError> {
     let mark = mark_of(alloc, generation, target)?;
     set(command, MARK, mark.as_str())
+}
+
+/// Says in the environment of the program by which hub it is started.
+fn add_hub(rt: &HostRuntime, command: &mut Command) -> io::Result<()> {
+    let hub = own_hub(rt)?;
+    set(command, HUB, hub.as_str())?;
+    Ok(())
 }
 
 /// Starts a program, its output one of a pair of sockets, so that a read can have a limit. The command is dropped here: it holds

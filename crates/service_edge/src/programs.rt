@@ -4,7 +4,6 @@ ghost use Rattle.std.specs.Prelude.{◌≡◌, None};
 use hub_devices::source::Failed;
 use hub_devices::spawner::Spawner;
 use hub_edge::programs::{AllStarted, Programs};
-use hub_edge::starting::StartFault;
 use hub_kit::list::List;
 use hub_kit::names::{ServerKey, ServiceName, read_server, read_user};
 use hub_kit::target::Target;
@@ -81,8 +80,7 @@ impl<H: Threads + Wait + Copy> ServicePrograms<H> {
         Ok(())
     }
 
-    /// Starts the program of a service, if it has one. What a hub that was killed left running for this service ends before, since it has
-    /// the address.
+    /// Starts the program of a service, if it has one.
     fn begin(
         &mut self,
         g: u64,
@@ -97,10 +95,6 @@ impl<H: Threads + Wait + Copy> ServicePrograms<H> {
         };
         for command in self.commands.iter_mut() {
             if command.name == *name {
-                if let Err(error) = command.programs.end_left(target) {
-                    command.programs.say(&key, StartFault::Left(error.kind()));
-                    return Err(Failed);
-                }
                 return command.programs.start(g, &key, target, secret);
             }
         }
