@@ -5,6 +5,8 @@
 # PROGRAM is crates/hub/out/hub where it isn't given. It stands outside the gate, takes some ten seconds, writes to a new folder under /tmp
 # alone, and ends with status 1 at the first thing that isn't as it should be.
 set -eu
+# of a file that others may read a hub and the culler say a line more
+umask 077
 top=$(cd "$(dirname "$0")/../.." && pwd)
 exec python3 - "$(realpath "${1:-$top/crates/hub/out/hub}")" <<'PYTHON'
 import datetime, http.client, json, os, re, shutil, socket, subprocess, sys, tempfile, threading, time

@@ -1,9 +1,9 @@
 #!/bin/sh
 # What `session .. --db FILE` does with a file, which no clause can say: that each acknowledged change is there after the program was
-# killed, that a second hub is refused, that a session leaves the servers alone that another hub left running, how long an opening over many
-# users takes, and how many changes a second it acknowledges beside the stock sqlite3. One by one, each is asked for once the one before is
-# acknowledged, by a hub and a sqlite3 that are open. All at once, each program finds all its work on its input: sqlite3 acknowledges
-# nothing then, and the start and the end of both are counted.
+# killed, that a second hub is refused, that others may not read a file that it makes, that a session leaves the servers alone that another
+# hub left running, how long an opening over many users takes, and how many changes a second it acknowledges beside the stock sqlite3. One
+# by one, each is asked for once the one before is acknowledged, by a hub and a sqlite3 that are open. All at once, each program finds all
+# its work on its input: sqlite3 acknowledges nothing then, and the start and the end of both are counted.
 # usage: docs/bench/files.sh [PROGRAM [FOLDER]]
 # PROGRAM is the program `hub` as `rt run` leaves it (crates/hub/out/hub if none is named: run `./run` first). The files are made in a
 # folder of FOLDER, which decides what a sync costs (/tmp if none is named), and removed at the end. It needs the stock sqlite3, takes some
@@ -145,6 +145,25 @@ def refuse():
     end(hub)
     if stock("busy.db", "SELECT group_concat(key) FROM (SELECT key FROM row WHERE kind = 1 ORDER BY key)") != "ann,bob,eve":
         fail("the first hub's rows aren't there")
+
+
+# ---- who may read
+
+
+def keep_private():
+    """A file that a hub makes, and its log, their owner alone may read; one that is there keeps its mode, and its log has it too."""
+    os.umask(0o022)
+    open("shared.db", "w").close()
+    os.chmod("shared.db", 0o640)
+    for file, mode in ("private.db", 0o600), ("shared.db", 0o640):
+        hub = session(file)
+        if ask(hub, new_user("bob")) != 201:
+            fail(f"a hub over {file} doesn't serve")
+        modes = [os.stat(name).st_mode & 0o777 for name in (file, f"{file}-wal")]
+        if modes != [mode, mode]:
+            fail(f"{file} and its log have the modes {[oct(it) for it in modes]}")
+        end(hub)
+    print("a file that a hub makes, and its log, have the mode 0600", flush=True)
 
 
 # ---- servers that another hub left running
@@ -329,6 +348,7 @@ def race():
 
 kill_many()
 refuse()
+keep_private()
 leave_alone()
 open_many()
 race()

@@ -10,6 +10,8 @@
 # named and left out. It stands outside the gate, writes to a folder under /tmp alone, and ends with status 1 at the first thing that isn't
 # as it should be.
 set -eu
+# of a file that others may read a hub says a line more
+umask 077
 top=$(cd "$(dirname "$0")/../.." && pwd)
 [ $# -gt 0 ] || set -- behave flat measure
 exec python3 - "${HUB:-$top/crates/hub/out/hub}" "$@" <<'PYTHON'
@@ -593,6 +595,7 @@ def measure_nginx(folder):
     hub = Hub(folder)
     with open(f"{folder}/identity", "w") as file:
         json.dump(hub.ask("GET", "/user")[1], file, separators=(",", ":"))
+    os.chmod(f"{folder}/identity", 0o644)
     hub.ends()
     for workers in (1, 4):
         port, = free_ports(1)

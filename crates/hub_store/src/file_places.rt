@@ -14,8 +14,10 @@ use keeper_sqlite::sqlite_keeper::SqliteKeeper;
 use sqlite::{Alter, Connection, Error, ErrorCode, FileFrom, FileStore, Files, Options, Start};
 use sqlite_std_file::OpenError;
 use std::alloc::Global;
+use std::fs::OpenOptions;
 use std::hash::{BuildHasher, RandomState};
 use std::io::ErrorKind;
+use std::os::unix::fs::OpenOptionsExt;
 use std::{fmt, fs};
 
 /// How many pages that were read are kept in memory at least: four megabytes, in which a file of 10,000 users stands.
@@ -185,6 +187,16 @@ fn options(rt: &HostRuntime, path: &str) -> Result<Options, FileError> {
     })
 }
 
+/// Makes an empty file at a path, if nothing is there, which its owner alone may read: the rows have what tokens can be guessed by. The
+/// library gives the log the same mode. Where it can't be made, the opening says why.
+fn make_private(rt: &HostRuntime, path: &str) {
+    let mut how = OpenOptions::new();
+    how.write(true).create_new(true).mode(0o600);
+    if let Ok(file) = how.open(rt, path) {
+        drop(file);
+    }
+}
+
 /// The file at a path and its log, which no other process has open. A path that SQLite reads in another way isn't opened.
 fn open_pair<S: Start>(
     rt: &HostRuntime,
@@ -197,6 +209,7 @@ fn open_pair<S: Start>(
     if path == ":memory:" || path.starts_with("file:") {
         return Err(FileError::CannotOpen);
     }
+    make_private(rt, path);
     match sqlite_std_file::open(rt, path, start) {
         Ok(files) => Ok(files),
         Err(OpenError::OutOfMemory) => Err(FileError::Memory),
