@@ -8,9 +8,9 @@ use hub_edge::listener::SocketListener;
 use hub_edge::targets::connect;
 use hub_kit::target::Target;
 use hub_kit::targets::read_target;
-use std::fs;
 use std::process::Abort;
 use std::time::{Duration, Instant};
+use std::{fs, thread};
 
 /// A caller's side of a connection.
 #[derive(Drop)]
@@ -135,6 +135,75 @@ fn a_silent_connection_makes_room(rt: HostRuntime) {
     drop(other);
     drop(caller);
     drop(worker);
+}
+
+/// Whether a time that began at an instant took at most so many milliseconds.
+fn took_at_most(rt: &HostRuntime, begun: Instant, millis: u64) -> bool {
+    match begun.elapsed(rt) {
+        Ok(time) => time <= Duration::from_millis(millis),
+        Err(_) => false,
+    }
+}
+
+/// Whether a read of a target for the caller of an input gives as many bytes.
+fn reads_for(target: &mut SocketSource, input: &SocketSource, wanted: usize) -> bool {
+    let caller = input.caller();
+    let mut buf = [0u8; 64];
+    match target.read_for(caller.as_ref(), &mut buf) {
+        Ok(count) => count == wanted,
+        Err(Failed) => false,
+    }
+}
+
+/// Nobody waits for a target that is silent once the caller has left.
+#[test]
+fn a_target_whose_caller_leaves(rt: HostRuntime) {
+    let (caller, worker) = connected(&rt, rt, b"GET / HTTP/1.1\r\n\r\n");
+    let (mut asking, target) = connected(&rt, rt, b"GET / HTTP/1.1\r\n\r\n");
+    drop(caller);
+    let begun = Instant::now(&rt).expect(&rt, "the clock");
+    let is_read = reads_for(&mut asking.heard, &worker.input, 19);
+    check(&rt, !is_read, "nothing comes");
+    check(&rt, took_at_most(&rt, begun, 2000), "it doesn't wait");
+    drop(target);
+    drop(asking);
+    drop(worker);
+}
+
+/// Sends a reply after 1.5 seconds, and says whether it could.
+fn replies_late(rt: HostRuntime, target: Worker) -> bool {
+    let mut target = target;
+    thread::sleep(&rt, Duration::from_millis(1500));
+    writes(&mut target.output, b"HTTP/1.1 200 OK\r\n\r\n")
+}
+
+/// One who is still there gets what a target sends late.
+#[test]
+fn a_late_target(rt: HostRuntime) {
+    let (caller, worker) = connected(&rt, rt, b"GET / HTTP/1.1\r\n\r\n");
+    let (mut asking, target) = connected(&rt, rt, b"GET / HTTP/1.1\r\n\r\n");
+    let late = thread::spawn(&rt, move || replies_late(rt, target)).expect(&rt, "a thread");
+    let is_read = reads_for(&mut asking.heard, &worker.input, 19);
+    check(&rt, late.join(&rt), "a reply");
+    check(&rt, is_read, "it comes");
+    drop(asking);
+    drop(worker);
+    drop(caller);
+}
+
+/// One who sends no more, and still reads, gets what a target sends at once.
+#[test]
+fn a_caller_that_only_reads(rt: HostRuntime) {
+    let (mut caller, worker) = connected(&rt, rt, b"GET / HTTP/1.1\r\n\r\n");
+    let (mut asking, mut target) = connected(&rt, rt, b"GET / HTTP/1.1\r\n\r\n");
+    caller.said.shut();
+    check(&rt, answers(&mut target), "a reply");
+    let is_read = reads_for(&mut asking.heard, &worker.input, 19);
+    check(&rt, is_read, "it comes");
+    drop(target);
+    drop(asking);
+    drop(worker);
+    drop(caller);
 }
 
 /// A refusal arrives though the rest of its request was never asked for.

@@ -1,10 +1,13 @@
 //! A TCP connection as a source and a sink, both owned. They tell no bytes.
-ghost use Rattle.std.specs.Prelude.{◌≡◌, ◌≤◌, ℕ, length, None, false, IfOk};
+ghost use Rattle.std.specs.Prelude.{◌≡◌, ◌≤◌, ℕ, length, None, false, IfOk, OnErr};
+ghost use Rattle.hub_devices.specs.Faults.{Rises};
 
-use crate::limits::{HEAD_SECONDS, READ_OR_WRITE_SECONDS, REQUEST_SECONDS};
+use crate::limits::{
+    HEAD_SECONDS, READ_OR_WRITE_SECONDS, REQUEST_SECONDS, TARGET_READ_SECONDS, WAIT_SECONDS,
+};
 use crate::line::Line;
 use crate::listener::{Door, set_writing};
-use crate::waiting::{comes_within, time_left};
+use crate::waiting::{comes_within, has_ended, time_left};
 use hub_devices::sink::Sink;
 use hub_devices::source::{Failed, Source};
 use std::alloc::{AllocError, Global};
@@ -67,6 +70,17 @@ impl HeadEnd {
     }
 }
 
+/// A caller, for whom a target is asked.
+pub struct Caller {
+    line: Arc<Line, Global>,
+}
+
+impl Drop for Caller {
+    fn drop(self) {
+        let Caller { line: _ } = self;
+    }
+}
+
 /// The side of a connection that gives bytes.
 pub struct SocketSource {
     rt: HostRuntime,
@@ -90,6 +104,29 @@ impl Drop for SocketSource {
 }
 
 impl SocketSource {
+    /// The peer, as the caller for whom a target is asked. The connection stays open for as long as this is kept.
+    pub fn caller(&self) -> Option<Caller> {
+        match Arc::try_clone(&self.line) {
+            Ok(line) => Some(Caller { line }),
+            Err(_) => None,
+        }
+    }
+
+    /// Reads as `read` does. From a target for a caller: where that one sends no more, it fails once nothing has come for a second.
+    pub fn read_for(&mut self, caller: Option<&Caller>, into: &mut [u8]) -> Result<usize, Failed>
+        ensures fits { IfOk result (λ n. n ≤ length into.new) }
+        ensures counted { self.old.faults ≤ self.new.faults }
+        ensures cause { OnErr result (Rises self.old.faults self.new.faults) }
+    {
+        match self.next_bytes(caller, into) {
+            Ok(count) => Ok(count),
+            Err(_) => {
+                self.faults = self.faults.saturating_add(1);
+                Err(Failed)
+            }
+        }
+    }
+
     /// Waits until bytes are there, or the end. It is false where the peer was silent between two requests for as long as it may be.
     fn awaits_bytes(&mut self) -> io::Result<bool>
         ensures { self.new.faults ≡ self.old.faults }
@@ -98,7 +135,6 @@ impl SocketSource {
             self.line.awaits_tunnel()?;
             return Ok(true);
         }
-        // a target has the time that one read may take
         let Some(door) = self.line.door() else {
             return Ok(true);
         };
@@ -127,10 +163,13 @@ impl SocketSource {
     }
 
     /// The next bytes, or 0 at the end of input.
-    fn next_bytes(&mut self, into: &mut [u8]) -> io::Result<usize>
+    fn next_bytes(&mut self, caller: Option<&Caller>, into: &mut [u8]) -> io::Result<usize>
         ensures fits { IfOk result (λ n. n ≤ length into.new) }
         ensures same { self.new.faults ≡ self.old.faults }
     {
+        if self.line.door().is_none() && !self.line.is_tunnel() {
+            return read_target(self.line.stream(), caller, into);
+        }
         if !self.awaits_bytes()? {
             return Ok(0);
         }
@@ -168,19 +207,31 @@ fn read_some(stream: &TcpStream, into: &mut [u8]) -> io::Result<usize>
     Err(io::Error::from(ErrorKind::Interrupted))
 }
 
+/// One read of a target, which has its time to send something. Each second without that it is looked whether the caller is still there.
+fn read_target(stream: &TcpStream, caller: Option<&Caller>, into: &mut [u8]) -> io::Result<usize>
+    ensures { IfOk result (λ n. n ≤ length into.new) }
+{
+    for _ in 0..TARGET_READ_SECONDS / WAIT_SECONDS {
+        match read_some(stream, into) {
+            Err(error) if error.kind() == ErrorKind::WouldBlock => {}
+            read => return read,
+        }
+        if let Some(caller) = caller {
+            if has_ended(caller.line.stream()) {
+                return Err(io::Error::from(ErrorKind::ConnectionAborted));
+            }
+        }
+    }
+    Err(io::Error::from(ErrorKind::TimedOut))
+}
+
 impl Source for SocketSource {
     ghost left = { λ _. None };
 
     ghost faults = { λ s. s.faults };
 
     fn read(&mut self, into: &mut [u8]) -> Result<usize, Failed> {
-        match self.next_bytes(into) {
-            Ok(count) => Ok(count),
-            Err(_) => {
-                self.faults = self.faults.saturating_add(1);
-                Err(Failed)
-            }
-        }
+        self.read_for(None, into)
     }
 }
 

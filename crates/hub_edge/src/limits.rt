@@ -57,6 +57,9 @@ pub const CONNECT_SECONDS: u64 = 10;
 /// How many seconds a target may take until its next bytes come. A hub that starts a server replies once its program is ready.
 pub const TARGET_READ_SECONDS: u64 = 300;
 
+/// How many seconds a wait takes at once. Then it is looked whether to go on: whether the caller is still there for whom a target is asked.
+pub const WAIT_SECONDS: u64 = 1;
+
 /// How many seconds a program may take to say that it is ready.
 pub const READY_SECONDS: u64 = 60;
 

@@ -1,6 +1,6 @@
 //! Connections to targets.
 use crate::connection::{SocketSink, SocketSource, sides};
-use crate::limits::{CONNECT_SECONDS, LET_GO_SECONDS, LOOK_AGAIN_MILLIS, TARGET_READ_SECONDS};
+use crate::limits::{CONNECT_SECONDS, LET_GO_SECONDS, LOOK_AGAIN_MILLIS, WAIT_SECONDS};
 use crate::sockets;
 use crate::waiting::{is_over, time_left};
 use hub_kit::target::Target;
@@ -81,9 +81,10 @@ pub(crate) fn is_held(rt: &HostRuntime, target: &Target) -> io::Result<bool> {
     Ok(true)
 }
 
-/// A connection to a target. What its writes need is set where one may wait.
+/// A connection to a target. What its writes need is set where one may wait. A read waits again and again, each time for as long as is
+/// set here.
 pub fn connect(rt: HostRuntime, target: &Target) -> io::Result<(SocketSource, SocketSink)> {
     let stream = stream_to(&rt, target)?;
-    stream.set_read_timeout(Some(Duration::from_secs(TARGET_READ_SECONDS)))?;
+    stream.set_read_timeout(Some(Duration::from_secs(WAIT_SECONDS)))?;
     Ok(sides(rt, stream, None)?)
 }

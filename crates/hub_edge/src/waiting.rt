@@ -1,5 +1,5 @@
 //! Waits with a limit.
-use libc::net::{POLLIN, poll};
+use libc::net::{POLLIN, POLLRDHUP, poll};
 use libc::types::pollfd;
 use std::os::fd::{AsRawFd, RawFd};
 use std::time::{Duration, Instant};
@@ -50,6 +50,16 @@ pub(crate) fn comes_within(fd: &impl AsRawFd, limit: Duration) -> bool {
 /// Whether something is there.
 pub(crate) fn is_there(fd: &impl AsRawFd) -> bool {
     poll(&mut [awaited(fd)], 0) > 0
+}
+
+/// Whether the peer of a socket sends no more. It has left, or has shut its sending side alone: nothing tells these apart.
+pub(crate) fn has_ended(fd: &impl AsRawFd) -> bool {
+    let asked = pollfd {
+        fd: fd.as_raw_fd(),
+        events: POLLRDHUP,
+        revents: 0,
+    };
+    poll(&mut [asked], 0) > 0
 }
 
 /// Whether something comes within this time for the first of the two, and before something comes for the other.

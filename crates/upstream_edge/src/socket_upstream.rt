@@ -9,7 +9,7 @@ use http_wire::head::Head;
 use http_wire::writes::write_all;
 use hub_devices::sink::Sink;
 use hub_devices::source::{Failed, Source};
-use hub_edge::connection::{SocketSink, SocketSource};
+use hub_edge::connection::{Caller, SocketSink, SocketSource};
 use hub_edge::targets::connect;
 use hub_kit::target::Target;
 use piece_window::rooms::Rooms;
@@ -37,6 +37,8 @@ pub struct SocketUpstream<'a, T: Threads> {
     rt: HostRuntime,
     /// What the other direction of a tunnel runs on.
     threads: &'a T,
+    /// Whose request is carried. Once that one has left, nobody waits for the target.
+    caller: Option<Caller>,
     sides: Option<Sides>,
     waiting: Vec<u8>,
     /// Whether nothing was sent yet.
@@ -51,6 +53,7 @@ impl<'a, T: Threads> SocketUpstream<'a, T> {
         SocketUpstream {
             rt,
             threads,
+            caller: None,
             sides: None,
             waiting: Vec::new(rt.alloc()),
             is_fresh: true,
@@ -106,7 +109,7 @@ impl<'a, T: Threads> SocketUpstream<'a, T> {
         let Some(sides) = &mut self.sides else {
             return Err(Failed);
         };
-        sides.input.read(into)
+        sides.input.read_for(self.caller.as_ref(), into)
     }
 }
 
@@ -182,8 +185,12 @@ impl<'a, T: Threads, O: Shuts> Carrier<SocketSource, O> for SocketUpstream<'a, T
         output: &mut O,
     ) -> Result<Carried<TunnelSource, TunnelSink>, SessionFault> {
         let threads = self.threads;
-        carry_head(
+        self.caller = input.caller();
+        let carried = carry_head(
             threads, alloc, head, framing, target, input, rooms, output, self,
-        )
+        );
+        // the connection ends where nobody keeps it
+        self.caller = None;
+        carried
     }
 }
