@@ -1,7 +1,8 @@
 #!/bin/sh
 # What connections over real sockets do, which no clause can say: four workers at one listener answer each request by the same reply, and a
 # script calls them: kept connections, 500 callers at once, 200 silent ones beside one who asks, peers that vanish, a refusal whose request
-# isn't read to its end, a head that trickles in, silent connections, and descriptors that lack. It measures the processor time of a reply.
+# isn't read to its end, a head that trickles in, as many slow callers as workers beside one who asks, silent connections, and descriptors
+# that lack. It measures the processor time of a reply.
 # usage: docs/bench/sockets.sh [FOLDER]
 # Writes a scratch repository into FOLDER (a new one under /tmp if none is named), proves its crates over what earlier checks of this
 # checkout kept, and runs the program. It takes two minutes beside that, stands outside the gate, and leaves the repository as it was. It
@@ -222,6 +223,17 @@ def trickles(hub):
     return 29 < time.monotonic() - began < 33
 
 
+def is_answered_beside(hub, slow, text):
+    """As many callers as workers send so much of a request, and then a byte each 0.1 s, where nobody waits for 3 s. Then one more asks."""
+    for caller in slow:
+        caller.sendall(text)
+    for _ in range(30):
+        time.sleep(0.1)
+        for caller in slow:
+            caller.sendall(b"a")
+    return asks(hub.caller())
+
+
 def is_ended_when_silent(caller):
     began = time.monotonic()
     return caller.recv(10) == b"" and 14.5 < time.monotonic() - began < 16.5
@@ -249,6 +261,8 @@ def behave():
     shows("20 callers who vanish, and one more", 1, lambda: vanish(hub))
     shows("a refusal with bytes unread", 1, lambda: is_refused(hub))
     shows("a head of a byte each second", 33, lambda: trickles(hub))
+    slow = [hub.caller() for _ in range(4)]
+    shows("a caller beside as many slow ones as there are workers, after 3 s", 5, lambda: is_answered_beside(hub, slow, b"GET / HT"))
     shows("a silent connection after a reply", 17, lambda: kept_and_silent(hub))
     shows("a silent connection from the beginning", 17, lambda: is_ended_when_silent(hub.caller()))
     if hub.process.wait() or "served" not in hub.process.stdout.read():

@@ -145,6 +145,84 @@ fn took_at_most(rt: &HostRuntime, begun: Instant, millis: u64) -> bool {
     }
 }
 
+/// Whether the next read fails.
+fn fails(input: &mut SocketSource) -> bool {
+    let mut buf = [0u8; 64];
+    input.read(&mut buf).is_err()
+}
+
+/// Another caller, who has sent a request of 18 bytes and waits.
+fn another(handle: &impl Abort, rt: HostRuntime, target: &Target) -> Caller {
+    let (heard, mut said) = connect(rt, target).expect(handle, "another caller");
+    let is_sent = writes(&mut said, b"GET / HTTP/1.1\r\n\r\n");
+    check(handle, is_sent, "the other request is sent");
+    Caller { heard, said }
+}
+
+/// Takes the next connection in place of the one that it has. Whether its request is answered.
+fn answers_next(worker: Worker) -> bool {
+    let Worker {
+        mut listener,
+        target,
+        input,
+        output,
+    } = worker;
+    drop(input);
+    drop(output);
+    let Ok((input, output)) = listener.accept() else {
+        return false;
+    };
+    let mut next = Worker {
+        listener,
+        target,
+        input,
+        output,
+    };
+    answers(&mut next)
+}
+
+/// The beginning of a request of which nothing more is sent makes room where another caller waits and nobody is free.
+#[test]
+fn a_slow_request_makes_room(rt: HostRuntime) {
+    let (slow, mut worker) = connected(&rt, rt, b"POST / HTTP/1.1\r\n");
+    check(&rt, reads(&mut worker.input, 17), "its beginning");
+    let mut other = another(&rt, rt, &worker.target);
+    let begun = Instant::now(&rt).expect(&rt, "the clock");
+    check(&rt, fails(&mut worker.input), "it is let go");
+    check(&rt, answers_next(worker), "the other one's turn");
+    check(&rt, reads(&mut other.heard, 19), "a reply");
+    check(&rt, took_at_most(&rt, begun, 4000), "within 4 seconds");
+    drop(other);
+    drop(slow);
+}
+
+/// Whether a byte arrives each half of a second, for so long.
+fn trickles(rt: &HostRuntime, said: &mut SocketSink, input: &mut SocketSource, count: u64) -> bool {
+    for _ in 0..count {
+        thread::sleep(rt, Duration::from_millis(500));
+        if !writes(said, b"x") || !reads(input, 1) {
+            return false;
+        }
+    }
+    true
+}
+
+/// A request that trickles in is read on while nobody waits, and makes room once somebody does.
+#[test]
+fn a_trickling_request(rt: HostRuntime) {
+    let (mut slow, mut worker) = connected(&rt, rt, b"POST / HTTP/1.1\r\n");
+    check(&rt, reads(&mut worker.input, 17), "its beginning");
+    let goes_on = trickles(&rt, &mut slow.said, &mut worker.input, 5);
+    check(&rt, goes_on, "nobody waits");
+    let other = another(&rt, rt, &worker.target);
+    let begun = Instant::now(&rt).expect(&rt, "the clock");
+    check(&rt, fails(&mut worker.input), "it is let go");
+    check(&rt, took_at_most(&rt, begun, 1000), "at once");
+    drop(other);
+    drop(worker);
+    drop(slow);
+}
+
 /// Whether a read of a target for the caller of an input gives as many bytes.
 fn reads_for(target: &mut SocketSource, input: &SocketSource, wanted: usize) -> bool {
     let caller = input.caller();

@@ -3,7 +3,8 @@ ghost use Rattle.std.specs.Prelude.{◌≡◌, ◌≤◌, ℕ, length, None, fal
 ghost use Rattle.hub_devices.specs.Faults.{Rises};
 
 use crate::limits::{
-    HEAD_SECONDS, READ_OR_WRITE_SECONDS, REQUEST_SECONDS, TARGET_READ_SECONDS, WAIT_SECONDS,
+    CROWDED_BYTES, CROWDED_SECONDS, HEAD_SECONDS, REQUEST_SECONDS, TARGET_READ_SECONDS,
+    WAIT_SECONDS,
 };
 use crate::line::Line;
 use crate::listener::{Door, set_writing};
@@ -88,6 +89,8 @@ pub struct SocketSource {
     /// When the request began that is being read.
     begun: Option<Instant>,
     head: HeadEnd,
+    /// How many bytes of it have come.
+    came: u64,
     faults: u64,
 }
 
@@ -98,6 +101,7 @@ impl Drop for SocketSource {
             line: _,
             begun: _,
             head: _,
+            came: _,
             faults: _,
         } = self;
     }
@@ -141,17 +145,17 @@ impl SocketSource {
         if self.line.is_between_requests() {
             self.begun = None;
             self.head = HeadEnd::new();
+            self.came = 0;
             return self.line.awaits_request(door);
         }
         // a caller that comes in has said something
         let Some(begun) = self.begun else {
             return Ok(true);
         };
-        let most = Duration::from_secs(READ_OR_WRITE_SECONDS);
-        match time_left(&self.rt, begun, self.head.limit())? {
-            Some(left) if comes_within(self.line.stream(), left.min(most)) => Ok(true),
-            _ => Err(io::Error::from(ErrorKind::TimedOut)),
+        if self.line.awaits_rest(door, begun, self.head.limit(), crowded_limit(self.came))? {
+            return Ok(true);
         }
+        Err(io::Error::from(ErrorKind::TimedOut))
     }
 
     /// Waits until bytes are there, or the end, for what is left of a time that began at an instant. It fails where none come.
@@ -181,7 +185,7 @@ impl SocketSource {
         Ok(count)
     }
 
-    /// Notes when a request began, and where its head ends.
+    /// Notes when a request began, where its head ends, and how much of it has come.
     fn note_request(&mut self, bytes: &[u8]) -> io::Result<()>
         ensures { self.new.faults ≡ self.old.faults }
     {
@@ -189,8 +193,14 @@ impl SocketSource {
             self.begun = Some(Instant::now(&self.rt)?);
         }
         self.head.note(bytes);
+        self.came = self.came.saturating_add(bytes.len() as u64);
         Ok(())
     }
+}
+
+/// How long a request may have taken by now of which so many bytes have come, while others wait.
+fn crowded_limit(came: u64) -> Duration {
+    Duration::from_secs((came / CROWDED_BYTES).saturating_add(CROWDED_SECONDS))
 }
 
 /// One read of a stream.
@@ -335,6 +345,7 @@ pub(crate) fn sides(
         line,
         begun: None,
         head: HeadEnd::new(),
+        came: 0,
         faults: 0,
     };
     let sink = SocketSink {

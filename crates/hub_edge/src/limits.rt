@@ -15,6 +15,12 @@ pub const SILENT_SECONDS: u64 = 15;
 /// How many milliseconds it may be silent between two requests while a caller waits and no worker is free.
 pub const CROWDED_MILLIS: u64 = 100;
 
+/// How many seconds a request may take from its first byte on while a caller waits and no worker is free, beside those for its bytes.
+pub const CROWDED_SECONDS: u64 = 2;
+
+/// How many bytes of a request give it another second then.
+pub const CROWDED_BYTES: u64 = 16384;
+
 /// How many milliseconds a peer has to take a refusal whose request wasn't read to its end.
 pub const LINGER_MILLIS: u64 = 2000;
 
@@ -57,7 +63,8 @@ pub const CONNECT_SECONDS: u64 = 10;
 /// How many seconds a target may take until its next bytes come. A hub that starts a server replies once its program is ready.
 pub const TARGET_READ_SECONDS: u64 = 300;
 
-/// How many seconds a wait takes at once. Then it is looked whether to go on: whether the caller is still there for whom a target is asked.
+/// How many seconds a wait takes at once. Then it is looked whether to go on: whether the caller is still there for whom a target is asked,
+/// and whether another one waits for the worker.
 pub const WAIT_SECONDS: u64 = 1;
 
 /// How many seconds a program may take to say that it is ready.

@@ -1,7 +1,7 @@
 //! What the two sides of a connection share: its socket, what was last written, and who waits at the listener.
 use crate::limits::{
-    CROWDED_MILLIS, LINGER_BYTES, LINGER_MILLIS, SILENT_SECONDS, TUNNEL_END_SECONDS,
-    TUNNEL_LOOK_SECONDS, TUNNEL_SILENT_SECONDS,
+    CROWDED_MILLIS, LINGER_BYTES, LINGER_MILLIS, READ_OR_WRITE_SECONDS, SILENT_SECONDS,
+    TUNNEL_END_SECONDS, TUNNEL_LOOK_SECONDS, TUNNEL_SILENT_SECONDS, WAIT_SECONDS,
 };
 use crate::listener::Door;
 use crate::sockets::keep_alive;
@@ -111,6 +111,32 @@ impl Line {
             }
             if door.is_crowded() {
                 break;
+            }
+        }
+        Ok(false)
+    }
+
+    /// Waits for more of a request that began at an instant, or the end, for as long as one read may. It is false where none comes, where
+    /// the time of a request is over, or that which it has while others wait.
+    pub(crate) fn awaits_rest(
+        &self,
+        door: &Door,
+        begun: Instant,
+        limit: Duration,
+        crowded: Duration,
+    ) -> io::Result<bool> {
+        let round = Duration::from_secs(WAIT_SECONDS);
+        for _ in 0..READ_OR_WRITE_SECONDS / WAIT_SECONDS {
+            let passed = begun.elapsed(&self.rt)?;
+            if passed >= limit {
+                break;
+            }
+            // what is there already is no fault of the caller
+            if passed >= crowded && door.is_crowded() {
+                return Ok(is_there(&self.stream));
+            }
+            if comes_within(&self.stream, limit.saturating_sub(passed).min(round)) {
+                return Ok(true);
             }
         }
         Ok(false)
