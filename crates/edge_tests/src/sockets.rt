@@ -4,6 +4,7 @@ use hub_devices::listener::Listener;
 use hub_devices::sink::Sink;
 use hub_devices::source::{Failed, Source};
 use hub_edge::connection::{SocketSink, SocketSource};
+use hub_edge::limits::{HEAD_SECONDS, REQUEST_SECONDS};
 use hub_edge::listener::SocketListener;
 use hub_edge::targets::connect;
 use hub_kit::target::Target;
@@ -221,6 +222,36 @@ fn a_trickling_request(rt: HostRuntime) {
     drop(other);
     drop(worker);
     drop(slow);
+}
+
+/// The pieces of a request behind empty lines, and how many seconds it may take by then.
+const PIECES: [(&[u8], u64); 5] = [
+    (b"\r\n\r\n", HEAD_SECONDS),
+    (b"GET / ", HEAD_SECONDS),
+    (b"HTTP/1.1\r\n", HEAD_SECONDS),
+    (b"\r", HEAD_SECONDS),
+    (b"\n", REQUEST_SECONDS),
+];
+
+/// Whether bytes arrive, and the request that they are a part of may then take so many seconds in all.
+fn may_take(said: &mut SocketSink, input: &mut SocketSource, bytes: &[u8], seconds: u64) -> bool {
+    writes(said, bytes)
+        && reads(input, bytes.len())
+        && input.request_limit() == Duration::from_secs(seconds)
+}
+
+/// A head has its own limit until it is whole. Empty lines before it end none.
+#[test]
+fn the_limit_of_a_head(rt: HostRuntime) {
+    let (mut caller, mut worker) = connected(&rt, rt, b"\r\n\r\n");
+    check(&rt, reads(&mut worker.input, 4), "empty lines");
+    let input = &mut worker.input;
+    for (bytes, seconds) in &PIECES {
+        let is_so = may_take(&mut caller.said, input, bytes, *seconds);
+        check(&rt, is_so, "a limit");
+    }
+    drop(caller);
+    drop(worker);
 }
 
 /// Whether a read of a target for the caller of an input gives as many bytes.

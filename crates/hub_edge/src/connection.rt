@@ -26,6 +26,9 @@ const FIRST_BYTES: usize = 4096;
 /// Where the head of a request ends, by its lines.
 #[derive(Clone, Copy)]
 struct HeadEnd {
+    /// Whether a line came that isn't empty. Empty ones before it are no part of the head.
+    has_begun: bool,
+    /// Whether the line that comes is empty so far, behind another one.
     line_is_empty: bool,
     is_past: bool,
 }
@@ -33,18 +36,19 @@ struct HeadEnd {
 impl HeadEnd {
     fn new() -> HeadEnd {
         HeadEnd {
+            has_begun: false,
             line_is_empty: false,
             is_past: false,
         }
     }
 
-    /// Takes the next bytes: an empty line ends the head.
+    /// Takes the next bytes: an empty line behind another one ends the head.
     fn note(&mut self, bytes: &[u8]) {
         if self.is_past {
             return;
         }
         // most heads come whole, and nothing behind them
-        if let [.., b'\n', b'\r', b'\n'] = bytes {
+        if let [b'A'..=b'Z', .., b'\n', b'\r', b'\n'] = bytes {
             self.is_past = true;
             return;
         }
@@ -54,9 +58,12 @@ impl HeadEnd {
                     self.is_past = true;
                     return;
                 }
-                b'\n' => self.line_is_empty = true,
+                b'\n' => self.line_is_empty = self.has_begun,
                 b'\r' => {}
-                _ => self.line_is_empty = false,
+                _ => {
+                    self.has_begun = true;
+                    self.line_is_empty = false;
+                }
             }
         }
     }
@@ -108,6 +115,11 @@ impl Drop for SocketSource {
 }
 
 impl SocketSource {
+    /// How long the request that is being read may take in all, by what has come of it.
+    pub fn request_limit(&self) -> Duration {
+        self.head.limit()
+    }
+
     /// The peer, as the caller for whom a target is asked. The connection stays open for as long as this is kept.
     pub fn caller(&self) -> Option<Caller> {
         match Arc::try_clone(&self.line) {
@@ -152,7 +164,9 @@ impl SocketSource {
         let Some(begun) = self.begun else {
             return Ok(true);
         };
-        if self.line.awaits_rest(door, begun, self.head.limit(), crowded_limit(self.came))? {
+        let limit = self.head.limit();
+        let crowded = crowded_limit(self.came);
+        if self.line.awaits_rest(door, begun, limit, crowded)? {
             return Ok(true);
         }
         Err(io::Error::from(ErrorKind::TimedOut))
