@@ -224,6 +224,31 @@ fn a_trickling_request(rt: HostRuntime) {
     drop(slow);
 }
 
+/// Writes a long reply until a write fails, and says whether one did.
+fn is_let_go(output: &mut SocketSink) -> bool {
+    let piece = [b'x'; 16384];
+    for _ in 0..4096 {
+        if output.write(&piece).is_err() {
+            return true;
+        }
+    }
+    false
+}
+
+/// A reply of which nothing is taken makes room where another caller waits and nobody is free.
+#[test]
+fn a_reply_that_is_not_read(rt: HostRuntime) {
+    let (slow, mut worker) = connected(&rt, rt, b"GET / HTTP/1.1\r\n\r\n");
+    check(&rt, answers(&mut worker), "the beginning of a reply");
+    let other = another(&rt, rt, &worker.target);
+    let begun = Instant::now(&rt).expect(&rt, "the clock");
+    check(&rt, is_let_go(&mut worker.output), "it is let go");
+    check(&rt, took_at_most(&rt, begun, 15000), "within 15 seconds");
+    drop(other);
+    drop(worker);
+    drop(slow);
+}
+
 /// The pieces of a request behind empty lines, and how many seconds it may take by then.
 const PIECES: [(&[u8], u64); 5] = [
     (b"\r\n\r\n", HEAD_SECONDS),

@@ -3,8 +3,8 @@ ghost use Rattle.std.specs.Prelude.{◌≡◌, ◌≤◌, ℕ, length, None, fal
 ghost use Rattle.hub_devices.specs.Faults.{Rises};
 
 use crate::limits::{
-    CROWDED_BYTES, CROWDED_SECONDS, HEAD_SECONDS, REQUEST_SECONDS, TARGET_READ_SECONDS,
-    WAIT_SECONDS,
+    CROWDED_BYTES, CROWDED_SECONDS, CROWDED_WRITE_SECONDS, HEAD_SECONDS, READ_OR_WRITE_SECONDS,
+    REQUEST_SECONDS, TARGET_READ_SECONDS, WAIT_SECONDS,
 };
 use crate::line::Line;
 use crate::listener::{Door, set_writing};
@@ -165,7 +165,7 @@ impl SocketSource {
             return Ok(true);
         };
         let limit = self.head.limit();
-        let crowded = crowded_limit(self.came);
+        let crowded = crowded_limit(CROWDED_SECONDS, self.came);
         if self.line.awaits_rest(door, begun, limit, crowded)? {
             return Ok(true);
         }
@@ -212,9 +212,9 @@ impl SocketSource {
     }
 }
 
-/// How long a request may have taken by now of which so many bytes have come, while others wait.
-fn crowded_limit(came: u64) -> Duration {
-    Duration::from_secs((came / CROWDED_BYTES).saturating_add(CROWDED_SECONDS))
+/// How long a request may have taken by now, or the writes of a reply, while others wait: so many seconds, and those for its bytes.
+fn crowded_limit(seconds: u64, bytes: u64) -> Duration {
+    Duration::from_secs((bytes / CROWDED_BYTES).saturating_add(seconds))
 }
 
 /// One read of a stream.
@@ -261,7 +261,12 @@ impl Source for SocketSource {
 
 /// The side of a connection that takes bytes.
 pub struct SocketSink {
+    rt: HostRuntime,
     line: Arc<Line, Global>,
+    /// How long the writes have waited of the reply that is being written.
+    waited: Duration,
+    /// How many bytes of it went behind the first of these seconds: what the system keeps for a peer isn't what that one reads.
+    went: u64,
     /// Whether nothing was written yet.
     is_fresh: bool,
     /// Whether it is set how long a write may wait.
@@ -272,7 +277,10 @@ pub struct SocketSink {
 impl Drop for SocketSink {
     fn drop(self) {
         let SocketSink {
+            rt: _,
             line: _,
+            waited: _,
+            went: _,
             is_fresh: _,
             is_set: _,
             faults: _,
@@ -303,7 +311,37 @@ impl SocketSink {
             set_writing(self.line.stream())?;
             self.is_set = true;
         }
-        write_some(self.line.stream(), from)
+        for _ in 0..READ_OR_WRITE_SECONDS / WAIT_SECONDS {
+            if self.is_slow() && self.line.is_in_the_way() {
+                break;
+            }
+            match self.try_write(from) {
+                Err(error) if error.kind() == ErrorKind::WouldBlock => {}
+                written => return written,
+            }
+        }
+        Err(io::Error::from(ErrorKind::TimedOut))
+    }
+
+    /// One write, which waits for no longer than the system does at once.
+    fn try_write(&mut self, from: &[u8]) -> io::Result<usize>
+        ensures wrote { IfOk result (λ n. (n ≤ length from.now) × (1 ≤ n)) }
+        ensures same { self.new.faults ≡ self.old.faults }
+    {
+        let begun = Instant::now(&self.rt)?;
+        let written = write_some(self.line.stream(), from);
+        self.waited = self.waited.saturating_add(begun.elapsed(&self.rt)?);
+        if self.waited >= Duration::from_secs(CROWDED_SECONDS) {
+            if let Ok(count) = &written {
+                self.went = self.went.saturating_add(*count as u64);
+            }
+        }
+        written
+    }
+
+    /// Whether the peer takes a reply too slowly, if others wait.
+    fn is_slow(&self) -> bool {
+        self.waited > crowded_limit(CROWDED_WRITE_SECONDS, self.went)
     }
 }
 
@@ -333,7 +371,10 @@ impl Sink for SocketSink {
         if from.is_empty() {
             return Ok(0);
         }
-        self.line.note_reply(from);
+        if self.line.note_reply(from) {
+            self.waited = Duration::ZERO;
+            self.went = 0;
+        }
         match self.write_next(from) {
             Ok(count) => Ok(count),
             Err(_) => {
@@ -363,7 +404,10 @@ pub(crate) fn sides(
         faults: 0,
     };
     let sink = SocketSink {
+        rt,
         line: other,
+        waited: Duration::ZERO,
+        went: 0,
         is_fresh: true,
         is_set,
         faults: 0,

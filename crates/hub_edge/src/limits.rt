@@ -18,7 +18,11 @@ pub const CROWDED_MILLIS: u64 = 100;
 /// How many seconds a request may take from its first byte on while a caller waits and no worker is free, beside those for its bytes.
 pub const CROWDED_SECONDS: u64 = 2;
 
-/// How many bytes of a request give it another second then.
+/// How many seconds the writes of a reply may wait in all then, beside those for its bytes. The system takes them in large pieces where a
+/// peer reads slowly.
+pub const CROWDED_WRITE_SECONDS: u64 = 10;
+
+/// How many bytes of a request or a reply give it another second then.
 pub const CROWDED_BYTES: u64 = 16384;
 
 /// How many milliseconds a peer has to take a refusal whose request wasn't read to its end.

@@ -62,12 +62,20 @@ impl Line {
         }
     }
 
-    /// Notes bytes that are written. A reply begins with the line of its status.
-    pub(crate) fn note_reply(&self, bytes: &[u8]) {
-        if self.is_tunnel() {
-            return;
+    /// Whether it holds a worker that another caller waits for. Tunnels hold theirs for long, and a target has none.
+    pub(crate) fn is_in_the_way(&self) -> bool {
+        match self.door() {
+            Some(door) => !self.is_tunnel() && door.is_crowded(),
+            None => false,
         }
-        self.replied.store(true, Ordering::SeqCst);
+    }
+
+    /// Notes bytes that are written. A reply begins with the line of its status. Gives whether nothing of it was written before.
+    pub(crate) fn note_reply(&self, bytes: &[u8]) -> bool {
+        if self.is_tunnel() {
+            return false;
+        }
+        let is_begun = self.replied.swap(true, Ordering::SeqCst);
         if let [
             b'H',
             b'T',
@@ -85,6 +93,7 @@ impl Line {
             self.refused
                 .store(*class == b'4' || *class == b'5', Ordering::SeqCst);
         }
+        !is_begun
     }
 
     /// Whether a reply was the last thing. A read follows, so from then on it isn't.

@@ -4,7 +4,7 @@ ghost use Rattle.std.specs.Prelude.{◌≡◌, ℕ, None, IfOk};
 use crate::connection::{SocketSink, SocketSource, sides};
 use crate::limits::{
     ACCEPT_AGAIN_MILLIS, ACCEPT_TRIES, READ_OR_WRITE_SECONDS, SILENT_CALLERS, SILENT_SECONDS,
-    WAITING_CALLERS,
+    WAIT_SECONDS, WAITING_CALLERS,
 };
 use crate::sockets::{is_want, keep_alive, next_stream};
 use crate::waiting::{awaited, comes_first, is_over, is_there, millis_of};
@@ -333,9 +333,9 @@ fn set_up(listener: &TcpListener) -> io::Result<()> {
     Ok(())
 }
 
-/// Sets how long a write may wait, and that small ones are sent at once.
+/// Sets how long a write waits at once, and that small ones are sent at once.
 pub(crate) fn set_writing(stream: &TcpStream) -> io::Result<()> {
-    stream.set_write_timeout(Some(Duration::from_secs(READ_OR_WRITE_SECONDS)))?;
+    stream.set_write_timeout(Some(Duration::from_secs(WAIT_SECONDS)))?;
     stream.set_nodelay(true)
 }
 
