@@ -4,20 +4,21 @@
 # usage: docs/bench/guard.sh [PROGRAM] [behave] [browser] [socket] [measure]
 # `behave` sees to the tokens: nobody's, another's, one that is taken away, and a hub that ends. `browser` starts a guarded page of a
 # Python server from a hub and signs in there with headless Chromium, by nginx as a front that adds the user's token. `socket` sends
-# through a guard what a WebSocket sends. `measure` takes processor time, the caller's own too, and latency, in nine rounds of two seconds
-# for each of forwarded, asked and guarded, and says the medians. Without a word it does all four. PROGRAM is crates/hub/out/hub where it
-# isn't given. It needs Debian's curl, nginx-light, chromium, python3-websockets and wrk; what lacks is named and left out. It stands
-# outside the gate, writes to a new folder under /tmp alone, has a time limit on each step, ends what it started, and ends with status 1
-# at the first thing that isn't as it should be.
+# through a guard what a WebSocket sends. `measure` takes processor time and latency, in nine rounds of two seconds each, and says the
+# medians: of callers who ask the hub and then forward by a proxy, in turn, each on a connection of its own, with what the question takes
+# the caller; and of the same callers at a guard, which does both for them. Without a word it does all four. PROGRAM is crates/hub/out/hub
+# where it isn't given. It needs Debian's curl, nginx-light, chromium, python3-websockets and gcc; what lacks is named and left out. It
+# stands outside the gate, writes to a new folder under /tmp alone, has a time limit on each step, ends what it started, and ends with
+# status 1 at the first thing that isn't as it should be.
 set -eu
 top=$(cd "$(dirname "$0")/../.." && pwd)
 program=$top/crates/hub/out/hub
 case "${1:-}" in */*) program=$1; shift ;; esac
 [ $# -gt 0 ] || set -- behave browser socket measure
-exec /usr/bin/python3 - "$(realpath "$program")" "$@" <<'PYTHON'
+exec /usr/bin/python3 - "$top/docs/bench/callers.c" "$(realpath "$program")" "$@" <<'PYTHON'
 import asyncio, http.client, json, os, re, shutil, signal, socket, subprocess, sys, tempfile, threading, time
 
-program, parts = sys.argv[1], sys.argv[2:]
+callers_source, program, parts = sys.argv[1], sys.argv[2], sys.argv[3:]
 ANN, BOB, ROOT = "secret-token-ann", "secret-token-bob", "secret-token-root"
 place = tempfile.mkdtemp(prefix="guard_bench.")
 ROUNDS = 9
@@ -240,21 +241,19 @@ def spent(process):
     return (int(fields[11]) + int(fields[12])) / os.sysconf("SC_CLK_TCK")
 
 
-def load(what, port, path, callers, *processes):
-    """Calls for two seconds. Gives microseconds of processor time a request of each process, and of the caller, and calls a second."""
-    before, callers_before = [spent(it) for it in processes], os.times()
-    words = ["wrk", "-t1", f"-c{callers}", "-d2s", "--latency", "-H", "Connection: close", "-H", f"Authorization: token {ANN}", f"http://127.0.0.1:{port}{path}"]
-    said = subprocess.run(words, stdout=subprocess.PIPE, text=True, timeout=60).stdout
-    count = int(re.search(r"(\d+) requests in", said)[1])
-    if "Non-2xx" in said or not count:
-        sys.exit(f"not as it should be: {what}: {said}")
+def load(what, callers, targets, *processes):
+    """Callers make these requests in turn for two seconds. Gives microseconds of processor time a turn of each process, and of the
+    callers for each request."""
+    before = [spent(it) for it in processes]
+    words = [f"{place}/callers", str(callers), "2", *(word for port, path in targets for word in (str(port), path, ANN))]
+    ran = subprocess.run(words, stdout=subprocess.PIPE, stderr=subprocess.PIPE, text=True, timeout=60)
+    if ran.returncode or not int(ran.stdout.split()[0]):
+        sys.exit(f"not as it should be: {what}: {ran.stderr}")
+    count, *own, half, most = (float(it) for it in ran.stdout.split())
     each = [1e6 * (spent(it) - then) / count for it, then in zip(processes, before)]
-    now = os.times()
-    caller = 1e6 * (now.children_user + now.children_system - callers_before.children_user - callers_before.children_system) / count
-    half, most = (re.search(rf"{part}%\s+(\S+)", said)[1] for part in (50, 99))
-    print(f"{what}, {callers} callers: {' and '.join(f'{it:.0f}' for it in each)} microseconds of processor time a request, {caller:.0f} of the caller, {count / 2:.0f} a second,"
-          f" half within {half}, 99 of 100 within {most}", flush=True)
-    return each, caller
+    print(f"{what}, {callers} callers: {' and '.join(f'{it:.0f}' for it in each)} microseconds of processor time, {' and '.join(f'{it:.0f}' for it in own)}"
+          f" of the callers, {count / 2:.0f} a second, half within {half / 1000:.2f} ms, 99 of 100 within {most / 1000:.2f}", flush=True)
+    return each, own
 
 
 def spread(name, taken):
@@ -262,17 +261,20 @@ def spread(name, taken):
     print(f"    {name}: {taken[len(taken) // 2]:.0f} at the median, {taken[0]:.0f} to {taken[-1]:.0f}")
 
 
-def rounds(callers, forward, ask_hub, guarded):
-    """Rounds of the three in turn, so that what else the machine does meets all of them; the medians of the rounds."""
+def rounds(callers, ports, processes):
+    """Rounds of both in turn, so that what else the machine does meets both; the medians of the rounds."""
+    asked, passed, guarded = zip(ports, ("/hub/api/user?for=ann/", "/user/ann/", "/user/ann/"))
+    hub, proxy, guard = processes
     parts, apart, together, more = [], [], [], []
     for at in range(ROUNDS):
         print(f"round {at + 1} of {ROUNDS}")
-        passed, asked, let_in = forward(), ask_hub(), guarded()
-        parts.append((passed[0][0], asked[0][0], asked[1], *let_in[0]))
-        apart.append(passed[0][0] + asked[0][0] + asked[1])
-        together.append(sum(let_in[0]))
+        (of_hub, of_proxy), (question, _) = load("asked, then forwarded: the hub and the proxy", callers, (asked, passed), hub, proxy)
+        (of_same_hub, of_guard), _ = load("guarded: the hub and the guard", callers, (guarded,), hub, guard)
+        parts.append((of_proxy, of_hub, question, of_guard, of_same_hub))
+        apart.append(of_proxy + of_hub + question)
+        together.append(of_guard + of_same_hub)
         more.append(100 * (together[-1] / apart[-1] - 1))
-    print(f"{callers} callers, microseconds of processor time a request, {ROUNDS} rounds in turn:")
+    print(f"{callers} callers, microseconds of processor time a turn, {ROUNDS} rounds:")
     for name, taken in zip(("forwarded: the proxy", "asked: the hub", "asked: the caller", "guarded: the guard", "guarded: the hub"), zip(*parts)):
         spread(name, taken)
     spread("forwarded, and both ends of a question", apart)
@@ -281,8 +283,9 @@ def rounds(callers, forward, ask_hub, guarded):
 
 
 def measure():
-    if not (shutil.which("wrk") and shutil.which("nginx")):
-        return print("left out: there is no wrk or no nginx")
+    if not (shutil.which("cc") and shutil.which("nginx")):
+        return print("left out: there is no cc or no nginx")
+    subprocess.run(["cc", "-O2", "-pthread", "-o", f"{place}/callers", callers_source], check=True)
     hub, guard, page, proxy, api = free_ports(5)
     pages()
     os.makedirs(f"{place}/tmp", exist_ok=True)
@@ -302,12 +305,7 @@ def measure():
     check("the proxy has a route", ask(api, "/api/routes/user/ann", "secret-of-the-bench", "POST", entry)[0] == 201)
     print(f"load {os.getloadavg()[0]:.0f}, {os.cpu_count()} processors")
     for callers in (1, 16):
-        rounds(
-            callers,
-            lambda: load("forwarded: the proxy", proxy, "/user/ann/", callers, forwarding),
-            lambda: load("asked: the hub", hub, "/hub/api/user?for=ann/", callers, program_of_hub),
-            lambda: load("guarded: the guard and the hub", guard, "/user/ann/", callers, guarding, program_of_hub),
-        )
+        rounds(callers, (hub, proxy, guard), (program_of_hub, forwarding, guarding))
     end_all()
 
 
