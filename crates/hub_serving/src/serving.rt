@@ -227,6 +227,7 @@ fn serve_attended<W: ServeWorld, T: Trail<Entry = Change> + Send, R: Threads + W
     );
     let mut services = services;
     halt(&mut services, &mut outside.services);
+    outside.stopped = Some(services);
     let (store, trail) = book.into_parts();
     drop(trail);
     (end_of(alloc, &mut outside.output, count, served), store)

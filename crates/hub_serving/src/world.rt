@@ -10,6 +10,7 @@ use hub_run::HubKit;
 use keeper::keeper::Keeper;
 use service_doors::kit::ServiceKit;
 use services_run::running::Running;
+use services_run::services::Services;
 
 /// The types of the devices outside. What the workers use crosses threads.
 pub trait ServeWorld {
@@ -43,6 +44,8 @@ pub struct ServeOutside<W: ServeWorld> {
     pub doors: W::Doors,
     /// The devices by which services are started, routed and stopped.
     pub services: ServiceKit<W::Runs, W::Paths, W::Time>,
+    /// The services once they were stopped, for what is said to people of those that couldn't be. There are none before.
+    pub stopped: Option<Services>,
     /// How the command ended, for what is said to people.
     pub end: Option<End>,
 }

@@ -8,7 +8,7 @@ ghost use Rattle.hub_words.specs.Serve.{serve_read};
 use crate::paths::HubRoutes;
 use crate::services::service_kit;
 use crate::system::ServeSystem;
-use crate::telling::{announce, tell_refused, tell_served};
+use crate::telling::{announce, tell_left, tell_refused, tell_served};
 use hub_devices::files::Files;
 use hub_edge::clock::SystemClock;
 use hub_edge::ending::close_at_end_of_input;
@@ -129,6 +129,7 @@ fn outside<K: ProgramStore + Send, H: Threads + Wait + Copy + Send + Sync>(
         kits,
         doors: listener,
         services,
+        stopped: None,
         end: None,
     })
 }
@@ -143,7 +144,8 @@ fn status_at_end(status: u8, end: &Option<End>, closed: bool) -> u8
     }
 }
 
-/// Runs the command by its plan over these devices and this store, and says why it didn't do its work if it didn't.
+/// Runs the command by its plan over these devices and this store, and says which services couldn't be stopped, and why it didn't do its
+/// work if it didn't.
 fn run_over<K: ProgramStore + Send, H: Threads + Wait + Copy + Send + Sync>(
     rt: &HostRuntime,
     handle: &H,
@@ -159,6 +161,7 @@ fn run_over<K: ProgramStore + Send, H: Threads + Wait + Copy + Send + Sync>(
     requires kits { 0 < length outside.old.kits.items }
 {
     let status = run(handle, rt.alloc(), words, files, plan, outside);
+    tell_left(rt, plan, outside);
     let status = status_at_end(status, &outside.end, closer.is_closed());
     if status != 0 {
         tell_served(rt, outside);

@@ -1,5 +1,5 @@
-//! What is said on standard error: where the hub listens, and why it didn't serve what it was asked for. It changes no status, and where it
-//! can't be said nothing is.
+//! What is said on standard error: where the hub listens, which services it left, and why it didn't serve what it was asked for. It changes
+//! no status, and where it can't be said nothing is.
 use crate::system::ServeSystem;
 use hub_edge::files::SystemFiles;
 use hub_edge::listener::SocketListener;
@@ -10,6 +10,8 @@ use hub_serving::explain::{explain_end, explain_refusal};
 use hub_serving::plan::Plan;
 use hub_serving::world::ServeOutside;
 use hub_store::command::ProgramStore;
+use service_edge::programs::ServicePrograms;
+use services_run::place::State;
 use std::alloc::AllocError;
 use std::io::ErrorKind;
 use std::process::ExitCode;
@@ -85,6 +87,39 @@ pub(crate) fn tell_refused(
     };
     say_why(rt, said, more);
     ExitCode::from(why.status())
+}
+
+/// Why a service is left whose program has this number.
+fn why_left<H: Threads + Wait + Copy>(running: &ServicePrograms<H>, number: u64) -> &'static str {
+    if running.is_unstopped(number) {
+        "its program couldn't be stopped"
+    } else {
+        "its route couldn't be deleted"
+    }
+}
+
+/// Says of each service of the plan that is left at the end where its program listens, and why it is left.
+pub(crate) fn tell_left<K: ProgramStore + Send, H: Threads + Wait + Copy + Send + Sync>(
+    rt: &HostRuntime,
+    plan: &Plan,
+    outside: &ServeOutside<ServeSystem<K, H>>,
+) {
+    let Some(stopped) = &outside.stopped else {
+        return;
+    };
+    let managed = plan.managed.as_slice();
+    for at in 0..managed.len() {
+        // they stand in the order of the plan
+        let service = &managed[at];
+        if let Some((State::Loose(number), _)) = stopped.state(at) {
+            let name = service.name.as_str();
+            let target = service.target.as_text().as_str();
+            let why = why_left(&outside.services.running, number);
+            let _ = eprintln!(rt;
+                "hub: the service {name} is left, and its program at {target} may run on: {why}"
+            );
+        }
+    }
 }
 
 /// Says where the hub listens, over which store, and with how many configured users and workers.

@@ -29,6 +29,8 @@ pub struct ServicePrograms<H: Threads + Wait + Copy> {
     commands: Vec<Command<H>>,
     /// The programs of all commands, by the list.
     all: Programs<H>,
+    /// The numbers of those that couldn't be stopped when it was tried, as far as there was memory to note them.
+    unstopped: Vec<u64>,
     faults: u64,
 }
 
@@ -66,6 +68,7 @@ impl<H: Threads + Wait + Copy> ServicePrograms<H> {
             started,
             commands: Vec::new(rt.alloc()),
             all,
+            unstopped: Vec::new(rt.alloc()),
             faults: 0,
         })
     }
@@ -78,6 +81,20 @@ impl<H: Threads + Wait + Copy> ServicePrograms<H> {
             programs,
         })?;
         Ok(())
+    }
+
+    /// Whether the program of a number couldn't be stopped.
+    pub fn is_unstopped(&self, g: u64) -> bool {
+        self.unstopped.as_slice().contains(&g)
+    }
+
+    /// Notes that the program of a number couldn't be stopped.
+    fn note_unstopped(&mut self, g: u64)
+        ensures { self.new.faults ≡ self.old.faults }
+    {
+        if !self.is_unstopped(g) {
+            let _ = self.unstopped.push(g);
+        }
     }
 
     /// Starts the program of a service, if it has one.
@@ -138,6 +155,7 @@ impl<H: Threads + Wait + Copy> Running for ServicePrograms<H> {
         match self.all.stop(g, target) {
             Ok(()) => Ok(()),
             Err(_) => {
+                self.note_unstopped(g);
                 self.faults = self.faults.saturating_add(1);
                 Err(Failed)
             }

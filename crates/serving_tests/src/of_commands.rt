@@ -197,6 +197,7 @@ fn outside(rt: &impl Abort, alloc: Global, command: &Command) -> MemOutside
         kits: kits(rt, alloc),
         doors: doors(rt, alloc, command.failing_accept),
         services: service_kit(rt, alloc, command.polls, command.failing_path),
+        stopped: None,
         end: None,
     }
 }

@@ -5,6 +5,7 @@ use crate::in_memory::NEVER;
 use crate::of_commands::{Command, MemOutside, ended};
 use hub_devices::calls::{Routing, Told};
 use services_run::calls::ServiceCall;
+use services_run::place::State;
 
 /// One service that has a program, and one that has none.
 const SERVICES: &str =
@@ -77,10 +78,17 @@ fn is_tended(outside: &MemOutside) -> bool {
     }
 }
 
+/// The state in which the command leaves the service that has a program.
+fn state_at_the_end(outside: &MemOutside) -> Option<State> {
+    let (state, _) = outside.stopped.as_ref()?.state(0)?;
+    Some(state)
+}
+
 #[test]
 fn a_service_is_started_asked_and_stopped(rt: HostRuntime) {
     let (so, outside) = ended(&rt, rt.alloc(), &WITH_SERVICE);
-    let holds = so & is_tended(&outside);
+    let is_down = matches!(state_at_the_end(&outside), Some(State::Down));
+    let holds = so & is_tended(&outside) & is_down;
     drop(outside);
     check(&rt, holds, "one start, one poll, one stop");
 }
@@ -121,7 +129,8 @@ fn is_left(outside: &MemOutside) -> bool {
 #[test]
 fn a_program_whose_route_stays_is_not_stopped(rt: HostRuntime) {
     let (so, outside) = ended(&rt, rt.alloc(), &ROUTE_STAYS);
-    let holds = so & is_left(&outside);
+    let is_loose = matches!(state_at_the_end(&outside), Some(State::Loose(1)));
+    let holds = so & is_left(&outside) & is_loose;
     drop(outside);
     check(&rt, holds, "one start, one poll, no stop");
 }
