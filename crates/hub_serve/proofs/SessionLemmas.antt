@@ -19,7 +19,7 @@ use Rattle.hub_run.specs.Gained.{turn_gain}
 use Rattle.hub_run.specs.declared.served.Served.{Served}
 use Rattle.hub_run.specs.declared.served.Served.TheVariants.{Ended, Cut, Closed}
 use Rattle.server_work.specs.Gains.{Gain, Gains, sum_of}
-use Rattle.hub_serve.specs.Sessions.{AreServed, EndsOver, EndsAsConnection, Session, gained, session_of, sessions_of, with_gains}
+use Rattle.hub_serve.specs.Sessions.{AreServed, IsConnectionOver, EndsAsConnection, Session, gained, session_of, sessions_of, with_gains}
 use Rattle.hub_serve.specs.Sessions as told
 use Rattle.hub_serve.specs.Shifts.{IsServed, IsWhole, all_own, count_of, own_of, shifts_of, split_from}
 use Rattle.hub_serve.specs.Shifts as shift
@@ -44,7 +44,7 @@ ends_gain start x left held y left' held' (Err (ReadFault n)) h = (sum_of (map t
 ends_gain start x left held y left' held' (Err (WriteFault n)) h = (sum_of (map turn_gain (h.0 ++ h.1 ∷ [])), turns_gain x y (h.0 ++ h.1 ∷ []) h.8)
 
 -- the base stays, and the own entries grow
-session_gains : (start : Start) (s : Session) → EndsOver start s
+session_gains : (start : Start) (s : Session) → IsConnectionOver start s
     → (s.after.pass.base ≡ s.before.pass.base) × (s.after.pass.mine ≡ s.before.pass.mine ++ gained s)
 session_gains start s h =
     let gain = ends_gain start s.before s.left s.held s.after s.left_after s.held_after s.ended h in
@@ -77,15 +77,15 @@ module _ {S P C R I O : Type 0} (to_come : C → Option (ℕ → ℕ)) (draws : 
   on_from c (d ∷ ds) h = (h.0, h.2)
 
   line : (start : Start) (p : PassState Entry Start) (cs : List Conn) → p.base ≡ Some start → shift.GoFrom p cs → All IsDone cs
-      → All (EndsOver start) (map session cs) × (own_of p cs ≡ p.mine ++ flat_map gained (map session cs))
-  line start p [] base h done = (All-nil (EndsOver start), sym (append-nil p.mine))
+      → All (IsConnectionOver start) (map session cs) × (own_of p cs ≡ p.mine ++ flat_map gained (map session cs))
+  line start p [] base h done = (All-nil (IsConnectionOver start), sym (append-nil p.mine))
   line start p (c ∷ cs) base h done =
       let first : c.before.pass.value.base ≡ Some start = ap (λ q. q.base) (sym h.0) ∙ base in
-      let ended : EndsOver start (session c) = (All-head IsDone c cs done).1 start first in
+      let ended : IsConnectionOver start (session c) = (All-head IsDone c cs done).1 start first in
       let gains = session_gains start (session c) ended in
       let rest = line start c.after.pass.value cs (gains.0 ∙ first) (on_from c cs h.1) (All-tail IsDone c cs done) in
       let more = flat_map gained (map session cs) in (
-        All-cons (EndsOver start) (session c) (map session cs) ended rest.0,
+        All-cons (IsConnectionOver start) (session c) (map session cs) ended rest.0,
         rest.1 ∙ ap (λ l. l ++ more) gains.1 ∙ append_assoc c.before.pass.value.mine (gained (session c)) more
             ∙ ap (λ q. q.mine ++ (gained (session c) ++ more)) (sym h.0),
       )
@@ -124,8 +124,8 @@ module _ {S P C R I O : Type 0} (to_come : C → Option (ℕ → ℕ)) (draws : 
       let css = shifts_of tally in
       record {
         count = counts css ∙ count;
-        each = All-map (λ ss. All (EndsOver start) ss) (λ cs. map session cs) css
-            (All-weaker (IsAll (split_from p)) (λ cs. All (EndsOver start) (map session cs)) (λ cs w. (line start (split_from p) cs base w.0 w.1).0) css all);
+        each = All-map (λ ss. All (IsConnectionOver start) ss) (λ cs. map session cs) css
+            (All-weaker (IsAll (split_from p)) (λ cs. All (IsConnectionOver start) (map session cs)) (λ cs w. (line start (split_from p) cs base w.0 w.1).0) css all);
         follow = All-map (told.GoFrom p) (λ cs. map session cs) css
             (All-weaker (IsAll (split_from p)) (λ cs. told.GoFrom p (map session cs)) (λ cs w. goes_from p cs w.0) css all);
         whole = ap (placed 0) seen ∙ sym own ∙ mine ∙ owns start p p.mine css base all;

@@ -28,8 +28,8 @@ pub record Session : Type 0 where
   pub ended : Result Served SessionFault
 
 -- The connection ended as connections do for a book that began with `start`
-abbrev pub EndsOver : Start → Session → Type 0
-EndsOver start s = ConnectionEnds start s.before s.left s.held s.after s.left_after s.held_after s.ended
+abbrev pub IsConnectionOver : Start → Session → Type 0
+IsConnectionOver start s = ConnectionEnds start s.before s.left s.held s.after s.left_after s.held_after s.ended
 
 -- what the devices of a worker tell: the moments and the draws to come, the calls of the spawner and of the route link, and the faults
 pub record DevicesTold : Type 0 where
@@ -75,7 +75,7 @@ with_gains mine (ss ∷ rest) = with_gains (merged mine (flat_map gained ss)) re
 pub record AreServed (start : Start) (p : PassState Entry Start) (entries : List Entry) (number : ℕ) (workers : List (List Session)) : Type
     0 where
   pub count : count_of workers ≡ number
-  pub each : All (λ ss. All (EndsOver start) ss) workers
+  pub each : All (λ ss. All (IsConnectionOver start) ss) workers
   pub follow : All (GoFrom p) workers
   pub whole : placed 0 entries ≡ with_gains p.mine workers
 

@@ -2,7 +2,7 @@
 ghost use Rattle.std.specs.Prelude.{◌≡◌, ◌==◌, ◌≤◌, ◌<◌, true, [], All, Some, length, is_ok, Err, IfErr};
 ghost use mathlib.Core.List.{IsPrefix};
 ghost use Rattle.hub_serve.specs.Ends.{IsFault};
-ghost use Rattle.hub_serve.specs.Given.{Gave};
+ghost use Rattle.hub_serve.specs.Given.{GaveMore};
 ghost use Rattle.hub_serve.specs.Shifts.{AreOf, IsWhole, all_own, count_of, kit_after, kit_before, shifts_of, split_from};
 
 use crate::doors::{Doors, Doorway, Front};
@@ -57,7 +57,7 @@ pub(crate) fn serve_as<
     ensures begins { IsPrefix pass.old.seen pass.new.seen }
     ensures counted { pass.old.faults ≤ pass.new.faults }
     ensures same_reference { result.1.listener.ghost_name ≡ front.entry.listener.ghost_name }
-    ensures given { Gave (L.given front.entry.listener.now) tally.new.count (L.given result.1.listener.now) }
+    ensures given { GaveMore (L.given front.entry.listener.now) tally.new.count (L.given result.1.listener.now) }
     ensures most { tally.new.count ≤ connections }
     ensures all { is_ok result.0 ≡ (tally.new.count == connections) }
     ensures fault { IfErr result.0 (IsFault tally.new.count (L.faults front.entry.listener.now) (L.faults result.1.listener.now)) }

@@ -3,7 +3,7 @@ ghost use Rattle.std.specs.Prelude.{◌≡◌, ◌==◌, ◌≤◌, ◌<◌, tru
 ghost use mathlib.Core.List.{IsPrefix};
 ghost use Rattle.hub_core.specs.Visits.{entries_of};
 ghost use Rattle.hub_serve.specs.Ends.{IsFault};
-ghost use Rattle.hub_serve.specs.Given.{Gave};
+ghost use Rattle.hub_serve.specs.Given.{GaveMore};
 ghost use Rattle.hub_serve.specs.Sessions.{AreServed, sessions_of};
 ghost use Rattle.hub_serve.specs.Shifts.{AreOf, kit_after, kit_before, shifts_of};
 
@@ -69,7 +69,7 @@ pub fn serve<
     ensures begins { IsPrefix pass.seen (entries_of result.0) }
     ensures base { pass.base ≡ Some result.0.start }
     ensures counted { pass.faults ≤ result.0.faults }
-    ensures given { Gave (L.given doors.old) result.1.count (L.given doors.new) }
+    ensures given { GaveMore (L.given doors.old) result.1.count (L.given doors.new) }
     ensures most { result.1.count ≤ connections }
     ensures all { is_ok result.2 ≡ (result.1.count == connections) }
     ensures fault { IfErr result.2 (IsFault result.1.count (L.faults doors.old) (L.faults doors.new)) }

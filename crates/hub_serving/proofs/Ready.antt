@@ -20,8 +20,8 @@ use Rattle.hub_machine.specs.KeptRows.{Keeps}
 use Rattle.hub_run.specs.Turns.{Faults, View}
 use Rattle.hub_adopt.specs.Adopting.{Looks, TakesBack}
 use Rattle.hub_serve.specs.Ends.{IsFault}
-use Rattle.hub_serve.specs.Given.{Gave}
-use Rattle.hub_serve.specs.Sessions.{AreServed, DevicesTold, EndsOver as EndsSession, GoFrom, Session, devices_after, devices_before, devices_of, session_of, sessions_of}
+use Rattle.hub_serve.specs.Given.{GaveMore}
+use Rattle.hub_serve.specs.Sessions.{AreServed, DevicesTold, IsConnectionOver, GoFrom, Session, devices_after, devices_before, devices_of, session_of, sessions_of}
 use Rattle.hub_serve.specs.Shifts.{AreOf, Spans, kit_after, kit_before, shifts_of}
 use Rattle.hub_serve.specs.declared.serving.ServeFault.{ServeFault}
 use Rattle.hub_serve.specs.declared.serving.ServeFault.TheVariants as fault
@@ -36,7 +36,7 @@ use Rattle.hub_main.specs.Served.{HasKept, kit_in}
 use Rattle.hub_main.specs.Told.{KitTold}
 use Rattle.hub_main.specs.declared.cause.Cause.TheVariants.{Memory}
 use Rattle.hub_main.proofs.Passes.{last_state}
-use Rattle.hub_serving.specs.Hall.{DoorsTold, Hall, IsQuiet, IsUnserved, SidesTell, at_view, view_in}
+use Rattle.hub_serving.specs.Hall.{DoorsTold, Hall, IsQuiet, NothingAccepted, SidesTell, at_view, view_in}
 use Rattle.service_doors.specs.Tending.{ServicesTold}
 use Rattle.hub_serving.specs.Ends.{End, IsWritten, served_line, stream_told}
 use Rattle.hub_serving.specs.Served.{AreGiven, AreServedBy, Attends, EndsBy, EndsDesk, EndsOver, EndsReady, EndsSynced, HasServed, IsUntouched, Serves, Syncs, served_by}
@@ -48,7 +48,7 @@ use Rattle.hub_serving.specs.declared.plan.Plan.{Plan}
 pub still : (h : Hall) → IsQuiet h h
 still h = record { output = refl; doors = refl; clock = refl; kit = refl; kits = refl; services = refl }
 
-pub calm : (h : Hall) → IsUnserved h h
+pub calm : (h : Hall) → NothingAccepted h h
 calm h = record { output = refl; doors = refl; clock = refl; kit = refl }
 
 -- ---- how the serving ended
@@ -87,7 +87,7 @@ module _ {O D : Type 0} (held : O → Option (List ℕ)) (write_faults : O → �
   after = record { output = stream_told held write_faults o'; doors = doors_told given door_faults d'; clock = clock; kit = kit; kits = kits'; services = s' }
 
   pub serves : (connections tally count : ℕ) (served : Result Unit ServeFault) (end : End) → count ≡ tally
-      → Gave (given d) tally (given d') → tally ≤ connections → is_ok served ≡ (tally == connections)
+      → GaveMore (given d) tally (given d') → tally ≤ connections → is_ok served ≡ (tally == connections)
       → IfErr served (IsFault tally (door_faults d) (door_faults d'))
       → (served ≡ Err fault.Memory → (given d' ≡ given d) × (door_faults d' ≡ door_faults d))
       → IfOk end (λ e. (e.count ≡ count) × (e.failed ≡ not (is_ok served))
@@ -96,7 +96,7 @@ module _ {O D : Type 0} (held : O → Option (List ℕ)) (write_faults : O → �
       → (served ≡ Err fault.Memory → is_ok end ≡ false) → Serves connections before after end
   serves connections tally count served (Ok e) is gave most all faults quiet told untold begun =
       let same : e.count ≡ tally = told.0 ∙ is in record {
-        given = subst (λ (n : ℕ). Gave (given d) n (given d')) (sym same) gave;
+        given = subst (λ (n : ℕ). GaveMore (given d) n (given d')) (sym same) gave;
         most = subst (λ (n : ℕ). n ≤ connections) (sym same) most;
         all = ap not told.1 ∙ twice (is_ok served) ∙ all ∙ ap (λ (n : ℕ). n == connections) (sym same);
         fault = λ failed. fault_of served tally (door_faults d) (door_faults d') faults (λ wanting. unlike _ refl (begun wanting)) (sym told.1 ∙ failed);
@@ -201,7 +201,7 @@ none_served Sides start pass entries alone whole own kits = (
   [],
   record {
     count = refl;
-    each = All-nil (λ (ss : List Session). All (EndsSession start) ss);
+    each = All-nil (λ (ss : List Session). All (IsConnectionOver start) ss);
     follow = All-nil (GoFrom pass);
     whole = ap (λ (e : List Entry). placed 0 e) (whole alone) ∙ sym (own alone);
   },

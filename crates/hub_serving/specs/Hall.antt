@@ -61,7 +61,7 @@ pub record IsQuiet (h h' : Hall) : Type 0 where
   pub services : h'.services ≡ h.services
 
 -- The same of all but the workers' devices and the services
-pub record IsUnserved (h h' : Hall) : Type 0 where
+pub record NothingAccepted (h h' : Hall) : Type 0 where
   pub output : h'.output ≡ h.output
   pub doors : h'.doors ≡ h.doors
   pub clock : h'.clock ≡ h.clock

@@ -19,12 +19,12 @@ use Rattle.hub_sync.specs.Syncing.{SyncTold}
 use Rattle.hub_sync.specs.declared.calls.Synced.{Synced}
 use Rattle.hub_sync.specs.declared.calls.SyncFault.{SyncFault}
 use Rattle.hub_sync.specs.declared.calls.SyncFault.TheVariants as sync
-use Rattle.hub_serve.specs.Given.{Gave}
+use Rattle.hub_serve.specs.Given.{GaveMore}
 use Rattle.hub_serve.specs.Sessions.{AreServed, DevicesTold, Session, devices_after, devices_before}
 use Rattle.hub_serve.specs.Shifts.{AreOf}
 use Rattle.hub_main.specs.Served.{HasKept}
 use Rattle.hub_main.specs.declared.cause.Cause.TheVariants.{Memory}
-use Rattle.hub_serving.specs.Hall.{Hall, IsQuiet, IsUnserved, at_view, view_in}
+use Rattle.hub_serving.specs.Hall.{Hall, IsQuiet, NothingAccepted, at_view, view_in}
 use Rattle.hub_config.specs.declared.config.ConfigManaged.{ConfigManaged}
 use Rattle.service_doors.specs.Tending.{Attended}
 use Rattle.hub_serving.specs.Services.{service_of}
@@ -36,7 +36,7 @@ use Rattle.hub_serving.specs.declared.plan.Plan.{Plan}
 -- As many connections were served as the listener gave: all that were asked for, unless its count of faults rose. The line tells their
 -- number, and the devices of the opening weren't asked. h is what is outside before, and h' after it
 pub record HasServed (connections : ℕ) (h h' : Hall) (end : Ended) : Type 0 where
-  pub given : Gave h.doors.given end.count h'.doors.given
+  pub given : GaveMore h.doors.given end.count h'.doors.given
   pub most : end.count ≤ connections
   pub all : not end.failed ≡ (end.count == connections)
   pub fault : end.failed ≡ true → Rises h.doors.faults h'.doors.faults
@@ -47,7 +47,7 @@ pub record HasServed (connections : ℕ) (h h' : Hall) (end : Ended) : Type 0 wh
 -- How so many connections were served, from h to h'; or memory was wanting before the first of them
 abbrev pub Serves : ℕ → Hall → Hall → End → Type 0
 Serves connections h h' (Ok end) = HasServed connections h h' end
-Serves connections h h' (Err why) = (why ≡ Because Memory) × IsUnserved h h'
+Serves connections h h' (Err why) = (why ≡ Because Memory) × NothingAccepted h h'
 
 -- The calls on the route link were those that bring its routes into step with the servers of the state which the pass then saw, and with
 -- the hub's own target `hub`, up to one that failed. The pass made no entry, and no other device was asked. x is what is known before and y

@@ -5,7 +5,7 @@ ghost use Rattle.hub_config.specs.Managed.{are_distinct};
 ghost use Rattle.hub_core.specs.Visits.{entries_of};
 ghost use Rattle.hub_core.specs.declared.start.Start.{Start};
 ghost use Rattle.hub_serve.specs.Ends.{IsFault};
-ghost use Rattle.hub_serve.specs.Given.{Gave};
+ghost use Rattle.hub_serve.specs.Given.{GaveMore};
 ghost use Rattle.hub_serve.specs.Sessions.{devices_of};
 ghost use Rattle.service_doors.specs.Tending.{Tends, services_told};
 ghost use Rattle.services_run.specs.New.{ArePlaced};
@@ -251,7 +251,7 @@ fn serve_services<W: ServeWorld, T: Trail<Entry = Change> + Send, R: Threads + W
     ensures begins { IsPrefix pass.seen (entries_of result.0) }
     ensures base { pass.base ≡ Some result.0.start }
     ensures counted { pass.faults ≤ result.0.faults }
-    ensures given { Gave (W.Doors.given doors.old) result.1 (W.Doors.given doors.new) }
+    ensures given { GaveMore (W.Doors.given doors.old) result.1 (W.Doors.given doors.new) }
     ensures most { result.1 ≤ connections }
     ensures all { is_ok result.2 ≡ (result.1 == connections) }
     ensures fault { IfErr result.2 (IsFault result.1 (W.Doors.faults doors.old) (W.Doors.faults doors.new)) }
@@ -324,7 +324,7 @@ fn serve_tended<
     ensures begins { IfSome left.new (λ l. IsPrefix pass.seen (entries_of l.0)) }
     ensures base { IfSome left.new (λ l. pass.base ≡ Some l.0.start) }
     ensures counted { IfSome left.new (λ l. pass.faults ≤ l.0.faults) }
-    ensures given { Gave N.given result.0 (W.Doors.given result.2.doors.now) }
+    ensures given { GaveMore N.given result.0 (W.Doors.given result.2.doors.now) }
     ensures most { result.0 ≤ connections }
     ensures all { is_ok result.1 ≡ (result.0 == connections) }
     ensures fault { IfErr result.1 (IsFault result.0 N.faults (W.Doors.faults result.2.doors.now)) }
