@@ -16,6 +16,7 @@ name_cmp = slice_cmp nat_cmp
 abbrev pub key_cmp : ServerKey → ServerKey → Ordering
 key_cmp a b = ordering_then (name_cmp a.user b.user) (name_cmp a.server b.server)
 
+-- keys that compare alike are one: the proof of a law of `Key`, which stands here since a source cites only what stands in specs/
 pub key_exact : IsAntisymmetric key_cmp
 key_exact a b h = ap (λ (p : List ℕ × List ℕ). record { user = p.0; server = p.1 })
     (exact_pairs name_cmp name_cmp exact_bytes exact_bytes (a.user, a.server) (b.user, b.server) h)

@@ -1,3 +1,4 @@
+-- The cells and the length of a text come back from its front. The model of `ShortText` cites these proofs, so they stand in specs/.
 use Rattle.std.proofs.Common.{◌≡◌, ℕ, List, length, take, arith}
 use Rattle.std.proofs.lemmas.Grind.{common_steps}
 use Rattle.hub_kit.specs.Padded.{IsPadded, padded}
