@@ -4,7 +4,7 @@ use Rattle.hub_devices.specs.Faults.{Rises}
 use Rattle.hub_devices.specs.Streams.{Appends}
 use Rattle.secret_files.specs.declared.secret_file.SecretError.{SecretError}
 use Rattle.secret_files.specs.declared.secret_file.SecretError.TheVariants as secret
-use Rattle.worker_hall.specs.Given.{Gave}
+use Rattle.worker_hall.specs.Given.{GaveMore}
 use Rattle.worker_hall.specs.declared.hall.HallFault.{HallFault}
 use Rattle.worker_hall.specs.declared.hall.HallFault.TheVariants as hall
 use Rattle.guard_serving.specs.Hall.{Hall}
@@ -46,7 +46,7 @@ ready = codes "ready\n"
 -- `ready` was written, and so many connections were taken, from h to h'
 pub record HasServed (h : Hall) (count : ℕ) (h' : Hall) : Type 0 where
   pub said : Appends h.held ready h'.held
-  pub gave : Gave h.given count h'.given
+  pub gave : GaveMore h.given count h'.given
 
 -- The output failed after a part of `ready`, and no connection was taken
 pub record IsUnsaid (h h' : Hall) : Type 0 where

@@ -2,7 +2,7 @@
 ghost use Rattle.std.specs.Prelude.{◌≡◌, ◌≤◌, ◌<◌, length, IsSome, OnOk, OnErr};
 ghost use Rattle.hub_devices.specs.Faults.{Rises};
 ghost use Rattle.hub_devices.specs.Streams.{Appends};
-ghost use Rattle.worker_hall.specs.Given.{Gave};
+ghost use Rattle.worker_hall.specs.Given.{GaveMore};
 ghost use Rattle.proxy_serving.specs.Ends.{IsFault, IsOver, IsSaid};
 ghost use Rattle.proxy_serving.specs.Ends as spec;
 
@@ -53,8 +53,8 @@ pub fn serve_proxy<
     requires kits { 0 < length kits.items }
     requires clocks { 0 < length clocks.items }
     ensures said { IsSaid (O.held output.old) (O.held output.new) result.fault }
-    ensures forwarded { Gave (L.given browsers.old) result.forwarded (L.given browsers.new) }
-    ensures answered { Gave (L.given api.old) result.answered (L.given api.new) }
+    ensures forwarded { GaveMore (L.given browsers.old) result.forwarded (L.given browsers.new) }
+    ensures answered { GaveMore (L.given api.old) result.answered (L.given api.new) }
     ensures fault { IsFault (L.faults browsers.old) (L.faults browsers.new) (L.faults api.old) (L.faults api.new)
         result.forwarded result.answered (O.faults output.old) (O.faults output.new) result.fault }
     ensures writes { O.faults output.old ≤ O.faults output.new }
@@ -116,8 +116,8 @@ fn serve_over<
     requires first { IsSome pass.others }
     requires kits { 0 < length kits.items }
     requires clocks { 0 < length clocks.items }
-    ensures forwarded { Gave (L.given browsers.old) result.forwarded (L.given browsers.new) }
-    ensures answered { Gave (L.given api.old) result.answered (L.given api.new) }
+    ensures forwarded { GaveMore (L.given browsers.old) result.forwarded (L.given browsers.new) }
+    ensures answered { GaveMore (L.given api.old) result.answered (L.given api.new) }
     ensures over { IsOver (L.faults browsers.old) (L.faults browsers.new) (L.faults api.old) (L.faults api.new)
         result.forwarded result.answered result.fault }
 {
@@ -153,8 +153,8 @@ fn serve_routes<
 ) -> ProxyEnd
     requires forwarders { 0 < length forwarders.items }
     requires servers { 0 < length servers.items }
-    ensures forwarded { Gave (L.given browsers.old) result.forwarded (L.given browsers.new) }
-    ensures answered { Gave (L.given api.old) result.answered (L.given api.new) }
+    ensures forwarded { GaveMore (L.given browsers.old) result.forwarded (L.given browsers.new) }
+    ensures answered { GaveMore (L.given api.old) result.answered (L.given api.new) }
     ensures over { IsOver (L.faults browsers.old) (L.faults browsers.new) (L.faults api.old) (L.faults api.new)
         result.forwarded result.answered result.fault }
 {
@@ -186,8 +186,8 @@ fn serve_both<
 ) -> ProxyEnd
     requires forwarders { 0 < length forwarders.old }
     requires servers { 0 < length servers.old }
-    ensures forwarded { Gave (L.given browsers.old) result.forwarded (L.given browsers.new) }
-    ensures answered { Gave (L.given api.old) result.answered (L.given api.new) }
+    ensures forwarded { GaveMore (L.given browsers.old) result.forwarded (L.given browsers.new) }
+    ensures answered { GaveMore (L.given api.old) result.answered (L.given api.new) }
     ensures over { IsOver (L.faults browsers.old) (L.faults browsers.new) (L.faults api.old) (L.faults api.new)
         result.forwarded result.answered result.fault }
 {

@@ -1,7 +1,7 @@
 //! The listener, which the workers take turns at under a lock.
 ghost use Rattle.std.specs.Prelude.{◌≡◌, ◌⊎◌, ◌≤◌, ◌+◌, ◌<◌, ◌^◌, ℕ, Option, IfSome, IfNone, true};
 ghost use Rattle.hub_devices.specs.Faults.{Rises};
-ghost use Rattle.worker_hall.specs.Given.{Gave};
+ghost use Rattle.worker_hall.specs.Given.{GaveMore};
 
 use hub_devices::listener::Listener;
 use std::marker::Brand;
@@ -56,7 +56,7 @@ pub(crate) struct Doors<'a, L: Listener, N: Doorway> {
     pub ghost same: { listener.ghost_name ≡ N.door },
     pub ghost adds_up: { taken.total + left ≡ N.most },
     pub ghost fits: { N.most < 2 ^ 64 },
-    pub ghost given: { Gave N.given taken.total (L.given listener.now) },
+    pub ghost given: { GaveMore N.given taken.total (L.given listener.now) },
     pub ghost counted: { N.faults ≤ L.faults listener.now },
     pub ghost cause: { failed ≡ true → Rises N.faults (L.faults listener.now) },
 }
@@ -122,7 +122,7 @@ impl<'a, L: Listener, N: Doorway> Doors<'a, L, N> {
         requires over { (self.left ≡ 0) ⊎ (self.failed ≡ true) }
         ensures same_reference { result.0.listener.ghost_name ≡ N.door }
         ensures adds_up { (result.2.total + result.1 ≡ N.most) × (N.most < 2 ^ 64) }
-        ensures given { Gave N.given result.2.total (L.given result.0.listener.now) }
+        ensures given { GaveMore N.given result.2.total (L.given result.0.listener.now) }
         ensures cause { (result.1 ≡ 0) ⊎ Rises N.faults (L.faults result.0.listener.now) }
     {
         let Doors {

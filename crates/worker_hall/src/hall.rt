@@ -1,7 +1,7 @@
 //! A listener's connections, from the first to the last.
 ghost use Rattle.std.specs.Prelude.{◌≡◌, ◌==◌, ◌≤◌, ◌<◌, length, is_ok, Err, IfErr};
 ghost use Rattle.worker_hall.specs.Ends.{IsFault};
-ghost use Rattle.worker_hall.specs.Given.{Gave};
+ghost use Rattle.worker_hall.specs.Given.{GaveMore};
 
 use crate::doors::{Doors, Doorway, Front};
 use crate::serves::Serves;
@@ -38,7 +38,7 @@ pub fn serve<
     connections: u64,
 ) -> (Tally<L>, Result<(), HallFault>)
     requires servers { 0 < length servers.old }
-    ensures given { Gave (L.given doors.old) result.0 (L.given doors.new) }
+    ensures given { GaveMore (L.given doors.old) result.0 (L.given doors.new) }
     ensures most { result.0 ≤ connections }
     ensures all { is_ok result.1 ≡ (result.0 == connections) }
     ensures fault { IfErr result.1 (IsFault result.0 (L.faults doors.old) (L.faults doors.new)) }
@@ -89,7 +89,7 @@ fn serve_as<
     requires most { (connections ≡ N.most) × (0 < connections) }
     requires none { tally.old ≡ 0 }
     ensures same_reference { result.1.listener.ghost_name ≡ front.entry.listener.ghost_name }
-    ensures given { Gave (L.given front.entry.listener.now) tally.new (L.given result.1.listener.now) }
+    ensures given { GaveMore (L.given front.entry.listener.now) tally.new (L.given result.1.listener.now) }
     ensures most { tally.new ≤ connections }
     ensures all { is_ok result.0 ≡ (tally.new == connections) }
     ensures fault { IfErr result.0 (IsFault tally.new (L.faults front.entry.listener.now) (L.faults result.1.listener.now)) }
