@@ -35,6 +35,15 @@ fn answer_once(listener: SocketListener) -> bool {
     reads(&mut input, REQUEST) & output.write(REPLY).is_ok()
 }
 
+/// Takes one connection, sends the reply to the request that comes, and keeps it until its caller goes. Tells whether it was asked this.
+fn answer_and_stay(listener: SocketListener) -> bool {
+    let mut listener = listener;
+    let Ok((mut input, mut output)) = listener.accept() else {
+        return false;
+    };
+    reads(&mut input, REQUEST) & output.write(REPLY).is_ok() & reads(&mut input, b"")
+}
+
 /// Takes one connection, and says nothing until its caller goes. Tells whether it was asked this.
 fn keep_silent(listener: SocketListener) -> bool {
     let mut listener = listener;
@@ -67,6 +76,19 @@ fn a_reply_to_its_end(rt: HostRuntime) {
     drop(link);
     drop(request);
     check(&rt, refused, "nobody listens");
+}
+
+#[test]
+fn a_reply_of_a_hub_that_stays(rt: HostRuntime) {
+    let (listener, target) = listen(&rt, rt);
+    let request = bytes(&rt, rt.alloc(), REQUEST);
+    let hub = thread::spawn(&rt, move || answer_and_stay(listener)).expect(&rt, "a thread");
+    let mut link = SocketHub::new(rt, target, Duration::from_secs(60));
+    let comes = replies(&mut link, &request);
+    drop(link);
+    drop(request);
+    check(&rt, comes, "a reply");
+    check(&rt, hub.join(&rt), "the request that comes");
 }
 
 /// Whether a request fails within a minute, and after this time at the soonest.

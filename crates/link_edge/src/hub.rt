@@ -1,7 +1,7 @@
 //! A hub behind a socket.
 ghost use Rattle.std.specs.Prelude.{◌≡◌, ℕ, None, ⊤};
 
-use crate::limits::REPLY_BYTES;
+use crate::limits::{END_MILLISECONDS, REPLY_BYTES};
 use http_wire::writes::write_all;
 use hub_devices::link_error::LinkError;
 use hub_devices::source::Source;
@@ -64,8 +64,21 @@ impl SocketHub {
     }
 }
 
+/// Waits a moment for the hub to end the connection: who ends it first keeps its port from others for a minute, and who asks needs a port
+/// of its own for each request, while a hub has one for all. What comes in place of the end is none of the reply.
+fn await_end(rt: &HostRuntime, input: &mut SocketSource) {
+    let Ok(begun) = Instant::now(rt) else {
+        return;
+    };
+    let moment = Duration::from_millis(END_MILLISECONDS);
+    if input.await_within(begun, moment).is_ok() {
+        let mut rest = [0u8; 1];
+        let _ = input.read(&mut rest);
+    }
+}
+
 /// All that comes within this time, up to the most that a reply may have. Where what came is a whole reply by the length that it says, its
-/// end isn't waited for.
+/// end is waited for no longer than a moment.
 fn read_to_end(rt: &HostRuntime, input: &mut SocketSource, limit: Duration) -> io::Result<Bytes> {
     let begun = Instant::now(rt)?;
     let mut reply = Bytes::new(rt.alloc());
@@ -84,6 +97,7 @@ fn read_to_end(rt: &HostRuntime, input: &mut SocketSource, limit: Duration) -> i
         }
         reply.push_all(&piece[..count])?;
         if has_come(reply.as_slice()) {
+            await_end(rt, input);
             return Ok(reply);
         }
     }

@@ -9,5 +9,9 @@ pub const REPLY_SECONDS: u64 = TARGET_READ_SECONDS;
 /// those who come in while services are tended.
 pub const PROXY_REPLY_SECONDS: u64 = 10;
 
+/// How many milliseconds the end of a connection may take behind a whole reply. A hub that was asked to ends it with the reply; what
+/// stands between and keeps it open has to cost nobody more than this.
+pub const END_MILLISECONDS: u64 = 100;
+
 /// How many bytes a reply may have.
 pub const REPLY_BYTES: usize = 16_777_216;
