@@ -8,6 +8,8 @@ HERE = os.path.dirname(os.path.realpath(__file__))
 SITE = os.path.realpath(os.environ.get("SITE") or os.path.expanduser("~/gorewhahu-site"))
 PROGRAM = os.path.realpath(os.environ.get("HUB") or f"{HERE}/../../crates/hub/out/hub")
 ADDRESS, MARK = "127.0.0.1", "GOREWHAHU_SITE"
+# how the words of an nginx that runs begin
+FRONT = "nginx: "
 SEATS = 36
 
 
@@ -81,15 +83,16 @@ def parent_of(number):
 
 
 def words_of(number):
-    """The words of a program of this site. nginx writes its name over its variables, and its words over its name."""
+    """The words of a program of this site. nginx writes over its variables: it is known by its folder, also a worker without its master."""
     try:
         with open(f"/proc/{number}/environ", "rb") as file:
             ours = f"{MARK}={SITE}".encode() in file.read().split(b"\0")
         with open(f"/proc/{number}/cmdline", "rb") as file:
             words = file.read().decode(errors="replace").rstrip("\0").split("\0")
+        ours = ours or words[0].startswith(FRONT) and os.readlink(f"/proc/{number}/cwd") == SITE
     except OSError:
         return None
-    return words if words != [""] and (ours or words[0].endswith(f" -c {SITE}/nginx.conf")) else None
+    return words if words != [""] and ours else None
 
 
 def processes():
