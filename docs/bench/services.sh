@@ -6,6 +6,8 @@
 # PROGRAM is the hub as `./run` links it (crates/hub/out/hub). It takes ten seconds, stands outside the gate, and writes into a new folder
 # under /tmp alone. It ends with status 1 at the first thing that isn't as it should be.
 set -eu
+# of a file that others may read a proxy says a line
+umask 077
 program=$(realpath "$1")
 exec python3 - "$program" <<'PYTHON'
 import json, os, shutil, signal, socket, subprocess, sys, tempfile, time, urllib.error, urllib.request
