@@ -44,10 +44,10 @@ pub(crate) fn own_hub(rt: &HostRuntime) -> io::Result<String> {
     }
 }
 
-/// Which programs are meant: those that were started for a target, and what they started.
+/// Which programs are meant: those that were started for a target, and not by another hub that runs, and what they started.
 #[derive(Clone, Copy)]
 pub(crate) struct Marked<'a> {
-    /// As which generation. `None`: as any, but not by another hub that runs.
+    /// As which generation. `None`: as any.
     pub(crate) generation: Option<u64>,
     pub(crate) target: &'a Target,
     /// The program, where it is a child that wasn't waited for. What is in its group is meant too, whatever its environment says.
@@ -177,7 +177,7 @@ fn is_meant(rt: &HostRuntime, environment: &[u8], marked: Marked<'_>) -> bool {
     let Some(mark) = value_of(environment, MARK_PREFIX) else {
         return false;
     };
-    is_mark(mark, marked) && (marked.generation.is_some() || is_left(rt, environment))
+    is_mark(mark, marked) && is_left(rt, environment)
 }
 
 /// The value of the first variable that begins so, in an environment: zeros stand between them.
