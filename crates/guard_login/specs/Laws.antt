@@ -53,7 +53,8 @@ GivesOnlyTraded =
     (door : Door) (head : Head) (given : Given) (draw : Option (List ℕ)) (token next : List ℕ)
     → (signed door head given draw).answer ≡ gives token next → Traded door head given (signed door head given draw).ask token next
 
--- a browser that gets its token goes on within the server's own paths
+-- A browser that gets its token goes on to a place that begins with the base of the server's paths. Behind the base it may have `..`, by
+-- which a browser leaves the base
 abbrev pub GoesOnlyWithin : Type 0
 GoesOnlyWithin =
     (door : Door) (head : Head) (given : Given) (draw : Option (List ℕ)) (token next : List ℕ)
