@@ -1,5 +1,5 @@
 -- One connection of a guard, once it was served.
-use Rattle.std.specs.Prelude.{ℕ, List, Option, Result}
+use Rattle.std.specs.Prelude.{◌≡◌, ℕ, List, Option, Result}
 use Rattle.hub_devices.specs.declared.link_error.LinkError.{LinkError}
 use Rattle.hub_kit.specs.declared.names.ServerKey.{ServerKey}
 use Rattle.hub_link.specs.Links.{Exchange, Asks}
@@ -12,23 +12,35 @@ use Rattle.guard_login.specs.Entries.{EnterEnds}
 use Rattle.guard_login.specs.declared.entries.Entered.{Entered}
 use Rattle.guard_login.specs.declared.door.Door.{Door}
 
+-- A guard beside one of its connections: whose it is (a server and its target, or a door), its link to the hub, its source of draws, and
+-- the connection
+pub record Guarding (D H R : Type 0) : Type 0 where
+  pub whose : D
+  pub link : H
+  pub random : R
+  pub place : Place
+
 module _ {H : Type 0} (asked : H → Option (List (List ℕ × Option (List ℕ)))) (does : H → List ℕ → Result (List ℕ) LinkError → H → Type 0)
     (faults : H → ℕ) where
-  -- one request was carried or refused by its token; `kept` was read behind it
-  pub record IsGuarded {X Y : Type 0} (key : ServerKey) (target : List ℕ) (sides : X → Y → Sides) (link link' : H) (old new : Place) : Type
-      0 where
+  -- One request was carried or refused by its token; `kept` was read behind it. Nothing was drawn, and the guard stands before the same
+  -- server, at the same target, from then on
+  pub record IsGuarded {R X Y : Type 0} (sides : X → Y → Sides) (old new : Guarding (ServerKey × List ℕ) H R) : Type 0 where
     pub asks : List Exchange
     pub kept : List ℕ
     pub result : Result (Carried X Y) SessionFault
-    pub chain : Asks asked does link asks link'
-    pub ends : GuardCarries key target sides asks (faults link) (faults link') old (record new { kept = kept }) result
+    pub chain : Asks asked does old.link asks new.link
+    pub ends : GuardCarries old.whose.0 old.whose.1 sides asks (faults old.link) (faults new.link) old.place
+        (record new.place { kept = kept }) result
+    pub same : (new.whose ≡ old.whose) × (new.random ≡ old.random)
 
   module _ {R : Type 0} (left : R → Option (List (List ℕ))) (fails : R → ℕ) where
-    -- one request was carried, refused, or took a step of a browser's sign-in; `kept` was read behind it
-    pub record IsSignedIn {X Y : Type 0} (door : Door) (sides : X → Y → Sides) (link link' : H) (random random' : R)
-        (old new : Place) : Type 0 where
+    -- One request was carried, refused, or took a step of a browser's sign-in; `kept` was read behind it. The guard has the same door from
+    -- then on
+    pub record IsSignedIn {X Y : Type 0} (sides : X → Y → Sides) (old new : Guarding Door H R) : Type 0 where
       pub asks : List Exchange
       pub kept : List ℕ
       pub result : Result (Entered X Y) SessionFault
-      pub chain : Asks asked does link asks link'
-      pub ends : EnterEnds left fails random random' sides door asks (faults link) (faults link') old (record new { kept = kept }) result
+      pub chain : Asks asked does old.link asks new.link
+      pub ends : EnterEnds left fails old.random new.random sides old.whose asks (faults old.link) (faults new.link) old.place
+          (record new.place { kept = kept }) result
+      pub same : new.whose ≡ old.whose

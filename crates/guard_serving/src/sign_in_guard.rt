@@ -27,7 +27,7 @@ pub struct SignInGuard<'a, H: HubLink, R: Random, U: Upstream> {
 
 impl<'a, H: HubLink, R: Random, U: Carrier<I, O>, I: Source, O: Shuts> Serves<I, O>
     for SignInGuard<'a, H, R, U> {
-    ghost served = { λ g i o g' i' o'. IsSignedIn H.asked H.does H.faults R.left R.faults g.door.now
+    ghost served = { λ g i o g' i' o'. IsSignedIn H.asked H.does H.faults R.left R.faults
         (λ reads writes. record {
           left = U.Reads.left reads;
           held = U.Writes.held writes;
@@ -36,24 +36,33 @@ impl<'a, H: HubLink, R: Random, U: Carrier<I, O>, I: Source, O: Shuts> Serves<I,
           upper_shut = U.Writes.closed writes;
           lower_shut = O.closed o';
         })
-        g.kit.link g'.kit.link g.kit.random g'.kit.random
         (record {
-          left = I.left i;
-          kept = [];
-          held = O.held o;
-          told = U.told g.kit.upstream;
-          reads = I.faults i;
-          links = U.faults g.kit.upstream;
-          writes = O.faults o;
+          whose = g.door.now;
+          link = g.kit.link;
+          random = g.kit.random;
+          place = record {
+            left = I.left i;
+            kept = [];
+            held = O.held o;
+            told = U.told g.kit.upstream;
+            reads = I.faults i;
+            links = U.faults g.kit.upstream;
+            writes = O.faults o;
+          };
         })
         (record {
-          left = I.left i';
-          kept = [];
-          held = O.held o';
-          told = U.told g'.kit.upstream;
-          reads = I.faults i';
-          links = U.faults g'.kit.upstream;
-          writes = O.faults o';
+          whose = g'.door.now;
+          link = g'.kit.link;
+          random = g'.kit.random;
+          place = record {
+            left = I.left i';
+            kept = [];
+            held = O.held o';
+            told = U.told g'.kit.upstream;
+            reads = I.faults i';
+            links = U.faults g'.kit.upstream;
+            writes = O.faults o';
+          };
         }) };
 
     fn serve<W: Wait>(&mut self, _rt: &W, alloc: Global, input: &mut I, output: &mut O) {

@@ -29,7 +29,7 @@ pub struct TokenGuard<'a, H: HubLink, R: Random, U: Upstream> {
 
 impl<'a, H: HubLink, R: Random, U: Carrier<I, O>, I: Source, O: Shuts> Serves<I, O>
     for TokenGuard<'a, H, R, U> {
-    ghost served = { λ g i o g' i' o'. IsGuarded H.asked H.does H.faults g.key.now g.target.now
+    ghost served = { λ g i o g' i' o'. IsGuarded H.asked H.does H.faults
         (λ reads writes. record {
           left = U.Reads.left reads;
           held = U.Writes.held writes;
@@ -38,24 +38,33 @@ impl<'a, H: HubLink, R: Random, U: Carrier<I, O>, I: Source, O: Shuts> Serves<I,
           upper_shut = U.Writes.closed writes;
           lower_shut = O.closed o';
         })
-        g.kit.link g'.kit.link
         (record {
-          left = I.left i;
-          kept = [];
-          held = O.held o;
-          told = U.told g.kit.upstream;
-          reads = I.faults i;
-          links = U.faults g.kit.upstream;
-          writes = O.faults o;
+          whose = (g.key.now, g.target.now);
+          link = g.kit.link;
+          random = g.kit.random;
+          place = record {
+            left = I.left i;
+            kept = [];
+            held = O.held o;
+            told = U.told g.kit.upstream;
+            reads = I.faults i;
+            links = U.faults g.kit.upstream;
+            writes = O.faults o;
+          };
         })
         (record {
-          left = I.left i';
-          kept = [];
-          held = O.held o';
-          told = U.told g'.kit.upstream;
-          reads = I.faults i';
-          links = U.faults g'.kit.upstream;
-          writes = O.faults o';
+          whose = (g'.key.now, g'.target.now);
+          link = g'.kit.link;
+          random = g'.kit.random;
+          place = record {
+            left = I.left i';
+            kept = [];
+            held = O.held o';
+            told = U.told g'.kit.upstream;
+            reads = I.faults i';
+            links = U.faults g'.kit.upstream;
+            writes = O.faults o';
+          };
         }) };
 
     fn serve<W: Wait>(&mut self, _rt: &W, alloc: Global, input: &mut I, output: &mut O) {
