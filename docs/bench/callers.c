@@ -43,7 +43,8 @@ static int connected(int port) {
     struct sockaddr_in to = {.sin_family = AF_INET, .sin_port = htons(port), .sin_addr.s_addr = htonl(INADDR_LOOPBACK)};
     struct timeval limit = {.tv_sec = 10};
     int line = socket(AF_INET, SOCK_STREAM | SOCK_CLOEXEC, 0);
-    if (line < 0 || setsockopt(line, SOL_SOCKET, SO_RCVTIMEO, &limit, sizeof limit) || setsockopt(line, SOL_SOCKET, SO_SNDTIMEO, &limit, sizeof limit)
+    if (line < 0 || setsockopt(line, SOL_SOCKET, SO_RCVTIMEO, &limit, sizeof limit)
+        || setsockopt(line, SOL_SOCKET, SO_SNDTIMEO, &limit, sizeof limit)
         || connect(line, (struct sockaddr *)&to, sizeof to))
         fail("a connection");
     return line;
@@ -102,7 +103,8 @@ int main(int count, char **words) {
     for (char **word = words + 3; *word; word += 3) {
         struct request *next = &requests[request_count++];
         next->port = atoi(word[0]);
-        next->length = snprintf(next->text, sizeof next->text, "GET %s HTTP/1.1\r\nHost: 127.0.0.1:%s\r\nAuthorization: token %s\r\nConnection: close\r\n\r\n",
+        next->length = snprintf(next->text, sizeof next->text,
+            "GET %s HTTP/1.1\r\nHost: 127.0.0.1:%s\r\nAuthorization: token %s\r\nConnection: close\r\n\r\n",
                                 word[1], word[0], word[2]);
     }
     struct caller *all = calloc(callers, sizeof *all);

@@ -1,10 +1,10 @@
 #!/bin/sh
 # Processor time of calls on tokens, shares, share codes and the authorization code grant, over `session` and a pipe.
 # usage: docs/bench/calls.sh [PROGRAM]
-# PROGRAM is the program `hub` as `rt run` leaves it (crates/hub/out/hub if none is named: run `./run` first). One request is sent at a time, and
-# its reply read, so that a code can be used. Each figure is the processor time of the session with so many such requests less that of the session
-# without them, by their number; of each the least of 15 runs in turn. It stands outside the gate, and ends with status 1 at the first reply that
-# isn't as it should be.
+# PROGRAM is the program `hub` as `rt run` leaves it (crates/hub/out/hub if none is named: run `./run` first). One request is sent at a
+# time, and its reply read, so that a code can be used. Each figure is the processor time of the session with so many such requests less
+# that of the session without them, by their number; of each the least of 15 runs in turn. It stands outside the gate, and ends with status
+# 1 at the first reply that isn't as it should be.
 set -eu
 top=$(cd "$(dirname "$0")/../.." && pwd)
 program=${1:-$top/crates/hub/out/hub}
@@ -22,7 +22,8 @@ TOKENS = 50
 
 # 20 users with 50 tokens each, one target, and a service that is a client of OAuth
 with open("hub.toml", "w") as file:
-    file.write('pool = ["http://127.0.0.1:9001"]\n[[services]]\nname = "web"\nredirect_uri = "/services/web/cb"\nsecret = "service-secret-web"\n')
+    file.write('pool = ["http://127.0.0.1:9001"]\n'
+               '[[services]]\nname = "web"\nredirect_uri = "/services/web/cb"\nsecret = "service-secret-web"\n')
     for user in range(USERS):
         file.write(f'[[users]]\nname = "user{user}"\n')
     for user in range(USERS):
@@ -113,7 +114,8 @@ def grants_traded(hub, _):
         lines, _ = hub.ask("GET", f"/oauth2/authorize?{query}", 302)
         place = next(line for line in lines if line.startswith("Location:"))
         code = place.split("code=")[1].split("&")[0]
-        form = f"grant_type=authorization_code&code={code}&redirect_uri=/services/web/cb&client_id=service:web&client_secret=service-secret-web"
+        form = (f"grant_type=authorization_code&code={code}&redirect_uri=/services/web/cb&client_id=service:web"
+                "&client_secret=service-secret-web")
         hub.ask("POST", "/oauth2/token", 200, form, token=None)
 
 

@@ -1,6 +1,7 @@
 #!/bin/sh
-# A culler and a hub, both as the program that `./run` links, over sockets and with real programs: rounds over three pages of users, of whose
-# servers some are idle, one was just used, one is named and goes with its row, and one belongs to somebody whom the culler may not stop.
+# A culler and a hub, both as the program that `./run` links, over sockets and with real programs: rounds over three pages of users, of
+# whose servers some are idle, one was just used, one is named and goes with its row, and one belongs to somebody whom the culler may not
+# stop.
 # usage: docs/bench/cull.sh [PROGRAM]
 # PROGRAM is crates/hub/out/hub where it isn't given. It stands outside the gate, takes some ten seconds, writes to a new folder under /tmp
 # alone, and ends with status 1 at the first thing that isn't as it should be.
@@ -71,7 +72,8 @@ def cull(*words, token=CULLER, at=None):
     with open(f"{place}/token", "w") as file:
         file.write(token + "\n")
     words = ["--hub", f"http://127.0.0.1:{at or port}", "--token-file", "token", "--rounds", "1", *words]
-    ran = subprocess.run([program, "cull", *words], cwd=place, stdin=subprocess.DEVNULL, stdout=subprocess.PIPE, stderr=subprocess.PIPE, text=True, timeout=100)
+    ran = subprocess.run([program, "cull", *words], cwd=place, stdin=subprocess.DEVNULL, stdout=subprocess.PIPE, stderr=subprocess.PIPE,
+                         text=True, timeout=100)
     return ran.returncode, ran.stdout, ran.stderr
 
 
@@ -80,11 +82,13 @@ with open(f"{place}/single_user.py", "w") as file:
 port, unused, *targets = free_ports(10)
 with open(f"{place}/hub.toml", "w") as file:
     file.write(configuration(port, targets))
-hub = subprocess.Popen([program, "serve", "--config", "hub.toml", "--no-trail"], cwd=place, stdin=subprocess.PIPE, stdout=subprocess.PIPE, stderr=subprocess.PIPE, text=True)
+hub = subprocess.Popen([program, "serve", "--config", "hub.toml", "--no-trail"], cwd=place, stdin=subprocess.PIPE, stdout=subprocess.PIPE,
+                       stderr=subprocess.PIPE, text=True)
 try:
     check("the hub listens", "listens at" in hub.stderr.readline())
     threading.Thread(target=hub.stderr.read, daemon=True).start()
-    started = [f"/users/{PUPILS[0]}/server", f"/users/{PUPILS[1]}/server", f"/users/{PUPILS[60]}/servers/lab", f"/users/{PUPILS[117]}/server", f"/users/{PUPILS[118]}/server"]
+    started = [f"/users/{PUPILS[0]}/server", f"/users/{PUPILS[1]}/server", f"/users/{PUPILS[60]}/servers/lab",
+               f"/users/{PUPILS[117]}/server", f"/users/{PUPILS[118]}/server"]
     check("five servers are started", [ask("POST", it)[0] for it in started] == [201] * 5)
     check("nothing is idle yet", cull("--timeout", "600") == (0, "users 120 culled 0 refused 0\n", ""))
     check("nothing was stopped", len(live()) == 5, live())
@@ -99,7 +103,8 @@ try:
     check("one that is too old goes though it was used", gave[:2] == (0, "users 120 culled 1 refused 1\n"), gave)
     check("one is left", live() == [f"{PUPILS[118]}/"], live())
     gave = cull("--timeout", "2", "--cull-users", token=ROOT)
-    check("an admin culls the last one; who has a server then isn't deleted in that round", gave[0] == 0 and re.fullmatch(r"users 120 culled 119 refused 0\n", gave[1]), gave)
+    check("an admin culls the last one; who has a server then isn't deleted in that round",
+          gave[0] == 0 and re.fullmatch(r"users 120 culled 119 refused 0\n", gave[1]), gave)
     check("the root is left, and who had a server", [it["name"] for it in ask("GET", "/users?limit=200")[1]] == ["root", PUPILS[118]])
     check("a token that nobody has is no page: status 11", cull(token="token-of-nobody")[0] == 11)
     check("a hub that isn't there: status 9, and a line says so", cull(at=unused)[0] == 9 and cull(at=unused)[2].startswith("hub: "))

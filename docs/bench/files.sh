@@ -23,7 +23,8 @@ WORDS = [program, "session", "1700000000", "ann", "secret-token-ann", "--admin"]
 KILLS = 50
 CHANGES = 1000
 USER = '{"admin":false,"created":1700000000,"last_activity":null}'
-TOKEN = {"client": None, "created": 1700000000, "expires_at": None, "hash": "", "issued_for": None, "note": "", "owner": "", "scopes": ["inherit"]}
+TOKEN = {"client": None, "created": 1700000000, "expires_at": None, "hash": "", "issued_for": None, "note": "", "owner": "",
+         "scopes": ["inherit"]}
 
 
 def fail(why):

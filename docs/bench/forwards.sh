@@ -1,9 +1,9 @@
 #!/bin/sh
-# What the proxy does over real sockets, which no clause can say: GET, HEAD, POST of 10 MiB, chunks both ways, 204 and 304, clients and targets
-# that go away, 200 idle clients beside one that is served, and the interface of the routes.
+# What the proxy does over real sockets, which no clause can say: GET, HEAD, POST of 10 MiB, chunks both ways, 204 and 304, clients and
+# targets that go away, 200 idle clients beside one that is served, and the interface of the routes.
 # usage: docs/bench/forwards.sh PROGRAM
-# PROGRAM is the hub as `./run` links it (crates/hub/out/hub). It takes some seconds, stands outside the gate, and writes into a new folder under
-# /tmp alone. It ends with status 1 at the first thing that isn't as it should be.
+# PROGRAM is the hub as `./run` links it (crates/hub/out/hub). It takes some seconds, stands outside the gate, and writes into a new folder
+# under /tmp alone. It ends with status 1 at the first thing that isn't as it should be.
 set -eu
 program=$(realpath "$1")
 exec python3 - "$program" <<'PYTHON'
@@ -158,8 +158,10 @@ def main():
     shows("10 MiB back", lambda: ask("GET", "/user/ann/big")[1] == BIG)
     shows("10 MiB both ways", lambda: ask("POST", "/user/ann/echo", BIG)[1] == BIG)
     shows("chunks back", lambda: ask("GET", "/user/ann/chunked")[1] == BIG[:100000])
-    shows("chunks both ways", lambda: ask("POST", "/user/ann/echo", iter([BIG[:50000], BIG[50000:70000]]), {"Transfer-Encoding": "chunked"})[1] == BIG[:70000])
-    shows("a bad chunk", lambda: everything(begun(b"POST /user/ann/x HTTP/1.1\r\nHost: h\r\nTransfer-Encoding: chunked\r\n\r\ng\r\n")).startswith(b"HTTP/1.1 400"))
+    shows("chunks both ways", lambda: ask("POST", "/user/ann/echo", iter([BIG[:50000], BIG[50000:70000]]),
+                                          {"Transfer-Encoding": "chunked"})[1] == BIG[:70000])
+    bad = b"POST /user/ann/x HTTP/1.1\r\nHost: h\r\nTransfer-Encoding: chunked\r\n\r\ng\r\n"
+    shows("a bad chunk", lambda: everything(begun(bad)).startswith(b"HTTP/1.1 400"))
     shows("a target that isn't there", lambda: ask("GET", "/user/dead/x")[0] == 503)
     shows("a target that goes away", lambda: everything(begun(b"GET /user/ann/leaves HTTP/1.1\r\nHost: h\r\n\r\n")).endswith(b"half"))
     shows("clients that go away", leaves)

@@ -87,7 +87,8 @@ def end_all():
 
 
 def start_hub(port, pool=(), command=()):
-    text = f'listen = "127.0.0.1:{port}"\npool = {json.dumps([f"http://127.0.0.1:{it}" for it in pool])}\ncommand = {json.dumps(list(command))}\n'
+    targets = json.dumps([f"http://127.0.0.1:{it}" for it in pool])
+    text = f'listen = "127.0.0.1:{port}"\npool = {targets}\ncommand = {json.dumps(list(command))}\n'
     for name, token in (("root", ROOT), ("ann", ANN), ("bob", BOB)):
         text += f'[[users]]\nname = "{name}"\nadmin = {str(name == "root").lower()}\n[[tokens]]\ntoken = "{token}"\nuser = "{name}"\n'
     with open(f"{place}/hub.toml", "w") as file:
@@ -146,9 +147,11 @@ def front(port, hub, guard):
     """nginx, which gives a browser's requests to the hub ann's token."""
     temporary = "".join(f"{kind}_temp_path {place}/tmp; " for kind in ("client_body", "proxy", "fastcgi", "uwsgi", "scgi"))
     with open(f"{place}/front.conf", "w") as file:
-        file.write(f"worker_processes 1; daemon off; pid {place}/front.pid; error_log {place}/err; events {{}} http {{ access_log off; {temporary}"
+        file.write(f"worker_processes 1; daemon off; pid {place}/front.pid; error_log {place}/err; events {{}}"
+                   f"http {{ access_log off; {temporary}"
                    f'map $http_authorization $own {{ default $http_authorization; "" "token {ANN}"; }}'
-                   f"server {{ listen 127.0.0.1:{port}; location /hub/ {{ proxy_set_header Authorization $own; proxy_pass http://127.0.0.1:{hub}; }}"
+                   f"server {{ listen 127.0.0.1:{port};"
+                   f"location /hub/ {{ proxy_set_header Authorization $own; proxy_pass http://127.0.0.1:{hub}; }}"
                    f"location /user/ {{ proxy_pass http://127.0.0.1:{guard}; }} }} }}")
     return start(["nginx", "-p", place, "-c", f"{place}/front.conf"], port)
 
@@ -175,7 +178,8 @@ def browser():
     check("the hub starts the guarded page", ask(hub, "/hub/api/users/ann/server", ANN, "POST")[0] == 201)
     check("the page answers behind its guard", comes(lambda: is_open(behind), 20))
     status, _, location = ask(front_port, "/user/ann/")
-    check("who has no cookie is sent to sign in", status == 302 and location.startswith(f"http://127.0.0.1:{front_port}/hub/api/oauth2/authorize?"), location)
+    authorize = f"http://127.0.0.1:{front_port}/hub/api/oauth2/authorize?"
+    check("who has no cookie is sent to sign in", status == 302 and location.startswith(authorize), location)
     status, _, location = ask(front_port, "/user/ann/oauth_callback?code=1&state=2")
     check("who comes back without having been sent is refused", status == 403)
     seen = see_in_browser(f"http://127.0.0.1:{front_port}/user/ann/") if shutil.which("chromium") else None
@@ -251,7 +255,8 @@ def load(what, callers, targets, *processes):
         sys.exit(f"not as it should be: {what}: {ran.stderr}")
     count, *own, half, most = (float(it) for it in ran.stdout.split())
     each = [1e6 * (spent(it) - then) / count for it, then in zip(processes, before)]
-    print(f"{what}, {callers} callers: {' and '.join(f'{it:.0f}' for it in each)} microseconds of processor time, {' and '.join(f'{it:.0f}' for it in own)}"
+    of_processes, of_callers = (" and ".join(f"{it:.0f}" for it in taken) for taken in (each, own))
+    print(f"{what}, {callers} callers: {of_processes} microseconds of processor time, {of_callers}"
           f" of the callers, {count / 2:.0f} a second, half within {half / 1000:.2f} ms, 99 of 100 within {most / 1000:.2f}", flush=True)
     return each, own
 
@@ -275,7 +280,8 @@ def rounds(callers, ports, processes):
         together.append(of_guard + of_same_hub)
         more.append(100 * (together[-1] / apart[-1] - 1))
     print(f"{callers} callers, microseconds of processor time a turn, {ROUNDS} rounds:")
-    for name, taken in zip(("forwarded: the proxy", "asked: the hub", "asked: the caller", "guarded: the guard", "guarded: the hub"), zip(*parts)):
+    names = ("forwarded: the proxy", "asked: the hub", "asked: the caller", "guarded: the guard", "guarded: the hub")
+    for name, taken in zip(names, zip(*parts)):
         spread(name, taken)
     spread("forwarded, and both ends of a question", apart)
     spread("guarded, the guard and the hub", together)

@@ -1,10 +1,10 @@
 #!/bin/sh
 # Processor time of the first page of `GET /users`, by the number of users kept: for an admin, and for a teacher of 30 of them.
 # usage: docs/bench/lists.sh [PROGRAM ..]
-# Each PROGRAM is a program `hub` as `rt run` leaves it (crates/hub/out/hub if none is named: run `rt run` there first); several are measured
-# in turn, as one of before a change and one of after it. Each figure is the processor time of a session with so many such requests less that of
-# the session with none of them, by their number; of each the least of 9 runs. As many are asked as take some two seconds, and no more than the 1,000
-# requests of a connection. It stands outside the gate.
+# Each PROGRAM is a program `hub` as `rt run` leaves it (crates/hub/out/hub if none is named: run `rt run` there first); several are
+# measured in turn, as one of before a change and one of after it. Each figure is the processor time of a session with so many such requests
+# less that of the session with none of them, by their number; of each the least of 9 runs. As many are asked as take some two seconds, and
+# no more than the 1,000 requests of a connection. It stands outside the gate.
 set -eu
 top=$(cd "$(dirname "$0")/../.." && pwd)
 [ $# -gt 0 ] || set -- "$top/crates/hub/out/hub"

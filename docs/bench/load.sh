@@ -1,10 +1,10 @@
 #!/bin/sh
-# Processor time and memory of the large job: `load 1 N` for 1,000, 5,000 and 20,000 users, each a hub in memory with 2 N entries, N requests
-# for another user and N guarded requests.
+# Processor time and memory of the large job: `load 1 N` for 1,000, 5,000 and 20,000 users, each a hub in memory with 2 N entries, N
+# requests for another user and N guarded requests.
 # usage: docs/bench/load.sh [PROGRAM ..]
-# PROGRAM is the program `hub` as `rt run` leaves it (crates/hub/out/hub if none is named: run `rt run` there first); several are measured in
-# turn, run by run. Each figure is the least of 3 runs in turn. It ends with status 1 where a run doesn't write the six lines that are counted
-# here by the rule, or 20,000 users take more than 10 s of processor time or 200 MB. It stands outside the gate.
+# PROGRAM is the program `hub` as `rt run` leaves it (crates/hub/out/hub if none is named: run `rt run` there first); several are measured
+# in turn, run by run. Each figure is the least of 3 runs in turn. It ends with status 1 where a run doesn't write the six lines that are
+# counted here by the rule, or 20,000 users take more than 10 s of processor time or 200 MB. It stands outside the gate.
 set -eu
 top=$(cd "$(dirname "$0")/../.." && pwd)
 [ $# -gt 0 ] || set -- "$top/crates/hub/out/hub"

@@ -70,7 +70,8 @@ import hashlib, json, os, sqlite3, statistics, subprocess, sys
 program, library, rounds = sys.argv[1], sys.argv[2], int(sys.argv[3])
 WORDS = [program, "session", "1700000000", "ann", "secret-token-ann", "--admin"]
 USER = '{"admin":false,"created":1700000000,"last_activity":null}'
-TOKEN = {"client": None, "created": 1700000000, "expires_at": None, "hash": "", "issued_for": None, "note": "", "owner": "", "scopes": ["inherit"]}
+TOKEN = {"client": None, "created": 1700000000, "expires_at": None, "hash": "", "issued_for": None, "note": "", "owner": "",
+         "scopes": ["inherit"]}
 
 
 def took(words):

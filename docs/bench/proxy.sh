@@ -1,11 +1,11 @@
 #!/bin/sh
-# What the proxy costs beside nginx and haproxy, over one upstream: processor time of a request and requests a second, at bodies of 0, 1 KiB,
-# 100 KiB and 10 MiB, with 1, 100 and 100,000 routes; and what 100,000 additions by the interface take.
+# What the proxy costs beside nginx and haproxy, over one upstream: processor time of a request and requests a second, at bodies of 0, 1
+# KiB, 100 KiB and 10 MiB, with 1, 100 and 100,000 routes; and what 100,000 additions by the interface take.
 # usage: docs/bench/proxy.sh PROGRAM [SECONDS [ROUNDS]]
 # PROGRAM is the hub as `./run` links it (crates/hub/out/hub). It needs nginx, haproxy and wrk (Debian: nginx-light haproxy wrk), takes some
 # four minutes at 2 seconds a measure and 5 rounds, stands outside the gate, and writes into a new folder under /tmp alone.
-# nginx is measured with one worker, and with one for each processor, as Debian sets it up. All are asked in turn; each figure is the median of
-# the rounds. The proxy's workers have been used once before, since a worker that is used for the first time takes its memory then.
+# nginx is measured with one worker, and with one for each processor, as Debian sets it up. All are asked in turn; each figure is the median
+# of the rounds. The proxy's workers have been used once before, since a worker that is used for the first time takes its memory then.
 set -eu
 program=$(realpath "$1")
 exec python3 - "$program" "${2:-2}" "${3:-5}" <<'PYTHON'
@@ -118,17 +118,20 @@ def main():
     for name, size in BODIES.items():
         open(f"{place}/www/user/u0/{size}", "wb").write(b"x" * size)
     open(place + "/secret", "w").write(SECRET + "\n")
-    start(nginx("source", f"open_file_cache max=100; sendfile on; tcp_nopush on; server {{ listen 127.0.0.1:{SOURCE} backlog=4096; root {place}/www; }}"), SOURCE)
+    served = f"server {{ listen 127.0.0.1:{SOURCE} backlog=4096; root {place}/www; }}"
+    start(nginx("source", f"open_file_cache max=100; sendfile on; tcp_nopush on; {served}"), SOURCE)
     passes = f"backlog=4096; location / {{ proxy_pass http://127.0.0.1:{SOURCE}; }} }}"
     others = {
         "nginx, 1 worker": start(nginx("nginx", f"server {{ listen 127.0.0.1:{NGINX} {passes}"), NGINX),
         "nginx, as set up": start(nginx("wide", f"server {{ listen 127.0.0.1:{WIDE} {passes}", "auto"), WIDE),
     }
     open(place + "/haproxy.cfg", "w").write(
-        f"global\n nbthread 1\n maxconn 8192\ndefaults\n mode http\n option httpclose\n timeout connect 10s\n timeout client 30s\n timeout server 30s\n"
+        "global\n nbthread 1\n maxconn 8192\ndefaults\n mode http\n option httpclose\n timeout connect 10s\n"
+        " timeout client 30s\n timeout server 30s\n"
         f"listen all\n bind 127.0.0.1:{HAPROXY}\n server one 127.0.0.1:{SOURCE}\n")
     others["haproxy"] = start(["haproxy", "-f", place + "/haproxy.cfg"], HAPROXY)
-    ours = start([program, "proxy", "--listen", f"127.0.0.1:{PROXY}", "--api", f"127.0.0.1:{API}", "--secret-file", place + "/secret"], PROXY, "ready\n")
+    words = ["proxy", "--listen", f"127.0.0.1:{PROXY}", "--api", f"127.0.0.1:{API}", "--secret-file", place + "/secret"]
+    ours = start([program, *words], PROXY, "ready\n")
     everyone = {**others, "ours": ours}
     ports = dict(zip(everyone, (NGINX, WIDE, HAPROXY, PROXY)))
     have = 0

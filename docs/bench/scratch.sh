@@ -2,8 +2,9 @@
 #
 #     begin NAME [FOLDER] 'LIBRARY ..' ['DEPENDENCY ..']
 #
-# makes a scratch repository in FOLDER (a new one under /tmp if it is empty) with these libraries of this checkout and a crate NAME above them,
-# which depends on DEPENDENCY .. (on all of them if none is named). Afterwards $scratch is the repository and $bench the crate's folder.
+# makes a scratch repository in FOLDER (a new one under /tmp if it is empty) with these libraries of this checkout and a crate NAME above
+# them, which depends on DEPENDENCY .. (on all of them if none is named). Afterwards $scratch is the repository and $bench the crate's
+# folder.
 #
 #     below LIBRARY ..
 #

@@ -1,6 +1,6 @@
 #!/bin/sh
-# Time of a start and a stop of a server through a connection, with no other live server and with 999 others, and of a GET of a user with 100
-# live named servers. The keeper, the spawner and the route link are in memory.
+# Time of a start and a stop of a server through a connection, with no other live server and with 999 others, and of a GET of a user with
+# 100 live named servers. The keeper, the spawner and the route link are in memory.
 # usage: docs/bench/servers.sh [FOLDER]
 # Writes a scratch repository into FOLDER (a new one under /tmp if none is named), proves its crates over what earlier checks of
 # this checkout kept, and runs the program. It stands outside the gate, and leaves the repository as it was.

@@ -1,7 +1,7 @@
 #!/bin/sh
 # What a service with a program does over real programs, which no clause can say: `serve` starts it behind a proxy and its path leads to it;
-# killed, it is back by the second connection; a command that isn't there is tried five times; where the hub is killed, the next ends what it left
-# and starts the service anew; at a hub's end no program and no route is left.
+# killed, it is back by the second connection; a command that isn't there is tried five times; where the hub is killed, the next ends what
+# it left and starts the service anew; at a hub's end no program and no route is left.
 # usage: docs/bench/services.sh PROGRAM
 # PROGRAM is the hub as `./run` links it (crates/hub/out/hub). It takes ten seconds, stands outside the gate, and writes into a new folder
 # under /tmp alone. It ends with status 1 at the first thing that isn't as it should be.

@@ -1,9 +1,9 @@
 #!/bin/sh
 # Processor time of requests of one connection: `session` over a pipe, with so many users kept.
 # usage: docs/bench/session.sh [PROGRAM ..]
-# PROGRAM is the program `hub` as `rt run` leaves it (crates/hub/out/hub if none is named: run `rt run` there first); several are measured in turn,
-# run by run. Each figure is the processor time of the session with 800 such requests less that of the session with none of them, by 800; of each
-# the least of 25 runs in turn. It stands outside the gate.
+# PROGRAM is the program `hub` as `rt run` leaves it (crates/hub/out/hub if none is named: run `rt run` there first); several are measured
+# in turn, run by run. Each figure is the processor time of the session with 800 such requests less that of the session with none of them,
+# by 800; of each the least of 25 runs in turn. It stands outside the gate.
 set -eu
 top=$(cd "$(dirname "$0")/../.." && pwd)
 [ $# -gt 0 ] || set -- "$top/crates/hub/out/hub"

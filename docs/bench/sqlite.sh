@@ -162,7 +162,8 @@ statements() {
         for (t = 0; t < count; t++) {
             print "BEGIN;"
             for (i = 0; i < size; i++)
-                printf "INSERT INTO row (kind, key, text) VALUES (1, '\''n%d'\'', '\''%s'\'') ON CONFLICT (kind, key) DO UPDATE SET text = excluded.text;\n", 1000000 + t * size + i, text
+                printf "INSERT INTO row (kind, key, text) VALUES (1, '\''n%d'\'', '\''%s'\'') " \
+                       "ON CONFLICT (kind, key) DO UPDATE SET text = excluded.text;\n", 1000000 + t * size + i, text
             print "COMMIT;"
         }
     }'
