@@ -2,6 +2,7 @@
 ghost use Rattle.std.specs.Prelude.{◌≡◌, ◌==◌, ◌≤◌, ◌<◌, length, is_ok, Err, IfErr};
 ghost use Rattle.worker_hall.specs.Ends.{IsFault};
 ghost use Rattle.worker_hall.specs.Given.{GaveMore};
+ghost use Rattle.worker_hall.specs.Shifts.{AreServed};
 
 use crate::doors::{Doors, Doorway, Front};
 use crate::serves::Serves;
@@ -23,8 +24,8 @@ pub enum HallFault {
     Memory,
 }
 
-/// Takes as many connections from the listener and has each served, by as many workers as there are servers. The listener's fault ends all
-/// of it, once the connections that were taken are served.
+/// Takes as many connections from the listener and has each served, by as many workers as there are servers: each has one of them, and
+/// puts it back in its place. The listener's fault ends all of it, once the connections that were taken are served.
 #[tactic(auto, using(crate::proofs::Givens::Gave_none))]
 pub fn serve<
     L: Listener<In: Send, Out: Send> + Send,
@@ -34,10 +35,11 @@ pub fn serve<
     rt: &W,
     alloc: Global,
     doors: &mut L,
-    servers: &mut [S],
+    servers: &mut Vec<S>,
     connections: u64,
 ) -> (Tally<L>, Result<(), HallFault>)
-    requires servers { 0 < length servers.old }
+    requires servers { 0 < length servers.old.items }
+    ensures served { AreServed L.are_sides S.served servers.old.items result.0 servers.new.items }
     ensures given { GaveMore (L.given doors.old) result.0 (L.given doors.new) }
     ensures most { result.0 ≤ connections }
     ensures all { is_ok result.1 ≡ (result.0 == connections) }
@@ -76,19 +78,20 @@ fn serve_as<
     alloc: Global,
     blank: Blank,
     front: Front<'a, L>,
-    servers: &mut [S],
+    servers: &mut Vec<S>,
     connections: u64,
     tally: &mut Tally<L>,
 ) -> (Result<(), HallFault>, Front<'a, L>)
-    requires servers { 0 < length servers.old }
+    requires servers { 0 < length servers.old.items }
     requires name { blank.name ≡ N.name }
-    requires parts { (blank.parts ≡ N.parts) × (N.parts ≡ length servers.old) }
+    requires parts { (blank.parts ≡ N.parts) × (N.parts ≡ length servers.old.items) }
     requires door { front.listener.ghost_name ≡ N.door }
     requires given { L.given front.listener.now ≡ N.given }
     requires faults { L.faults front.listener.now ≡ N.faults }
     requires most { (connections ≡ N.most) × (0 < connections) }
     requires none { tally.old ≡ 0 }
     ensures same_reference { result.1.listener.ghost_name ≡ front.entry.listener.ghost_name }
+    ensures served { AreServed L.are_sides S.served servers.old.items tally.new servers.new.items }
     ensures given { GaveMore (L.given front.entry.listener.now) tally.new (L.given result.1.listener.now) }
     ensures most { tally.new ≤ connections }
     ensures all { is_ok result.0 ≡ (tally.new == connections) }
@@ -109,7 +112,7 @@ fn serve_as<
         count,
     );
     let (front, left, mut taken) = doors.end();
-    *tally = join_all(workers, &mut taken, &mut all);
+    *tally = join_all(workers, servers, &mut taken, &mut all);
     (ended(left, tally), front)
 }
 

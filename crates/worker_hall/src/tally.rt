@@ -1,5 +1,6 @@
 //! How many connections were served. Only `serve` and `add` raise the count.
 ghost use Rattle.std.specs.Prelude.{◌≡◌, ◌+◌, ◌<◌, ◌^◌};
+ghost use Rattle.worker_hall.specs.Shifts.{IsServed};
 
 use crate::serves::Serves;
 use hub_devices::listener::Listener;
@@ -69,6 +70,7 @@ impl<L: Listener> Tally<L> {
         requires room { self.old + 1 < 2 ^ 64 }
         ensures counted { self.new ≡ self.old + 1 }
         ensures served { S.served server.old input output server.new result.0 result.1 }
+        ensures once { IsServed L.are_sides S.served server.old server.new }
     {
         let mut input = input;
         let mut output = output;
