@@ -75,7 +75,7 @@ fn guard_told<W: Threads + Wait + Sync>(
         return say(&rt, 8, "the address of --listen can't be had");
     };
     let mut doors = TunnelListener::new(doors);
-    let Ok(kits) = new_kits(rt, wait, &told.hub) else {
+    let Ok(mut kits) = new_kits(rt, wait, &told.hub) else {
         return say(&rt, 7, "there is no memory");
     };
     let mut files = SystemFiles::new(rt);
@@ -86,9 +86,10 @@ fn guard_told<W: Threads + Wait + Sync>(
         words,
         &mut files,
         &mut doors,
-        kits,
+        &mut kits,
         &mut output,
     );
+    drop(kits);
     tell(&rt, told, &files, end.fault);
     ExitCode::from(end.fault.status())
 }

@@ -13,8 +13,8 @@ no_memory files None faults = tt
 no_memory files (Some name) faults = tt
 
 -- want of memory before anything was done
-pub wanting : (said : Option GuardWords) (files : Option (List (List ℕ × List ℕ))) (faults : ℕ) (h : Hall) (end : GuardEnd)
-    → end ≡ unserved fault.Memory → RunEnds said files faults faults h end h
-wanting None files faults h end is = (inr is, refl, refl)
-wanting (Some words) files faults h end is =
-    inl (record { error = Memory; none = no_memory files words.secret_file faults; is = is; quiet = refl })
+pub wanting : (guards : GuardWords → Option (List ℕ) → ℕ → Type 0) (idle : Type 0) (said : Option GuardWords) (files : Option (List (List ℕ × List ℕ)))
+    (faults : ℕ) (h : Hall) (end : GuardEnd) → end ≡ unserved fault.Memory → idle → RunEnds guards idle said files faults faults h end h
+wanting guards idle None files faults h end is unused = (inr is, refl, refl, unused)
+wanting guards idle (Some words) files faults h end is unused =
+    inl (record { error = Memory; none = no_memory files words.secret_file faults; is = is; quiet = refl; unused = unused })

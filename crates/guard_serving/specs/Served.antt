@@ -1,5 +1,5 @@
 -- One connection of a guard, once it was served.
-use Rattle.std.specs.Prelude.{◌≡◌, ℕ, List, Option, Result}
+use Rattle.std.specs.Prelude.{◌≡◌, ℕ, List, [], Option, Result}
 use Rattle.hub_devices.specs.declared.link_error.LinkError.{LinkError}
 use Rattle.hub_kit.specs.declared.names.ServerKey.{ServerKey}
 use Rattle.hub_link.specs.Links.{Exchange, Asks}
@@ -11,6 +11,8 @@ use Rattle.guard.specs.Carrying.{GuardCarries}
 use Rattle.guard_login.specs.Entries.{EnterEnds}
 use Rattle.guard_login.specs.declared.entries.Entered.{Entered}
 use Rattle.guard_login.specs.declared.door.Door.{Door}
+use Rattle.upstreams.specs.Upstream.{Told}
+use Rattle.guard_serving.specs.declared.kit.GuardKit.{GuardKit}
 
 -- A guard beside one of its connections: whose it is (a server and its target, or a door), its link to the hub, its source of draws, and
 -- the connection
@@ -19,6 +21,25 @@ pub record Guarding (D H R : Type 0) : Type 0 where
   pub link : H
   pub random : R
   pub place : Place
+
+-- A guard with these devices beside a connection. The first six arguments say what is told: of the two sides the bytes to come and those
+-- that were written, of the upstream its calls; and the faults of the one side, of the upstream and of the other side
+abbrev pub guarding : {D H R U I O : Type 0} → (I → Option (List ℕ)) → (O → Option (List ℕ)) → (U → Option Told) → (I → ℕ) → (U → ℕ)
+    → (O → ℕ) → D → GuardKit H R U → I → O → Guarding D H R
+guarding left held told reads links writes whose kit input output = record {
+  whose = whose;
+  link = kit.link;
+  random = kit.random;
+  place = record {
+    left = left input;
+    kept = [];
+    held = held output;
+    told = told kit.upstream;
+    reads = reads input;
+    links = links kit.upstream;
+    writes = writes output;
+  };
+}
 
 module _ {H : Type 0} (asked : H → Option (List (List ℕ × Option (List ℕ)))) (does : H → List ℕ → Result (List ℕ) LinkError → H → Type 0)
     (faults : H → ℕ) where

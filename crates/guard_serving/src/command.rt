@@ -6,6 +6,7 @@ ghost use Rattle.guard_serving.specs.Runs as spec;
 ghost use Rattle.hub_words.specs.Guard.{guard_read};
 
 use crate::ends::{GuardEnd, GuardFault, unserved};
+use crate::guards::Guards;
 use crate::kit::GuardKit;
 use crate::secret::secret_of;
 use crate::serving::{serve_at_door, serve_by_token};
@@ -50,10 +51,12 @@ fn serve_words<
     words: GuardWords,
     secret: Option<Text>,
     doors: &mut L,
-    kits: Vec<GuardKit<H, R, U>>,
+    kits: &mut Vec<GuardKit<H, R, U>>,
     output: &mut O,
 ) -> GuardEnd
-    requires kits { 0 < length kits.items }
+    requires kits { 0 < length kits.old.items }
+    ensures served { spec.AreGuarded L.are_sides ⟦<GuardKit<H, R, U> as Guards<L::In, L::Out>>⟧.guarded
+        ⟦<GuardKit<H, R, U> as Guards<L::In, L::Out>>⟧.signed_in kits.old.items kits.new.items words secret result.served }
     ensures over { IsOver (hall L.given L.faults O.held O.faults doors.old output.old) result
         (hall L.given L.faults O.held O.faults doors.new output.new) }
     ensures writes { O.faults output.old ≤ O.faults output.new }
@@ -88,11 +91,13 @@ fn run_words<
     words: GuardWords,
     files: &mut F,
     doors: &mut L,
-    kits: Vec<GuardKit<H, R, U>>,
+    kits: &mut Vec<GuardKit<H, R, U>>,
     output: &mut O,
 ) -> GuardEnd
-    requires kits { 0 < length kits.items }
-    ensures ends { spec.RunEnds (Some words) (F.files files.old) (F.faults files.old) (F.faults files.new)
+    requires kits { 0 < length kits.old.items }
+    ensures ends { spec.RunEnds (spec.AreGuarded L.are_sides ⟦<GuardKit<H, R, U> as Guards<L::In, L::Out>>⟧.guarded
+        ⟦<GuardKit<H, R, U> as Guards<L::In, L::Out>>⟧.signed_in kits.old.items kits.new.items)
+        (kits.new.items ≡ kits.old.items) (Some words) (F.files files.old) (F.faults files.old) (F.faults files.new)
         (hall L.given L.faults O.held O.faults doors.old output.old) result (hall L.given L.faults O.held O.faults doors.new output.new) }
     ensures files { F.files files.new ≡ F.files files.old }
     ensures looked { F.faults files.old ≤ F.faults files.new }
@@ -101,7 +106,6 @@ fn run_words<
     match secret_of(alloc, files, &words.secret_file) {
         Ok(secret) => serve_words(rt, alloc, words, secret, doors, kits, output),
         Err(error) => {
-            drop(kits);
             drop(words);
             unserved(GuardFault::of_secret(error))
         }
@@ -110,7 +114,8 @@ fn run_words<
 
 /// Runs the command `guard` that the words say: reads the secret in the file that they name, if they do, writes `ready` and a line end, and
 /// takes the listener's connections until it fails. Each is served by a worker with one of the kits: one request by
-/// `guard::carrying::guard_carry_one`, and by `guard_login::entries::enter_one` where there is a secret.
+/// `guard::carrying::guard_carry_one`, and by `guard_login::entries::enter_one` where there is a secret. The kits come back in
+/// their places.
 ///
 /// Refused words, and a file that can't be read or has no secret, do nothing, and so does want of memory before `ready`.
 pub fn run<
@@ -127,11 +132,13 @@ pub fn run<
     words: &[Text],
     files: &mut F,
     doors: &mut L,
-    kits: Vec<GuardKit<H, R, U>>,
+    kits: &mut Vec<GuardKit<H, R, U>>,
     output: &mut O,
 ) -> GuardEnd
-    requires kits { 0 < length kits.items }
-    ensures ends { spec.RunEnds (guard_read words.now) (F.files files.old) (F.faults files.old) (F.faults files.new)
+    requires kits { 0 < length kits.old.items }
+    ensures ends { spec.RunEnds (spec.AreGuarded L.are_sides ⟦<GuardKit<H, R, U> as Guards<L::In, L::Out>>⟧.guarded
+        ⟦<GuardKit<H, R, U> as Guards<L::In, L::Out>>⟧.signed_in kits.old.items kits.new.items)
+        (kits.new.items ≡ kits.old.items) (guard_read words.now) (F.files files.old) (F.faults files.old) (F.faults files.new)
         (hall L.given L.faults O.held O.faults doors.old output.old) result (hall L.given L.faults O.held O.faults doors.new output.new) }
     ensures files { F.files files.new ≡ F.files files.old }
     ensures looked { F.faults files.old ≤ F.faults files.new }
@@ -139,13 +146,7 @@ pub fn run<
 {
     match read_guard(alloc, words) {
         Ok(words) => run_words(rt, alloc, words, files, doors, kits, output),
-        Err(WordError::Refused) => {
-            drop(kits);
-            unserved(GuardFault::Words)
-        }
-        Err(WordError::Memory) => {
-            drop(kits);
-            unserved(GuardFault::Memory)
-        }
+        Err(WordError::Refused) => unserved(GuardFault::Words),
+        Err(WordError::Memory) => unserved(GuardFault::Memory),
     }
 }

@@ -1,9 +1,11 @@
 //! A guard over its listener.
-ghost use Rattle.std.specs.Prelude.{◌<◌, ◌≡◌, ◌≤◌, length};
+ghost use Rattle.std.specs.Prelude.{◌<◌, ◌≡◌, ◌≤◌, length, reverse};
+ghost use Rattle.worker_hall.specs.Shifts.{AreServed};
 ghost use Rattle.guard_serving.specs.Ends.{IsOver};
 ghost use Rattle.guard_serving.specs.Hall.{hall};
 
 use crate::ends::{GuardEnd, GuardFault, unserved};
+use crate::guards::Guards;
 use crate::hiring::{hire_at_door, hire_by_token};
 use crate::kit::GuardKit;
 use carries::Carrier;
@@ -19,7 +21,7 @@ use std::alloc::Global;
 use std::sync::Wait;
 use std::thread::Threads;
 use tunnel::shuts::Shuts;
-use worker_hall::{Serves, serve};
+use worker_hall::{Serves, dismiss, serve};
 
 const READY: &[u8] = b"ready\n";
 
@@ -29,8 +31,10 @@ fn serve_all<
     G: Serves<L::In, L::Out> + Send,
     O: Sink,
     W: Threads + Wait + Sync,
->(rt: &W, alloc: Global, guards: &mut [G], doors: &mut L, output: &mut O) -> GuardEnd
-    requires guards { 0 < length guards.old }
+>(rt: &W, alloc: Global, guards: &mut Vec<G>, doors: &mut L, output: &mut O) -> GuardEnd
+    requires guards { 0 < length guards.old.items }
+    ensures served { AreServed L.are_sides G.served guards.old.items result.served guards.new.items }
+    ensures as_many { length guards.new.items ≡ length guards.old.items }
     ensures over { IsOver (hall L.given L.faults O.held O.faults doors.old output.old) result
         (hall L.given L.faults O.held O.faults doors.new output.new) }
     ensures writes { O.faults output.old ≤ O.faults output.new }
@@ -59,19 +63,22 @@ pub(crate) fn serve_by_token<
     key: &ServerKey,
     target: &Target,
     doors: &mut L,
-    kits: Vec<GuardKit<H, R, U>>,
+    kits: &mut Vec<GuardKit<H, R, U>>,
     output: &mut O,
 ) -> GuardEnd
-    requires kits { 0 < length kits.items }
+    requires kits { 0 < length kits.old.items }
+    ensures served { AreServed L.are_sides (⟦<GuardKit<H, R, U> as Guards<L::In, L::Out>>⟧.guarded (key.now, target.now))
+        (reverse kits.old.items) result.served (reverse kits.new.items) }
     ensures over { IsOver (hall L.given L.faults O.held O.faults doors.old output.old) result
         (hall L.given L.faults O.held O.faults doors.new output.new) }
     ensures writes { O.faults output.old ≤ O.faults output.new }
 {
-    let Ok(mut guards) = hire_by_token(alloc, key, target, kits) else {
-        return unserved(GuardFault::Memory);
+    let mut guards = match hire_by_token(alloc, key, target, kits) {
+        Ok(guards) => guards,
+        Err(_) => return unserved(GuardFault::Memory),
     };
-    let end = serve_all(rt, alloc, guards.as_mut_slice(), doors, output);
-    drop(guards);
+    let end = serve_all(rt, alloc, &mut guards, doors, output);
+    dismiss(guards, kits);
     end
 }
 
@@ -88,18 +95,21 @@ pub(crate) fn serve_at_door<
     alloc: Global,
     door: &Door,
     doors: &mut L,
-    kits: Vec<GuardKit<H, R, U>>,
+    kits: &mut Vec<GuardKit<H, R, U>>,
     output: &mut O,
 ) -> GuardEnd
-    requires kits { 0 < length kits.items }
+    requires kits { 0 < length kits.old.items }
+    ensures served { AreServed L.are_sides (⟦<GuardKit<H, R, U> as Guards<L::In, L::Out>>⟧.signed_in door.now)
+        (reverse kits.old.items) result.served (reverse kits.new.items) }
     ensures over { IsOver (hall L.given L.faults O.held O.faults doors.old output.old) result
         (hall L.given L.faults O.held O.faults doors.new output.new) }
     ensures writes { O.faults output.old ≤ O.faults output.new }
 {
-    let Ok(mut guards) = hire_at_door(alloc, door, kits) else {
-        return unserved(GuardFault::Memory);
+    let mut guards = match hire_at_door(alloc, door, kits) {
+        Ok(guards) => guards,
+        Err(_) => return unserved(GuardFault::Memory),
     };
-    let end = serve_all(rt, alloc, guards.as_mut_slice(), doors, output);
-    drop(guards);
+    let end = serve_all(rt, alloc, &mut guards, doors, output);
+    dismiss(guards, kits);
     end
 }

@@ -1,5 +1,5 @@
 //! What serves connections, and lets browsers sign in.
-ghost use Rattle.std.specs.Prelude.{[]};
+ghost use Rattle.std.specs.Prelude.{◌≡◌, []};
 ghost use Rattle.guard_serving.specs.Served.{IsSignedIn};
 
 use crate::kit::GuardKit;
@@ -14,7 +14,7 @@ use std::alloc::Global;
 use std::sync::Wait;
 use tunnel::shuts::Shuts;
 use upstreams::upstream::Upstream;
-use worker_hall::Serves;
+use worker_hall::{Hired, Serves};
 
 /// Carries one request of each connection through a door, where the hub admits its token or the cookie that it got at its sign-in here.
 #[derive(Drop)]
@@ -23,6 +23,21 @@ pub struct SignInGuard<'a, H: HubLink, R: Random, U: Upstream> {
     pub kit: GuardKit<H, R, U>,
     /// What each connection goes through.
     pub rooms: Rooms,
+}
+
+impl<'a, H: HubLink, R: Random, U: Upstream> SignInGuard<'a, H, R, U> {
+    /// With rooms of its own.
+    pub(crate) fn new(
+        alloc: Global,
+        door: &'a Door,
+        kit: GuardKit<H, R, U>,
+    ) -> SignInGuard<'a, H, R, U>
+        ensures stand { result.door.now ≡ door.now }
+        ensures kit { result.kit ≡ kit }
+    {
+        let rooms = Rooms::new(alloc);
+        SignInGuard { door, kit, rooms }
+    }
 }
 
 impl<'a, H: HubLink, R: Random, U: Carrier<I, O>, I: Source, O: Shuts> Serves<I, O>
@@ -77,5 +92,19 @@ impl<'a, H: HubLink, R: Random, U: Carrier<I, O>, I: Source, O: Shuts> Serves<I,
             output,
             &mut self.kit.upstream,
         );
+    }
+}
+
+impl<'a, H: HubLink, R: Random, U: Upstream> Hired<GuardKit<H, R, U>> for SignInGuard<'a, H, R, U> {
+    ghost kit_of = { λ g. g.kit };
+
+    fn into_kit(self) -> GuardKit<H, R, U> {
+        let SignInGuard {
+            door: _,
+            kit,
+            rooms,
+        } = self;
+        drop(rooms);
+        kit
     }
 }

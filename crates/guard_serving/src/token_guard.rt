@@ -1,5 +1,5 @@
 //! What serves connections by the token of their request alone.
-ghost use Rattle.std.specs.Prelude.{[]};
+ghost use Rattle.std.specs.Prelude.{◌≡◌, []};
 ghost use Rattle.guard_serving.specs.Served.{IsGuarded};
 
 use crate::kit::GuardKit;
@@ -15,7 +15,7 @@ use std::alloc::Global;
 use std::sync::Wait;
 use tunnel::shuts::Shuts;
 use upstreams::upstream::Upstream;
-use worker_hall::Serves;
+use worker_hall::{Hired, Serves};
 
 /// Carries one request of each connection to the target, where the hub admits its token to the server of this key.
 #[derive(Drop)]
@@ -25,6 +25,27 @@ pub struct TokenGuard<'a, H: HubLink, R: Random, U: Upstream> {
     pub kit: GuardKit<H, R, U>,
     /// What each connection goes through.
     pub rooms: Rooms,
+}
+
+impl<'a, H: HubLink, R: Random, U: Upstream> TokenGuard<'a, H, R, U> {
+    /// With rooms of its own.
+    pub(crate) fn new(
+        alloc: Global,
+        key: &'a ServerKey,
+        target: &'a Target,
+        kit: GuardKit<H, R, U>,
+    ) -> TokenGuard<'a, H, R, U>
+        ensures stand { (result.key.now ≡ key.now) × (result.target.now ≡ target.now) }
+        ensures kit { result.kit ≡ kit }
+    {
+        let rooms = Rooms::new(alloc);
+        TokenGuard {
+            key,
+            target,
+            kit,
+            rooms,
+        }
+    }
 }
 
 impl<'a, H: HubLink, R: Random, U: Carrier<I, O>, I: Source, O: Shuts> Serves<I, O>
@@ -79,5 +100,20 @@ impl<'a, H: HubLink, R: Random, U: Carrier<I, O>, I: Source, O: Shuts> Serves<I,
             output,
             &mut self.kit.upstream,
         );
+    }
+}
+
+impl<'a, H: HubLink, R: Random, U: Upstream> Hired<GuardKit<H, R, U>> for TokenGuard<'a, H, R, U> {
+    ghost kit_of = { λ g. g.kit };
+
+    fn into_kit(self) -> GuardKit<H, R, U> {
+        let TokenGuard {
+            key: _,
+            target: _,
+            kit,
+            rooms,
+        } = self;
+        drop(rooms);
+        kit
     }
 }
