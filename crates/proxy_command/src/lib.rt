@@ -78,10 +78,10 @@ fn serve_at<W: Threads + Wait + Sync>(
         return say(&rt, 8, "the address of --api can't be had");
     };
     let mut api = TunnelListener::new(api);
-    let Ok(clocks) = new_clocks(rt) else {
+    let Ok(mut clocks) = new_clocks(rt) else {
         return say(&rt, 7, "there is no memory");
     };
-    let Ok(kits) = new_kits(rt, wait) else {
+    let Ok(mut kits) = new_kits(rt, wait) else {
         return say(&rt, 7, "there is no memory");
     };
     let mut output = Output::new(rt);
@@ -91,10 +91,12 @@ fn serve_at<W: Threads + Wait + Sync>(
         secret,
         &mut browsers,
         &mut api,
-        kits,
-        clocks,
+        &mut kits,
+        &mut clocks,
         &mut output,
     );
+    drop(kits);
+    drop(clocks);
     let why = match end.fault {
         ProxyFault::Memory => "there is no memory",
         ProxyFault::Output => "ready couldn't be written",

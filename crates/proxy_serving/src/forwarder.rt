@@ -1,5 +1,5 @@
 //! What forwards connections.
-ghost use Rattle.std.specs.Prelude.{[]};
+ghost use Rattle.std.specs.Prelude.{◌≡◌, []};
 ghost use Rattle.proxy_serving.specs.Served.{IsForwarded};
 
 use carries::{Carrier, carry_one};
@@ -11,7 +11,7 @@ use std::alloc::Global;
 use std::sync::Wait;
 use tunnel::shuts::Shuts;
 use upstreams::upstream::Upstream;
-use worker_hall::Serves;
+use worker_hall::{Hired, Serves};
 
 /// A worker's own devices.
 #[derive(Drop)]
@@ -27,6 +27,17 @@ pub struct Forwarder<R: Lookup, U: Upstream, C: Clock> {
     pub kit: ProxyKit<U, C>,
     /// What each connection goes through.
     pub rooms: Rooms,
+}
+
+impl<R: Lookup, U: Upstream, C: Clock> Forwarder<R, U, C> {
+    /// With rooms of its own.
+    pub(crate) fn new(alloc: Global, routes: R, kit: ProxyKit<U, C>) -> Forwarder<R, U, C>
+        ensures routes { result.routes ≡ routes }
+        ensures kit { result.kit ≡ kit }
+    {
+        let rooms = Rooms::new(alloc);
+        Forwarder { routes, kit, rooms }
+    }
 }
 
 impl<R: Lookup, U: Carrier<I, O>, C: Clock, I: Source, O: Shuts> Serves<I, O>
@@ -73,5 +84,16 @@ impl<R: Lookup, U: Carrier<I, O>, C: Clock, I: Source, O: Shuts> Serves<I, O>
             output,
             &mut self.kit.upstream,
         );
+    }
+}
+
+impl<R: Lookup + Drop, U: Upstream, C: Clock> Hired<ProxyKit<U, C>> for Forwarder<R, U, C> {
+    ghost kit_of = { λ f. f.kit };
+
+    fn into_kit(self) -> ProxyKit<U, C> {
+        let Forwarder { routes, kit, rooms } = self;
+        drop(routes);
+        drop(rooms);
+        kit
     }
 }

@@ -1,66 +1,85 @@
 //! The workers' servers, each with a pass of its own.
-ghost use Rattle.std.specs.Prelude.{◌≡◌, All, length, IfOk, IsSome};
+ghost use Rattle.std.specs.Prelude.{◌≡◌, [], All, length, map, reverse, IfOk, IfErr, IsSome};
+ghost use Rattle.std.specs.Vec.{vec_capacity};
+ghost use Rattle.proxy_serving.specs.Workers.{split_from};
 
 use crate::api_server::ApiServer;
 use crate::forwarder::{Forwarder, ProxyKit};
 use desk::{Desk, Pass};
 use hub_devices::clock::Clock;
 use hub_kit::text::Text;
-use piece_window::rooms::Rooms;
 use route_desk::{RouteBook, Router};
 use std::alloc::{AllocError, Global};
 use std::sync::Wait;
 use upstreams::upstream::Upstream;
 
-/// A forwarder for each kit, with rooms of its own.
+/// A forwarder for each kit, which it takes along: the last kit is that of the first forwarder. Where there is no memory none is made.
 pub(crate) fn hire_forwarders<'a, U: Upstream + Drop, C: Clock + Drop, W: Wait>(
     alloc: Global,
     wait: &'a W,
     desk: &'a Desk<RouteBook>,
     pass: &mut Pass<RouteBook>,
-    mut kits: Vec<ProxyKit<U, C>>,
+    kits: &mut Vec<ProxyKit<U, C>>,
 ) -> Result<Vec<Forwarder<Router<'a, W>, U, C>>, AllocError>
     requires of { pass.old.of ≡ desk.now }
     requires first { IsSome pass.old.others }
     ensures of { pass.new.of ≡ pass.old.of }
     ensures first { IsSome pass.new.others }
-    ensures one_each { IfOk result (λ v. length v.items ≡ length kits.items) }
+    ensures same { split_from pass.new ≡ split_from pass.old }
+    ensures begin { IfOk result (λ v. All (λ f. f.routes.pass ≡ split_from pass.old) v.items) }
+    ensures hired { IfOk result (λ v. (kits.new.items ≡ []) × (kits.old.items ≡ reverse (map (λ f. f.kit) v.items))) }
+    ensures one_each { IfOk result (λ v. length v.items ≡ length kits.old.items) }
+    ensures kept { IfErr result (λ _. kits.new.items ≡ kits.old.items) }
+    ensures room { vec_capacity kits.new ≡ vec_capacity kits.old }
 {
-    let mut forwarders = Vec::new(alloc);
+    let mut forwarders = Vec::with_capacity(alloc, kits.len())?;
     while let Some(kit) = kits.pop() {
-        let pass = desk.split(pass)?;
-        let routes = Router { wait, desk, pass };
-        let rooms = Rooms::new(alloc);
-        forwarders.push(Forwarder { routes, kit, rooms })?;
+        let own = desk.split(pass).unwrap();
+        let routes = Router {
+            wait,
+            desk,
+            pass: own,
+        };
+        match forwarders.push(Forwarder::new(alloc, routes, kit)) {
+            Ok(()) => {}
+            Err(_full) => unreachable!(),
+        }
     }
     Ok(forwarders)
 }
 
-/// A server of the interface for each clock, with a copy of the secret.
+/// A server of the interface for each clock, which it takes along: the last clock is that of the first server. Where there is no memory
+/// none is made.
 pub(crate) fn hire_servers<'a, C: Clock + Drop, W: Wait>(
     alloc: Global,
     wait: &'a W,
     desk: &'a Desk<RouteBook>,
     pass: &mut Pass<RouteBook>,
-    secret: &Text,
-    mut clocks: Vec<C>,
-) -> Result<Vec<ApiServer<Router<'a, W>, C>>, AllocError>
+    secret: &'a Text,
+    clocks: &mut Vec<C>,
+) -> Result<Vec<ApiServer<'a, Router<'a, W>, C>>, AllocError>
     requires of { pass.old.of ≡ desk.now }
     requires first { IsSome pass.old.others }
     ensures of { pass.new.of ≡ pass.old.of }
-    ensures one_each { IfOk result (λ v. length v.items ≡ length clocks.items) }
-    ensures secret { IfOk result (λ v. All (λ s. s.secret ≡ secret.now) v.items) }
+    ensures begin { IfOk result (λ v. All (λ s.
+        (s.routes.pass ≡ split_from pass.old) × (s.secret.now ≡ secret.now)) v.items) }
+    ensures hired { IfOk result (λ v. (clocks.new.items ≡ []) × (clocks.old.items ≡ reverse (map (λ s. s.clock) v.items))) }
+    ensures one_each { IfOk result (λ v. length v.items ≡ length clocks.old.items) }
+    ensures kept { IfErr result (λ _. clocks.new.items ≡ clocks.old.items) }
+    ensures room { vec_capacity clocks.new ≡ vec_capacity clocks.old }
 {
-    let mut servers = Vec::new(alloc);
+    let mut servers = Vec::with_capacity(alloc, clocks.len())?;
     while let Some(clock) = clocks.pop() {
-        let secret = secret.copy(alloc)?;
-        let pass = desk.split(pass)?;
-        let routes = Router { wait, desk, pass };
-        servers.push(ApiServer {
-            routes,
-            secret,
-            clock,
-        })?;
+        let own = desk.split(pass).unwrap();
+        let routes = Router {
+            wait,
+            desk,
+            pass: own,
+        };
+        match servers.push(ApiServer::new(routes, secret, clock)) {
+            Ok(()) => {}
+            Err(_full) => unreachable!(),
+        }
     }
     Ok(servers)
 }

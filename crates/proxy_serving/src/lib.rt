@@ -1,7 +1,8 @@
 //! The command `proxy`: connections forwarded by their paths, and the interface of the routes beside them.
 //! The contract of `serve_proxy` carries it: it writes `ready`, takes the connections of two listeners, each until it fails, and tells how
-//! many each of them gave and why no more. What one serving does is `served` of `Forwarder` and of `ApiServer`; that each connection of a
-//! listener is served so, all over one table of routes, is read in the code. The program stands above it.
+//! many each of them gave and why no more. What one serving does is `served` of `Forwarder` and of `ApiServer`; the connections of the one
+//! listener were served so by forwarders with the kits, and those of the other by servers with the clocks and the secret. All of these
+//! began with the same pass of a table without routes. The program stands above it.
 #![tactic(auto)]
 
 mod api_server;

@@ -1,10 +1,12 @@
 //! A proxy over its two listeners.
-ghost use Rattle.std.specs.Prelude.{◌≡◌, ◌≤◌, ◌<◌, length, IsSome, OnOk, OnErr};
+ghost use Rattle.std.specs.Prelude.{◌≡◌, ◌⊎◌, ◌≤◌, ◌<◌, length, IsSome, OnOk, OnErr};
 ghost use Rattle.hub_devices.specs.Faults.{Rises};
 ghost use Rattle.hub_devices.specs.Streams.{Appends};
 ghost use Rattle.worker_hall.specs.Given.{GaveMore};
+ghost use Rattle.worker_hall.specs.Shifts.{AreServed};
 ghost use Rattle.proxy_serving.specs.Ends.{IsFault, IsOver, IsSaid};
 ghost use Rattle.proxy_serving.specs.Ends as spec;
+ghost use Rattle.proxy_serving.specs.Workers.{IsUnused, KitsServed, OverOneTable, split_from};
 
 use crate::api_server::ApiServer;
 use crate::ends::{ProxyEnd, ProxyFault};
@@ -26,47 +28,55 @@ use std::alloc::Global;
 use std::sync::Wait;
 use std::thread::{Threads, join_mut};
 use tunnel::shuts::Shuts;
-use worker_hall::{HallFault, Serves, serve};
+use worker_hall::{HallFault, Serves, dismiss, serve};
 
 /// How many paths a table of routes has at most.
 const PATHS: u32 = 1_048_576;
 
 const READY: &[u8] = b"ready\n";
 
-/// Serves both listeners, that of the browsers and that of the interface for routes, each until it fails.
+/// Serves both listeners, that of the browsers and that of the interface for routes, each until it fails: the one by a forwarder for each
+/// kit, and the other by a server of the interface for each clock, all over one table of routes, which has none at first. The kits and the
+/// clocks come back in their places.
 pub fn serve_proxy<
+    'a,
     L: Listener<In: Send, Out: Shuts + Send> + Send,
     U: Carrier<L::In, L::Out, Reads: Send, Writes: Send> + Send + Drop,
     C: Clock + Send + Drop,
     O: Sink,
     W: Threads + Wait + Sync,
 >(
-    rt: &W,
+    rt: &'a W,
     alloc: Global,
-    secret: &Text,
+    secret: &'a Text,
     browsers: &mut L,
     api: &mut L,
-    kits: Vec<ProxyKit<U, C>>,
-    clocks: Vec<C>,
+    kits: &mut Vec<ProxyKit<U, C>>,
+    clocks: &mut Vec<C>,
     output: &mut O,
 ) -> ProxyEnd
-    requires kits { 0 < length kits.items }
-    requires clocks { 0 < length clocks.items }
+    requires kits { 0 < length kits.old.items }
+    requires clocks { 0 < length clocks.old.items }
     ensures said { IsSaid (O.held output.old) (O.held output.new) result.fault }
+    ensures served { ((result.forwarded ≡ 0) × (result.answered ≡ 0)
+        × (kits.new.items ≡ kits.old.items) × (clocks.new.items ≡ clocks.old.items))
+        ⊎ OverOneTable
+        (λ pass. KitsServed (AreServed L.are_sides ⟦<Forwarder<Router<'a, W>, U, C> as Serves<L::In, L::Out>>⟧.served)
+        (λ f. f.routes.pass ≡ pass) (λ f. f.kit) kits.old.items result.forwarded kits.new.items)
+        (λ pass. KitsServed (AreServed L.are_sides ⟦<ApiServer<'a, Router<'a, W>, C> as Serves<L::In, L::Out>>⟧.served)
+        (λ s. (s.routes.pass ≡ pass) × (s.secret.now ≡ secret.now)) (λ s. s.clock) clocks.old.items result.answered clocks.new.items) }
     ensures forwarded { GaveMore (L.given browsers.old) result.forwarded (L.given browsers.new) }
     ensures answered { GaveMore (L.given api.old) result.answered (L.given api.new) }
     ensures fault { IsFault (L.faults browsers.old) (L.faults browsers.new) (L.faults api.old) (L.faults api.new)
         result.forwarded result.answered (O.faults output.old) (O.faults output.new) result.fault }
     ensures writes { O.faults output.old ≤ O.faults output.new }
 {
-    let Ok((desk, pass)) = open(alloc, Routes::new(alloc, PATHS)) else {
-        drop(kits);
-        drop(clocks);
-        return ended(0, 0, ProxyFault::Memory);
+    let opened = match open(alloc, Routes::new(alloc, PATHS)) {
+        Ok(opened) => opened,
+        Err(_) => return ended(0, 0, ProxyFault::Memory),
     };
+    let (desk, pass) = opened;
     if say_ready(output).is_err() {
-        drop(kits);
-        drop(clocks);
         drop(pass);
         drop(desk);
         return ended(0, 0, ProxyFault::Output);
@@ -106,38 +116,102 @@ fn serve_over<
     alloc: Global,
     desk: &'a Desk<RouteBook>,
     pass: Pass<RouteBook>,
-    secret: &Text,
+    secret: &'a Text,
     browsers: &mut L,
     api: &mut L,
-    kits: Vec<ProxyKit<U, C>>,
-    clocks: Vec<C>,
+    kits: &mut Vec<ProxyKit<U, C>>,
+    clocks: &mut Vec<C>,
 ) -> ProxyEnd
     requires of { pass.of ≡ desk.now }
     requires first { IsSome pass.others }
-    requires kits { 0 < length kits.items }
-    requires clocks { 0 < length clocks.items }
+    requires kits { 0 < length kits.old.items }
+    requires clocks { 0 < length clocks.old.items }
+    ensures served { ((result.forwarded ≡ 0) × (result.answered ≡ 0)
+        × (kits.new.items ≡ kits.old.items) × (clocks.new.items ≡ clocks.old.items))
+        ⊎ (KitsServed (AreServed L.are_sides ⟦<Forwarder<Router<'a, W>, U, C> as Serves<L::In, L::Out>>⟧.served)
+        (λ f. f.routes.pass ≡ split_from pass) (λ f. f.kit) kits.old.items result.forwarded kits.new.items
+        × KitsServed (AreServed L.are_sides ⟦<ApiServer<'a, Router<'a, W>, C> as Serves<L::In, L::Out>>⟧.served)
+        (λ s. (s.routes.pass ≡ split_from pass) × (s.secret.now ≡ secret.now))
+        (λ s. s.clock) clocks.old.items result.answered clocks.new.items) }
     ensures forwarded { GaveMore (L.given browsers.old) result.forwarded (L.given browsers.new) }
     ensures answered { GaveMore (L.given api.old) result.answered (L.given api.new) }
     ensures over { IsOver (L.faults browsers.old) (L.faults browsers.new) (L.faults api.old) (L.faults api.new)
         result.forwarded result.answered result.fault }
 {
     let mut pass = pass;
-    let Ok(forwarders) = hire_forwarders(alloc, rt, desk, &mut pass, kits) else {
-        drop(pass);
-        drop(clocks);
-        return ended(0, 0, ProxyFault::Memory);
+    let mut forwarders = match hire_forwarders(alloc, rt, desk, &mut pass, kits) {
+        Ok(forwarders) => forwarders,
+        Err(_) => {
+            drop(pass);
+            return ended(0, 0, ProxyFault::Memory);
+        }
     };
-    let Ok(servers) = hire_servers(alloc, rt, desk, &mut pass, secret, clocks) else {
-        drop(pass);
-        drop(forwarders);
-        return ended(0, 0, ProxyFault::Memory);
-    };
-    drop(pass);
-    serve_routes(rt, alloc, browsers, forwarders, api, servers)
+    let end = serve_hired(
+        rt,
+        alloc,
+        desk,
+        pass,
+        secret,
+        browsers,
+        &mut forwarders,
+        api,
+        clocks,
+    );
+    dismiss(forwarders, kits);
+    end
 }
 
-/// The same with what serves the connections.
+/// The same with what forwards the connections.
+fn serve_hired<
+    'a,
+    L: Listener<In: Send, Out: Shuts + Send> + Send,
+    U: Carrier<L::In, L::Out, Reads: Send, Writes: Send> + Send + Drop,
+    C: Clock + Send + Drop,
+    W: Threads + Wait + Sync,
+>(
+    rt: &'a W,
+    alloc: Global,
+    desk: &'a Desk<RouteBook>,
+    pass: Pass<RouteBook>,
+    secret: &'a Text,
+    browsers: &mut L,
+    forwarders: &mut Vec<Forwarder<Router<'a, W>, U, C>>,
+    api: &mut L,
+    clocks: &mut Vec<C>,
+) -> ProxyEnd
+    requires of { pass.of ≡ desk.now }
+    requires first { IsSome pass.others }
+    requires forwarders { 0 < length forwarders.old.items }
+    requires clocks { 0 < length clocks.old.items }
+    ensures served { ((result.forwarded ≡ 0) × (result.answered ≡ 0) × (forwarders.new.items ≡ forwarders.old.items)
+        × (clocks.new.items ≡ clocks.old.items))
+        ⊎ (AreServed L.are_sides ⟦<Forwarder<Router<'a, W>, U, C> as Serves<L::In, L::Out>>⟧.served forwarders.old.items
+        result.forwarded forwarders.new.items
+        × KitsServed (AreServed L.are_sides ⟦<ApiServer<'a, Router<'a, W>, C> as Serves<L::In, L::Out>>⟧.served)
+        (λ s. (s.routes.pass ≡ split_from pass) × (s.secret.now ≡ secret.now))
+        (λ s. s.clock) clocks.old.items result.answered clocks.new.items) }
+    ensures forwarded { GaveMore (L.given browsers.old) result.forwarded (L.given browsers.new) }
+    ensures answered { GaveMore (L.given api.old) result.answered (L.given api.new) }
+    ensures over { IsOver (L.faults browsers.old) (L.faults browsers.new) (L.faults api.old) (L.faults api.new)
+        result.forwarded result.answered result.fault }
+{
+    let mut pass = pass;
+    let mut servers = match hire_servers(alloc, rt, desk, &mut pass, secret, clocks) {
+        Ok(servers) => servers,
+        Err(_) => {
+            drop(pass);
+            return ended(0, 0, ProxyFault::Memory);
+        }
+    };
+    drop(pass);
+    let end = serve_routes(rt, alloc, browsers, forwarders, api, &mut servers);
+    dismiss(servers, clocks);
+    end
+}
+
+/// The same with all that serves the connections.
 fn serve_routes<
+    'a,
     L: Listener<In: Send, Out: Shuts + Send> + Send,
     R: Lookup + RouteService + Send + Drop,
     U: Carrier<L::In, L::Out, Reads: Send, Writes: Send> + Send + Drop,
@@ -147,27 +221,22 @@ fn serve_routes<
     rt: &W,
     alloc: Global,
     browsers: &mut L,
-    forwarders: Vec<Forwarder<R, U, C>>,
+    forwarders: &mut Vec<Forwarder<R, U, C>>,
     api: &mut L,
-    servers: Vec<ApiServer<R, C>>,
+    servers: &mut Vec<ApiServer<'a, R, C>>,
 ) -> ProxyEnd
-    requires forwarders { 0 < length forwarders.items }
-    requires servers { 0 < length servers.items }
+    requires forwarders { 0 < length forwarders.old.items }
+    requires servers { 0 < length servers.old.items }
+    ensures by_forwarders { AreServed L.are_sides ⟦<Forwarder<R, U, C> as Serves<L::In, L::Out>>⟧.served
+        forwarders.old.items result.forwarded forwarders.new.items }
+    ensures by_servers { AreServed L.are_sides ⟦<ApiServer<'a, R, C> as Serves<L::In, L::Out>>⟧.served
+        servers.old.items result.answered servers.new.items }
     ensures forwarded { GaveMore (L.given browsers.old) result.forwarded (L.given browsers.new) }
     ensures answered { GaveMore (L.given api.old) result.answered (L.given api.new) }
     ensures over { IsOver (L.faults browsers.old) (L.faults browsers.new) (L.faults api.old) (L.faults api.new)
         result.forwarded result.answered result.fault }
 {
-    let mut forwarders = forwarders;
-    let mut servers = servers;
-    serve_both(
-        rt,
-        alloc,
-        browsers,
-        forwarders.as_mut_slice(),
-        api,
-        servers.as_mut_slice(),
-    )
+    serve_both(rt, alloc, browsers, forwarders, api, servers)
 }
 
 /// Serves each listener by its servers, both at once.
@@ -180,12 +249,14 @@ fn serve_both<
     rt: &W,
     alloc: Global,
     browsers: &mut L,
-    forwarders: &mut [F],
+    forwarders: &mut Vec<F>,
     api: &mut L,
-    servers: &mut [S],
+    servers: &mut Vec<S>,
 ) -> ProxyEnd
-    requires forwarders { 0 < length forwarders.old }
-    requires servers { 0 < length servers.old }
+    requires forwarders { 0 < length forwarders.old.items }
+    requires servers { 0 < length servers.old.items }
+    ensures by_forwarders { AreServed L.are_sides F.served forwarders.old.items result.forwarded forwarders.new.items }
+    ensures by_servers { AreServed L.are_sides S.served servers.old.items result.answered servers.new.items }
     ensures forwarded { GaveMore (L.given browsers.old) result.forwarded (L.given browsers.new) }
     ensures answered { GaveMore (L.given api.old) result.answered (L.given api.new) }
     ensures over { IsOver (L.faults browsers.old) (L.faults browsers.new) (L.faults api.old) (L.faults api.new)
@@ -194,10 +265,10 @@ fn serve_both<
     let (forwarded, answered) = join_mut(
         rt,
         &mut ||
-            requires { 0 < length forwarders.now }
+            requires { 0 < length forwarders.now.items }
         { serve(rt, alloc, browsers, forwarders, u64::MAX) },
         &mut ||
-            requires { 0 < length servers.now }
+            requires { 0 < length servers.now.items }
         { serve(rt, alloc, api, servers, u64::MAX) },
     );
     ended(

@@ -1,12 +1,23 @@
-use denote.Param.Send.{IsSend, param_send}
-use mir.Syntax.{static}
-use Rattle.proxy_serving.proofs.Sent.{router_send}
-use Rattle.proxy_serving.proofs.serving.serve_over.Lts.{arg-6-1}
+use Rattle.std.proofs.Common.{rules, ◌≡◌, ◌≤◌, inl, length, ◌∙◌, subst, sym}
+use Rattle.std.specs.Vec.{vec_capacity}
+use Rattle.proxy_serving.specs.Workers.{split_from}
+use Rattle.proxy_serving.proofs.WorkerLemmas.{forwarders_back, long_or_idle}
 use Rattle.proxy_serving.proofs.serving.serve_over.Goals as goal
 
-pub serve_routes-requires-send-R : goal.serve_routes-requires-send-R
-serve_routes-requires-send-R g c κs within =
-    let waits = c.type_bounds.sync-W in
-    let sent : IsSend (arg-6-1 g.row.L g.row.U g.row.C g.row.W g.row.L-In g.row.L-Out g.row.U-Reads g.row.U-Writes g.L.laws g.U.laws g.C.laws g.W.laws g.L.In.laws g.L.Out.laws g.U.Reads.laws g.U.Writes.laws g.L.Listener-dict g.L.In.Source-dict g.L.Out.Shuts-dict g.L.Out.Sink-dict g.U.Carrier-dict g.U.Tunnelled-dict g.U.Upstream-dict g.U.Reads.Source-dict g.U.Writes.Shuts-dict g.U.Writes.Sink-dict g.C.Clock-dict g.W.Threads-dict g.W.Wait-dict g.U.Destruct-dict g.C.Destruct-dict g.L.In.Destruct-dict g.L.Out.Destruct-dict g.U.Reads.Destruct-dict g.U.Writes.Destruct-dict κs) =
-    (let router = router_send (record { mir = static; lft = _ }) _ waits in record { owned = router.owned; leaving = router.leaving }) in
-    param_send _ _ sent
+pub dismiss-requires-clause-room : goal.dismiss-requires-clause-room
+dismiss-requires-clause-room g c =
+    let fits : length c.args.kits.now.items ≤ vec_capacity c.args.kits.now = search rules in
+    let long = long_or_idle _ _ _ _ _ _ c.in-Ok.forwarders.items c.serve_hired-end.new.forwarders.items c.serve_hired-end.result.forwarded
+    c.serve_hired-end.ensures.served ∙ c.in-Ok.ensures.one_each in
+    subst (λ n. n ≤ vec_capacity c.hire_forwarders.new.kits) (sym long) (subst (λ n. length c.args.kits.now.items ≤ n) (sym c.hire_forwarders.ensures.room) fits)
+
+pub returns-clause-served : goal.returns-clause-served
+returns-clause-served g c =
+    let served = c.serve_hired-end in
+    forwarders_back _ _ (λ p f. f.routes.pass ≡ p) (λ p s. (s.routes.pass ≡ p) × (s.secret.now ≡ c.args.secret.now)) (λ f. f.kit) (λ s. s.clock)
+    c.args.kits.now.items c.dismiss.new.kits.items c.args.clocks.now.items served.new.clocks.items c.in-Ok.forwarders.items served.new.forwarders.items
+    served.result.forwarded served.result.answered (split_from c.hire_forwarders.new.pass) (split_from c.args.pass) c.hire_forwarders.ensures.same
+    c.in-Ok.ensures.begin c.in-Ok.ensures.hired.1 c.dismiss.ensures.back served.ensures.served
+
+pub returns-in-Err-clause-served : goal.returns-in-Err-clause-served
+returns-in-Err-clause-served g c = inl (search rules, search rules, c.in-Err.ensures.kept, search rules)

@@ -1,0 +1,37 @@
+-- The workers of a proxy, and the table that they share.
+use Rattle.std.specs.Prelude.{◌≡◌, ℕ, List, [], map, reverse, All, Some}
+use Rattle.std.specs.FinMap.{empty}
+use Rattle.desk.specs.Passes.{PassState, fresh}
+use Rattle.route_table.specs.Table.{Table}
+use Rattle.route_desk.specs.declared.step.Step.{Step}
+
+-- The pass that is split off this one
+abbrev pub split_from : {E A : Type 0} → PassState E A → PassState E A
+split_from p = fresh p.of p.base p.seen p.faults
+
+-- A pass by which nothing was asked yet, of a table that began with no route and has seen no step
+pub record IsUnused (p : PassState Step Table) : Type 0 where
+  pub table : Table
+  pub base : p.base ≡ Some table
+  pub bare : table.rows ≡ empty
+  pub seen : p.seen ≡ []
+  pub mine : p.mine ≡ []
+
+-- Servers, one with each of these kits, served so many connections, and gave their kits back as those; the first had the last kit. `serve`
+-- says what servers are that served so many, `Begins` how each began, and `kit` what a server's kit is
+pub record KitsServed {S K : Type 0} (serve : List S → ℕ → List S → Type 0) (Begins : S → Type 0) (kit : S → K) (kits : List K) (count : ℕ)
+    (kits' : List K)
+    : Type 0 where
+  pub servers : List S
+  pub left : List S
+  pub begin : All Begins servers
+  pub had : kits ≡ reverse (map kit servers)
+  pub served : serve servers count left
+  pub gave : kits' ≡ reverse (map kit left)
+
+-- All workers began with the same unused pass, those that forwarded (`forwarded`) and those that answered (`answered`)
+pub record OverOneTable (forwarded answered : PassState Step Table → Type 0) : Type 0 where
+  pub pass : PassState Step Table
+  pub unused : IsUnused pass
+  pub by_forwarders : forwarded pass
+  pub by_servers : answered pass
