@@ -203,6 +203,7 @@ fn ends_so<W: Threads + Wait + Abort + Sync>(rt: &W, alloc: Global, command: &Co
     let all = Mutex::new(Bytes::new(alloc));
     let mut files = files(rt, alloc);
     let mut doors = doors(rt, alloc, &all, command.upgrade);
+    let mut kits = kits(rt, alloc);
     let mut output = MemSink::new(alloc, Vec::new(alloc));
     let end = run(
         rt,
@@ -210,9 +211,10 @@ fn ends_so<W: Threads + Wait + Abort + Sync>(rt: &W, alloc: Global, command: &Co
         words.as_slice(),
         &mut files,
         &mut doors,
-        kits(rt, alloc),
+        &mut kits,
         &mut output,
     );
+    drop(kits);
     drop(words);
     drop(files);
     drop(doors);

@@ -142,6 +142,8 @@ fn tunnels<W: Threads + Wait + Abort + Sync>(rt: &W, alloc: Global) -> bool {
         doors: callers(rt, alloc, &added),
     };
     let secret = text(rt, alloc, "secret-of-proxy");
+    let mut kits = kits(rt, alloc);
+    let mut clocks = clocks(rt, alloc);
     let mut output = MemSink::new(alloc, Vec::new(alloc));
     let end = serve_proxy(
         rt,
@@ -149,10 +151,12 @@ fn tunnels<W: Threads + Wait + Abort + Sync>(rt: &W, alloc: Global) -> bool {
         &secret,
         &mut browsers,
         &mut api,
-        kits(rt, alloc),
-        clocks(rt, alloc),
+        &mut kits,
+        &mut clocks,
         &mut output,
     );
+    drop(kits);
+    drop(clocks);
     drop(browsers);
     drop(api);
     let is_ready = output.as_slice() == b"ready\n".as_slice();
