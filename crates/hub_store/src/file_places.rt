@@ -11,22 +11,33 @@ use crate::places::{Places, ProgramPlaces};
 use hub_kit::text::Text;
 use keeper::keeper::KeeperError;
 use keeper_sqlite::sqlite_keeper::SqliteKeeper;
-use sqlite::{Alter, Connection, Error, ErrorCode, FileFrom, FileStore, Files, Options, Start};
+use sqlite::{
+    Alter, Connection, Error, ErrorCode, FileFrom, FileStore, Files, Options, Start, Unknown,
+};
+use sqlite_pager::Pager;
+use sqlite_pages::Error as PoolError;
+use sqlite_pool::Pool;
 use sqlite_std_file::OpenError;
+use sqlite_wal::PageSize;
 use std::alloc::Global;
-use std::fs::OpenOptions;
+use std::fs::{File, OpenOptions};
 use std::hash::{BuildHasher, RandomState};
 use std::io::ErrorKind;
-use std::os::unix::fs::OpenOptionsExt;
-use std::{fmt, fs};
+use std::os::unix::fs::{FileExt, OpenOptionsExt};
+use std::{fmt, fs, io};
 
-/// How many pages that were read are kept in memory at least: four megabytes, in which a file of 10,000 users stands.
-const LEAST_CACHE_PAGES: usize = 1_000;
+/// How much of a file is kept in memory at least: a file of 10,000 users stands in it.
+const LEAST_CACHE_BYTES: u64 = 4_096_000;
 
-/// And at most: 64 megabytes, in which a file of 190,000 users stands.
-const MOST_CACHE_PAGES: usize = 16_000;
+/// And at most: a file of 190,000 users stands in it.
+const MOST_CACHE_BYTES: u64 = 65_536_000;
 
-const PAGE_BYTES: u64 = 4_096;
+/// How large the pages are of a file that the hub makes. A commit of a few small rows copies and sums whole pages, so that it costs less
+/// with small ones; where they are smaller than this an opening costs more.
+const NEW_PAGE_BYTES: usize = 2_048;
+
+/// Where the head of a database says how large its pages are.
+const PAGE_SIZE_AT: u64 = 16;
 
 /// Why a file isn't taken as a store. All but want of memory are faults.
 #[derive(Clone, Copy, Debug, PartialEq, Eq)]
@@ -74,8 +85,8 @@ impl fmt::Display for FileError {
     }
 }
 
-/// Opens one file of SQLite, and the log beside it. `S` names what is supposed of what the two hold, and of the disk: `main` passes
-/// `Unknown`.
+/// Opens one file of SQLite, and the log beside it, once an empty database is made where there is none. `S` names what is supposed of what
+/// the two hold then, and of the disk: `main` passes `Unknown`.
 #[derive(Drop)]
 pub struct FilePlaces<S: Start> {
     rt: HostRuntime,
@@ -160,6 +171,9 @@ fn open_database<S: Start>(
     ensures found { IfOk result (λ c. HasCleanDisk (file_state c) → FindsIn (image_at S.Start) (file_state c)) }
 {
     let options = options(rt, path)?;
+    if may_be_unmade(rt, path) {
+        make_empty(rt, path, options)?;
+    }
     let files = open_pair(rt, path, start)?;
     match Connection::open_files(rt.alloc(), files, options) {
         Ok(connection) => Ok(connection),
@@ -167,13 +181,38 @@ fn open_database<S: Start>(
     }
 }
 
+/// The size of the pages of a file that the hub makes.
+fn new_page_size() -> PageSize {
+    PageSize::new(NEW_PAGE_BYTES).unwrap()
+}
+
+/// The size of the pages that the head of the file at a path tells, if it is one of SQLite's.
+fn read_page_size(rt: &HostRuntime, path: &str) -> io::Result<Option<PageSize>> {
+    let mut told = [0u8; 2];
+    File::open(rt, path)?.read_exact_at(&mut told, PAGE_SIZE_AT)?;
+    Ok(match u16::from_be_bytes(told) {
+        // so SQLite writes the one size that two bytes don't hold
+        1 => PageSize::new(65_536),
+        bytes => PageSize::new(bytes as usize),
+    })
+}
+
+/// The size of the pages of the file at a path. What has none yet gets that of a new file.
+fn page_size(rt: &HostRuntime, path: &str) -> PageSize {
+    match read_page_size(rt, path) {
+        Ok(Some(size)) => size,
+        _ => new_page_size(),
+    }
+}
+
 /// How many pages of the file at a path are kept in memory: all that it has now, within limits, since an opening reads each several times.
 fn cache_pages(rt: &HostRuntime, path: &str) -> usize {
-    let Ok(found) = fs::metadata(rt, path) else {
-        return LEAST_CACHE_PAGES;
+    let (length, page) = match fs::metadata(rt, path) {
+        Ok(found) if found.is_file() => (found.len(), page_size(rt, path)),
+        _ => (0, new_page_size()),
     };
-    let pages = (found.len() / PAGE_BYTES) as usize;
-    pages.clamp(LEAST_CACHE_PAGES, MOST_CACHE_PAGES)
+    let kept = length.clamp(LEAST_CACHE_BYTES, MOST_CACHE_BYTES) as usize;
+    kept / page.bytes()
 }
 
 /// What a connection to the file at a path keeps in memory. Its log begins at random.
@@ -218,6 +257,33 @@ fn open_pair<S: Start>(
             Err(FileError::Memory)
         }
         Err(_) => Err(FileError::CannotOpen),
+    }
+}
+
+/// Whether there may be no database at a path, or one that a crash left half made: neither is longer than a page.
+fn may_be_unmade(rt: &HostRuntime, path: &str) -> bool {
+    match fs::metadata(rt, path) {
+        Ok(found) => found.len() <= NEW_PAGE_BYTES as u64,
+        Err(_) => true,
+    }
+}
+
+/// Makes an empty database at a path where there is none, or one that a crash left half made, and leaves anything else alone. A
+/// connection would make it with larger pages.
+fn make_empty(rt: &HostRuntime, path: &str, options: Options) -> Result<(), FileError> {
+    let alloc = rt.alloc();
+    let files = open_pair(rt, path, Unknown)?;
+    let Ok(pager) = Pager::new(alloc, files, new_page_size(), options) else {
+        return Err(FileError::Memory);
+    };
+    let Ok(mut pool) = Pool::new(alloc, pager, false) else {
+        return Err(FileError::Memory);
+    };
+    match pool.create() {
+        // what is there already is for the connection to judge
+        Ok(()) | Err(PoolError::Corrupt) => Ok(()),
+        Err(PoolError::OutOfMemory) => Err(FileError::Memory),
+        Err(PoolError::Io | PoolError::Full) => Err(FileError::Disk),
     }
 }
 
