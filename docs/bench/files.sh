@@ -4,7 +4,8 @@
 # hub left running, how long an opening over many users takes, and how many changes a second it acknowledges beside the stock sqlite3. One
 # by one, each is asked for once the one before is acknowledged, by a hub and a sqlite3 that are open. All at once, each program finds all
 # its work on its input: sqlite3 acknowledges nothing then, and the start and the end of both are counted.
-# usage: docs/bench/files.sh [PROGRAM [FOLDER]]
+# With the word `pages` it compares files whose pages are of 4,096, 2,048 and 1,024 bytes instead: a file keeps the pages that it has.
+# usage: docs/bench/files.sh [PROGRAM [FOLDER [pages]]]
 # PROGRAM is the program `hub` as `rt run` leaves it (crates/hub/out/hub if none is named: run `./run` first). The files are made in a
 # folder of FOLDER, which decides what a sync costs (/tmp if none is named), and removed at the end. It needs the stock sqlite3, takes some
 # minutes, and stands outside the gate. It ends with status 1 at the first thing that isn't as it should be.
@@ -15,8 +16,8 @@ command -v sqlite3 >/dev/null || { echo 'the stock sqlite3 is not installed'; ex
 folder=$(mktemp -d "${2:-/tmp}/hub-files.XXXXXX")
 trap 'rm -rf "$folder"' EXIT
 cd "$folder"
-python3 - "$program" <<'PYTHON'
-import hashlib, json, os, random, re, signal, sqlite3, subprocess, sys, time
+python3 - "$program" "${3:-}" <<'PYTHON'
+import hashlib, json, os, random, re, shutil, signal, sqlite3, subprocess, sys, time
 
 program = sys.argv[1]
 WORDS = [program, "session", "1700000000", "ann", "secret-token-ann", "--admin"]
@@ -213,10 +214,10 @@ def largest(pid):
     fail("the system tells no memory")
 
 
-def opened(file):
-    """Processor seconds and megabytes of a hub that opens, answers once and ends, the least of five."""
+def opened(file, times=5):
+    """Processor seconds and megabytes of a hub that opens, answers once and ends, the least of so many."""
     figures = []
-    for _ in range(5):
+    for _ in range(times):
         hub = session(file)
         if ask(hub, request(b"GET", b"/hub/api/user")) != 200:
             fail(f"{file} isn't opened")
@@ -347,10 +348,55 @@ def race():
         )
 
 
-kill_many()
-refuse()
-keep_private()
-leave_alone()
-open_many()
-race()
+# ---- sizes of pages
+
+
+SIZES = 4096, 2048, 1024
+
+
+def with_pages(file, size):
+    """The same rows in a file with pages of this size, written again by the stock sqlite3."""
+    other = f"{file}.{size}"
+    stock(file, f"pragma page_size = {size}; vacuum into '{other}'")
+    return other
+
+
+def race_of_pages():
+    end(session("empty.db"))
+    empty = {size: with_pages("empty.db", size) for size in SIZES}
+    ours, theirs = {size: [] for size in SIZES}, []
+    for turn in range(15):
+        for size in SIZES:
+            shutil.copy(empty[size], f"ours{size}-{turn}.db")
+            ours[size].append(changes(999, f"ours{size}-{turn}.db"))
+        theirs.append(stock_changes(999, f"theirs-pages{turn}.db"))
+    for size in SIZES:
+        share = median([mine / other for mine, other in zip(ours[size], theirs)])
+        best = max(ours[size]) / max(theirs)
+        print(f"pages of {size}: changes one by one, {best:.2f} of sqlite3's at the best, {share:.2f} in the median round", flush=True)
+
+
+def open_pages(count, rounds):
+    fill(f"pages{count}.db", count - 1)
+    files = {size: with_pages(f"pages{count}.db", size) for size in SIZES}
+    took = {size: [] for size in SIZES}
+    for _ in range(rounds):
+        for size in SIZES:
+            took[size].append(opened(files[size], 1)[0])
+    for size in SIZES:
+        least, middle = min(took[size]), median(took[size])
+        print(f"pages of {size}: opening {count} users, {least:.3f} s of processor time, the median {middle:.3f}", flush=True)
+
+
+if sys.argv[2] == "pages":
+    race_of_pages()
+    open_pages(10_000, 9)
+    open_pages(100_000, 5)
+else:
+    kill_many()
+    refuse()
+    keep_private()
+    leave_alone()
+    open_many()
+    race()
 PYTHON
