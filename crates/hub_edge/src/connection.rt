@@ -8,7 +8,7 @@ use crate::limits::{
 };
 use crate::line::Line;
 use crate::listener::{Door, set_writing};
-use crate::waiting::{comes_within, has_ended, time_left};
+use crate::waiting::{has_ended, is_over};
 use hub_devices::sink::Sink;
 use hub_devices::source::{Failed, Source};
 use std::alloc::{AllocError, Global};
@@ -172,12 +172,26 @@ impl SocketSource {
         Err(io::Error::from(ErrorKind::TimedOut))
     }
 
-    /// Waits until bytes are there, or the end, for what is left of a time that began at an instant. It fails where none come.
-    pub fn await_within(&self, begun: Instant, limit: Duration) -> io::Result<()> {
-        match time_left(&self.rt, begun, limit)? {
-            Some(left) if comes_within(self.line.stream(), left) => Ok(()),
-            _ => Err(io::Error::from(ErrorKind::TimedOut)),
+    /// The next bytes, or 0 at the end, for what is left of a time that began at an instant. It fails where none come, by the time that the
+    /// connection waits at once later than that.
+    pub fn read_within(
+        &mut self,
+        begun: Instant,
+        limit: Duration,
+        into: &mut [u8],
+    ) -> io::Result<usize>
+        ensures fits { IfOk result (λ n. n ≤ length into.new) }
+    {
+        for _ in 0..u64::MAX {
+            if is_over(&self.rt, begun, limit)? {
+                break;
+            }
+            match read_some(self.line.stream(), into) {
+                Err(error) if error.kind() == ErrorKind::WouldBlock => {}
+                read => return read,
+            }
         }
+        Err(io::Error::from(ErrorKind::TimedOut))
     }
 
     /// The next bytes, or 0 at the end of input.

@@ -84,7 +84,16 @@ pub(crate) fn is_held(rt: &HostRuntime, target: &Target) -> io::Result<bool> {
 /// A connection to a target. What its writes need is set where one may wait. A read waits again and again, each time for as long as is
 /// set here.
 pub fn connect(rt: HostRuntime, target: &Target) -> io::Result<(SocketSource, SocketSink)> {
+    connect_waiting(rt, target, Duration::from_secs(WAIT_SECONDS))
+}
+
+/// The same, where a read by `read_within` waits for so long at once.
+pub fn connect_waiting(
+    rt: HostRuntime,
+    target: &Target,
+    wait: Duration,
+) -> io::Result<(SocketSource, SocketSink)> {
     let stream = stream_to(&rt, target)?;
-    stream.set_read_timeout(Some(Duration::from_secs(WAIT_SECONDS)))?;
+    stream.set_read_timeout(Some(wait))?;
     Ok(sides(rt, stream, None)?)
 }

@@ -4,9 +4,8 @@ ghost use Rattle.std.specs.Prelude.{◌≡◌, ℕ, None, ⊤};
 use crate::limits::{END_MILLISECONDS, REPLY_BYTES};
 use http_wire::writes::write_all;
 use hub_devices::link_error::LinkError;
-use hub_devices::source::Source;
 use hub_edge::connection::SocketSource;
-use hub_edge::targets::connect;
+use hub_edge::targets::connect_waiting;
 use hub_kit::bytes::Bytes;
 use hub_kit::target::Target;
 use hub_link::link::HubLink;
@@ -53,7 +52,8 @@ impl SocketHub {
 
     /// Sends a request, and reads all that comes.
     fn exchange(&self, request: &Bytes) -> io::Result<Bytes> {
-        let (mut input, mut output) = connect(self.rt, &self.target)?;
+        let moment = Duration::from_millis(END_MILLISECONDS);
+        let (mut input, mut output) = connect_waiting(self.rt, &self.target, moment)?;
         if write_all(&mut output, request.as_slice()).is_err() {
             return Err(io::Error::from(ErrorKind::WriteZero));
         }
@@ -70,11 +70,8 @@ fn await_end(rt: &HostRuntime, input: &mut SocketSource) {
     let Ok(begun) = Instant::now(rt) else {
         return;
     };
-    let moment = Duration::from_millis(END_MILLISECONDS);
-    if input.await_within(begun, moment).is_ok() {
-        let mut rest = [0u8; 1];
-        let _ = input.read(&mut rest);
-    }
+    let mut rest = [0u8; 1];
+    let _ = input.read_within(begun, Duration::from_millis(END_MILLISECONDS), &mut rest);
 }
 
 /// All that comes within this time, up to the most that a reply may have. Where what came is a whole reply by the length that it says, its
@@ -85,10 +82,7 @@ fn read_to_end(rt: &HostRuntime, input: &mut SocketSource, limit: Duration) -> i
     let mut piece = [0u8; PIECE];
     // each read gives at least one byte, or the end
     for _ in 0..=REPLY_BYTES {
-        input.await_within(begun, limit)?;
-        let Ok(count) = input.read(&mut piece) else {
-            return Err(io::Error::from(ErrorKind::UnexpectedEof));
-        };
+        let count = input.read_within(begun, limit, &mut piece)?;
         if count == 0 {
             return Ok(reply);
         }
