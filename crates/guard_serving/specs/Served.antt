@@ -1,5 +1,5 @@
 -- One connection of a guard, once it was served.
-use Rattle.std.specs.Prelude.{◌≡◌, ℕ, List, [], Option, Result}
+use Rattle.std.specs.Prelude.{◌≡◌, ℕ, Bool, List, [], Option, Result}
 use Rattle.hub_devices.specs.declared.link_error.LinkError.{LinkError}
 use Rattle.hub_kit.specs.declared.names.ServerKey.{ServerKey}
 use Rattle.hub_link.specs.Links.{Exchange, Asks}
@@ -39,6 +39,19 @@ guarding left held told reads links writes whose kit input output = record {
     links = links kit.upstream;
     writes = writes output;
   };
+}
+
+-- The upstream's two sides as a tunnel left them, beside whether the client's is shut. The first five arguments say what is told of them:
+-- the bytes to come and those that were written, their faults, and whether the latter is shut
+abbrev pub sides_of : {X Y : Type 0} → (X → Option (List ℕ)) → (Y → Option (List ℕ)) → (X → ℕ) → (Y → ℕ) → (Y → Bool) → Bool → X → Y
+    → Sides
+sides_of left held reads writes closed is_shut input output = record {
+  left = left input;
+  held = held output;
+  reads = reads input;
+  writes = writes output;
+  upper_shut = closed output;
+  lower_shut = is_shut;
 }
 
 module _ {H : Type 0} (asked : H → Option (List (List ℕ × Option (List ℕ)))) (does : H → List ℕ → Result (List ℕ) LinkError → H → Type 0)

@@ -2,7 +2,7 @@
 ghost use Rattle.std.specs.Prelude.{ℕ, List};
 ghost use Rattle.guard_login.specs.declared.door.Door.{Door};
 ghost use Rattle.hub_kit.specs.declared.names.ServerKey.{ServerKey};
-ghost use Rattle.guard_serving.specs.Served.{IsGuarded, IsSignedIn, guarding};
+ghost use Rattle.guard_serving.specs.Served.{IsGuarded, IsSignedIn, guarding, sides_of};
 
 use crate::kit::GuardKit;
 use carries::Carrier;
@@ -23,26 +23,12 @@ pub trait Guards<I, O> {
 impl<H: HubLink, R: Random, U: Carrier<I, O>, I: Source, O: Shuts> Guards<I, O>
     for GuardKit<H, R, U> {
     ghost guarded = { λ d k i o k' i' o'. IsGuarded H.asked H.does H.faults
-        (λ reads writes. record {
-          left = U.Reads.left reads;
-          held = U.Writes.held writes;
-          reads = U.Reads.faults reads;
-          writes = U.Writes.faults writes;
-          upper_shut = U.Writes.closed writes;
-          lower_shut = O.closed o';
-        })
+        (sides_of U.Reads.left U.Writes.held U.Reads.faults U.Writes.faults U.Writes.closed (O.closed o'))
         (guarding I.left O.held U.told I.faults U.faults O.faults d k i o)
         (guarding I.left O.held U.told I.faults U.faults O.faults d k' i' o') };
 
     ghost signed_in = { λ d k i o k' i' o'. IsSignedIn H.asked H.does H.faults R.left R.faults
-        (λ reads writes. record {
-          left = U.Reads.left reads;
-          held = U.Writes.held writes;
-          reads = U.Reads.faults reads;
-          writes = U.Writes.faults writes;
-          upper_shut = U.Writes.closed writes;
-          lower_shut = O.closed o';
-        })
+        (sides_of U.Reads.left U.Writes.held U.Reads.faults U.Writes.faults U.Writes.closed (O.closed o'))
         (guarding I.left O.held U.told I.faults U.faults O.faults d k i o)
         (guarding I.left O.held U.told I.faults U.faults O.faults d k' i' o') };
 }

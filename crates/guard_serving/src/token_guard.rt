@@ -1,6 +1,6 @@
 //! What serves connections by the token of their request alone.
-ghost use Rattle.std.specs.Prelude.{◌≡◌, []};
-ghost use Rattle.guard_serving.specs.Served.{IsGuarded};
+ghost use Rattle.std.specs.Prelude.{◌≡◌};
+ghost use Rattle.guard_serving.specs.Served.{IsGuarded, guarding, sides_of};
 
 use crate::kit::GuardKit;
 use carries::Carrier;
@@ -51,42 +51,9 @@ impl<'a, H: HubLink, R: Random, U: Upstream> TokenGuard<'a, H, R, U> {
 impl<'a, H: HubLink, R: Random, U: Carrier<I, O>, I: Source, O: Shuts> Serves<I, O>
     for TokenGuard<'a, H, R, U> {
     ghost served = { λ g i o g' i' o'. IsGuarded H.asked H.does H.faults
-        (λ reads writes. record {
-          left = U.Reads.left reads;
-          held = U.Writes.held writes;
-          reads = U.Reads.faults reads;
-          writes = U.Writes.faults writes;
-          upper_shut = U.Writes.closed writes;
-          lower_shut = O.closed o';
-        })
-        (record {
-          whose = (g.key.now, g.target.now);
-          link = g.kit.link;
-          random = g.kit.random;
-          place = record {
-            left = I.left i;
-            kept = [];
-            held = O.held o;
-            told = U.told g.kit.upstream;
-            reads = I.faults i;
-            links = U.faults g.kit.upstream;
-            writes = O.faults o;
-          };
-        })
-        (record {
-          whose = (g'.key.now, g'.target.now);
-          link = g'.kit.link;
-          random = g'.kit.random;
-          place = record {
-            left = I.left i';
-            kept = [];
-            held = O.held o';
-            told = U.told g'.kit.upstream;
-            reads = I.faults i';
-            links = U.faults g'.kit.upstream;
-            writes = O.faults o';
-          };
-        }) };
+        (sides_of U.Reads.left U.Writes.held U.Reads.faults U.Writes.faults U.Writes.closed (O.closed o'))
+        (guarding I.left O.held U.told I.faults U.faults O.faults (g.key.now, g.target.now) g.kit i o)
+        (guarding I.left O.held U.told I.faults U.faults O.faults (g'.key.now, g'.target.now) g'.kit i' o') };
 
     fn serve<W: Wait>(&mut self, _rt: &W, alloc: Global, input: &mut I, output: &mut O) {
         // a fault ends this connection alone
