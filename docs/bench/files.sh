@@ -137,6 +137,7 @@ def refuse():
     refused("text", "no database")
     refused("folder", "may not be opened")
     refused("nowhere/hub.db", "no such folder")
+    refused(":memory:", "something else than the path of a file")
     refused("foreign.db", "another program")
     hub = session("busy.db")
     if ask(hub, new_user("bob")) != 201:

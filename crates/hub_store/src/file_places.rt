@@ -45,6 +45,8 @@ pub enum FileError {
     Memory,
     /// Another hub has the file open.
     Busy,
+    /// SQLite reads this path as something else than a file's.
+    NoPath,
     /// There is no such folder, or the file may not be opened.
     CannotOpen,
     /// The disk failed.
@@ -70,6 +72,8 @@ impl FileError {
         match self {
             FileError::Memory => "there is no memory",
             FileError::Busy => "another hub has the file",
+            FileError::NoPath =>
+                "SQLite reads this as something else than the path of a file: ./ before it makes it one",
             FileError::CannotOpen => "there is no such folder, or the file may not be opened",
             FileError::Disk => "the disk failed",
             FileError::NoDatabase => "the file is no database, or a damaged one",
@@ -246,7 +250,7 @@ fn open_pair<S: Start>(
     ensures fresh { IfOk result (λ files. IsFresh true files.log × IsFresh false files.db) }
 {
     if path == ":memory:" || path.starts_with("file:") {
-        return Err(FileError::CannotOpen);
+        return Err(FileError::NoPath);
     }
     make_private(rt, path);
     match sqlite_std_file::open(rt, path, start) {
