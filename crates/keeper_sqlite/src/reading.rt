@@ -10,7 +10,7 @@ use keeper::keeper::Row;
 use simdutf8::basic::from_utf8;
 use sqlite::Error;
 use sqlite::types::{Type, ValueRef};
-use std::alloc::Global;
+use std::alloc::{AllocError, Global};
 use std::cmp::Ordering;
 
 fn kind_of(row: &sqlite::Row, at: usize) -> Result<u8, Error>
@@ -87,14 +87,16 @@ fn order(a: &Row, b: &Row) -> Ordering
     a.kind.cmp(&b.kind).then(a.key.cmp(&b.key))
 }
 
-/// The same rows, in the order of kind and key.
-fn sorted(rows: Vec<Row>) -> Vec<Row>
-    ensures moved { IsPermutation rows.items result.items }
-    ensures sorted { IsSorted row_cmp result.items }
+/// The same rows, in the order of kind and key. Most stores have those of a kind in a few runs of that order: once they stand together, the
+/// sort finds these.
+fn sorted(rows: Vec<Row>) -> Result<Vec<Row>, AllocError>
+    ensures moved { IfOk result (λ all. IsPermutation rows.items all.items) }
+    ensures sorted { IfOk result (λ all. IsSorted row_cmp all.items) }
 {
     let mut all = rows;
-    all.sort_unstable_by(|a, b| order(a, b));
-    all
+    all.sort_by_key(|row| row.kind)?;
+    all.sort_by(|a, b| order(a, b))?;
+    Ok(all)
 }
 
 /// The rows that show as these behind their rowids, in the order of kind and key. There are none for want of memory, or where one
@@ -102,8 +104,11 @@ fn sorted(rows: Vec<Row>) -> Vec<Row>
 fn in_order(alloc: Global, rows: Vec<sqlite::Row>) -> Option<Vec<Row>>
     ensures { IfSome result (λ all. IsInOrder rows.items all.items) }
 {
-    match rows_behind(alloc, rows) {
-        Ok(all) => Some(sorted(all)),
+    let Ok(all) = rows_behind(alloc, rows) else {
+        return None;
+    };
+    match sorted(all) {
+        Ok(all) => Some(all),
         Err(_) => None,
     }
 }
