@@ -9,7 +9,7 @@ use Rattle.hub_rows.specs.declared.records.Token.{Token}
 use Rattle.hub_tables.specs.State.{State}
 use Rattle.roles.specs.declared.cache.KeptGrant.{KeptGrant}
 use Rattle.roles.specs.Rights.{IsAllowed, IsGrantOf}
-use Rattle.roles.specs.Looks.{Cache, Entry, with_stamp, with_id, or_else, listed, found, kept_now, after_hit, IsAfterMiss, IsAfter, IsRight, OfAll}
+use Rattle.roles.specs.Looks.{Cache, Entry, with_stamp, with_id, or_else, listed, found, kept_now, after_hit, IsAfterMiss, IsAfter, IsRight, IsSince, IsRightSince, OfAll}
 
 some_same : {X : Type 0} (x y : X) → Some x ≡ Some y → x ≡ y
 some_same x y h = cc
@@ -88,3 +88,8 @@ pub right_of_all : (P : ℕ → KeptGrant → Type 0) (c : Cache) (t : State) (k
 right_of_all P c t k stamp all each grant h =
     let at = found_of_all P c k.id stamp grant all h in
     subst (λ (g : Rights). IsGrantOf t (IsAllowed t k) g) at.3 (each at.0 at.1 at.2)
+
+-- and right since then where each of its entries that was kept since is
+pub since_of_all : (P : ℕ → KeptGrant → Type 0) (c : Cache) (t : State) (k : Token) (since stamp : ℕ) → OfAll P c
+    → ((kept : KeptGrant) → P k.id kept → IsSince since stamp kept → IsGrantOf t (IsAllowed t k) kept.grant) → IsRightSince c t k since stamp
+since_of_all P c t k since stamp all each kept there h = each kept (of_list P c k.id all kept there) h

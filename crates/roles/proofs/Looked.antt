@@ -1,17 +1,17 @@
 -- What is found in a cache after a hit, and after a new entry.
-use Rattle.std.proofs.Common.{◌≡◌, ℕ, Bool, true, false, cond, nat_eq, List, [], ◌∷◌, Option, Some, None, is_some, IsSomeAnd, inl, inr, refl, sym, ap, ◌∙◌, subst}
+use Rattle.std.proofs.Common.{◌≡◌, ◌≤◌, ℕ, ◌-◌, take, arith, Bool, true, false, cond, nat_eq, List, [], ◌∷◌, Option, Some, None, is_some, IsSomeAnd, inl, inr, refl, sym, ap, ◌∙◌, subst}
 use Rattle.std.specs.Cmp.{nat_eq_equiv}
 use Rattle.std.specs.Option.{option_map_or}
-use Rattle.std.specs.Map.{lookup, lookup_entry, remove_entry}
+use Rattle.std.specs.Map.{lookup, lookup_entry, remove_entry, set_value}
 use Rattle.std.proofs.lemmas.Map.Entries.{lookup_head}
-use Rattle.lru.specs.LruCache.{lru_cache, promoted}
+use Rattle.lru.specs.LruCache.{LruCache, lru_cache, promoted, put_entries}
 use Rattle.lru.proofs.CallerLemmas.{lookup-put_entries, Contains-lookup_entry}
 use Rattle.scope_filters.specs.Grants.{Rights}
 use Rattle.hub_rows.specs.declared.records.Token.{Token}
 use Rattle.hub_tables.specs.State.{State}
 use Rattle.roles.specs.declared.cache.KeptGrant.{KeptGrant}
 use Rattle.roles.specs.Rights.{IsAllowed, IsGrantOf}
-use Rattle.roles.specs.Looks.{Cache, with_stamp, with_id, or_else, listed, found, after_hit, IsAfterMiss, IsAfter, IsBrought, IsRight}
+use Rattle.roles.specs.Looks.{Cache, with_stamp, with_id, or_else, listed, found, kept_now, after_hit, IsAfterMiss, IsAfter, IsBrought, IsRight, IsSince, IsRightSince}
 
 -- ---- an entry that comes to the front
 
@@ -42,8 +42,24 @@ found_after_hit c n id stamp e =
     ap (λ n. found n id stamp) e
     ∙ ap (λ l. or_else (with_stamp stamp l) (with_stamp stamp (with_id id c.held))) (maybe_front (is_some (listed c id stamp)) id c.entries)
 
+-- an entry that comes to the front and is written over is one that is put
+written : {K V : Type 0} (eq : K → K → Bool) (c : LruCache K V) (k : K) (old new : V) (o : Option (K × V)) → lookup_entry (eq k) c.entries ≡ o → value_of o ≡ Some old
+    → set_value (eq k) (option_map_or (λ e. e ∷ remove_entry (eq k) c.entries) o c.entries) new
+    ≡ option_map_or (λ e. (e.0, new) ∷ remove_entry (eq k) c.entries) o ((k, new) ∷ take (c.cap - 1) c.entries)
+unfolding value_of
+written eq c k old new None at h = cc
+written eq c k old new (Some e) at h =
+    ap (λ (b : Bool). cond b ((e.0, new) ∷ remove_entry (eq k) c.entries) (e ∷ set_value (eq k) (remove_entry (eq k) c.entries) new)) (Contains-lookup_entry (eq k) c.entries e at).1
+
+pub restamped : (c : LruCache ℕ KeptGrant) (id : ℕ) (old new : KeptGrant) → lookup (nat_eq id) c.entries ≡ Some old
+    → lru_cache (set_value (nat_eq id) (promoted (nat_eq id) c.entries) new) c.cap ≡ lru_cache (put_entries nat_eq c id new) c.cap
+restamped c id old new there = ap (λ es. lru_cache es c.cap) (written nat_eq c id old new (lookup_entry (nat_eq id) c.entries) refl (sym (found_entry (nat_eq id) c.entries) ∙ there))
+
 some_same : {X : Type 0} (x y : X) → Some x ≡ Some y → x ≡ y
 some_same x y h = cc
+
+pub same_kept : (x y : KeptGrant) → Some x ≡ Some y → x ≡ y
+same_kept x y h = some_same x y h
 
 brings_hit : (c n : Cache) (id stamp : ℕ) (before after : Option Rights) → after ≡ before → is_some before ≡ true → n ≡ after_hit c id stamp
     → IsSomeAnd after (λ grant. IsAfter c id stamp before grant n)
@@ -93,3 +109,27 @@ brought_found c n id stamp brought h = subst (λ (o : Option Rights). IsSomeAnd 
 
 pub brought_after : (c n : Cache) (id stamp : ℕ) (grant : Rights) → found n id stamp ≡ Some grant → IsBrought c id stamp n → IsAfter c id stamp (found c id stamp) grant n
 brought_after c n id stamp grant h brought = subst (λ (o : Option Rights). IsSomeAnd o (λ g. IsAfter c id stamp (found c id stamp) g n)) h brought
+
+-- ---- an entry that is kept with a new stamp
+
+pub renewed_from : (c n : Cache) (t : State) (k : Token) (since stamp : ℕ) → IsSomeAnd (lookup (nat_eq k.id) c.entries) (IsSince since stamp) → IsRightSince c t k since stamp
+    → ((kept : KeptGrant) → lookup (nat_eq k.id) c.entries ≡ Some kept → IsAfterMiss c k.id (kept_now stamp kept.grant) n)
+    → (kept : KeptGrant) × IsGrantOf t (IsAllowed t k) kept.grant × IsAfterMiss c k.id (kept_now stamp kept.grant) n
+renewed_from c n t k since stamp there right after = by_entry (lookup (nat_eq k.id) c.entries) refl there
+  where
+    by_entry : (o : Option KeptGrant) → lookup (nat_eq k.id) c.entries ≡ o → IsSomeAnd o (IsSince since stamp)
+        → (kept : KeptGrant) × IsGrantOf t (IsAllowed t k) kept.grant × IsAfterMiss c k.id (kept_now stamp kept.grant) n
+    by_entry None e h = absurd h
+    by_entry (Some kept) e h = (kept, right kept e h, after kept e)
+
+pub renewed_brings : (c n : Cache) (t : State) (k : Token) (since stamp : ℕ) → is_some (found c k.id stamp) ≡ false → IsSomeAnd (lookup (nat_eq k.id) c.entries) (IsSince since stamp)
+    → IsRightSince c t k since stamp → ((kept : KeptGrant) → lookup (nat_eq k.id) c.entries ≡ Some kept → IsAfterMiss c k.id (kept_now stamp kept.grant) n) → IsBrought c k.id stamp n
+renewed_brings c n t k since stamp h there right after =
+    let at = renewed_from c n t k since stamp there right after in
+    miss_brings c n k.id (kept_now stamp at.0.grant) h at.2
+
+pub renewed_right : (c n : Cache) (t : State) (k : Token) (since stamp : ℕ) → IsSomeAnd (lookup (nat_eq k.id) c.entries) (IsSince since stamp)
+    → IsRightSince c t k since stamp → ((kept : KeptGrant) → lookup (nat_eq k.id) c.entries ≡ Some kept → IsAfterMiss c k.id (kept_now stamp kept.grant) n) → IsRight n t k stamp
+renewed_right c n t k since stamp there right after =
+    let at = renewed_from c n t k since stamp there right after in
+    miss_right c n t k (kept_now stamp at.0.grant) at.1 at.2

@@ -1,6 +1,6 @@
 -- A cache of grants: what it keeps, and what a look leaves of it.
 use Rattle.std.specs.Prelude.{◌≡◌, ℕ, ◌+◌, ◌-◌, ◌^◌, nat_eq, List, [], Option, Some, None, is_some, IsSomeAnd, Contains, ◌⊎◌, Result, Ok}
-use Rattle.std.specs.Prelude.{Err, if◌then◌else◌}
+use Rattle.std.specs.Prelude.{Err, ◌≤◌, if◌then◌else◌}
 use Rattle.std.specs.Borrow.{Bor}
 use Rattle.std.specs.Map.{lookup}
 use Rattle.std.specs.declared.alloc.AllocError.{AllocError}
@@ -100,6 +100,15 @@ IsBrought c id stamp n = IsSomeAnd (found n id stamp) (λ grant. IsAfter c id st
 -- an entry of this token's id with this stamp admits exactly what the token is allowed
 abbrev pub IsRight : Cache → State → Token → ℕ → Type 0
 IsRight c t k stamp = (grant : Rights) → found c k.id stamp ≡ Some grant → IsGrantOf t (IsAllowed t k) grant
+
+-- the stamp of a grant is one from `since` to `stamp`
+abbrev pub IsSince : (since stamp : ℕ) → KeptGrant → Type 0
+IsSince since stamp kept = (since ≤ kept.stamp) × (kept.stamp ≤ stamp)
+
+-- so does one of the list for this token's id that was kept since
+abbrev pub IsRightSince : Cache → State → Token → (since stamp : ℕ) → Type 0
+IsRightSince c t k since stamp = (kept : KeptGrant) → lookup (nat_eq k.id) c.entries ≡ Some kept → IsSince since stamp kept
+    → IsGrantOf t (IsAllowed t k) kept.grant
 
 -- something holds of each entry, those in the list and the held one
 abbrev pub OfAll : (ℕ → KeptGrant → Type 0) → Cache → Type 0

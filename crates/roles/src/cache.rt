@@ -1,14 +1,17 @@
 //! Grants of tokens that were resolved before.
-ghost use Rattle.std.specs.Prelude.{◌≡◌, ◌≤◌, Some, None, is_some, nat_eq, ◌↔◌, IfOk, OnOk, OnErr};
+ghost use Rattle.std.specs.Prelude.{◌≡◌, ◌≤◌, Some, None, is_some, nat_eq, ◌↔◌, IfOk, OnOk, OnErr, IsSomeAnd, IsTrue};
 ghost use Rattle.std.specs.Option.{option_copied};
 ghost use Rattle.std.specs.Borrow.{sem};
 ghost use Rattle.scope_filters.specs.Grants.{Rights};
 ghost use Rattle.scope_names.specs.declared.action.Action.{Action};
 ghost use Rattle.scope_meet.specs.Named.{AdmitsSomething};
 ghost use Rattle.roles.specs.Rights.{context, IsAllowed, Holds, IsGrantOf};
-ghost use Rattle.roles.specs.Looks.{IsLooked, IsAfter, IsAfterMiss, IsApart, IsRight, found, after_hit, no_entries, IsBrought};
+ghost use Rattle.roles.specs.Looks.{IsLooked, IsAfter, IsAfterMiss, IsApart, IsRight, IsRightSince, IsBrought};
+ghost use Rattle.roles.specs.Looks.{found, after_hit, no_entries, kept_now};
 ghost use Rattle.roles.specs.Looks as spec;
 ghost use Rattle.std.specs.Map.{lookup};
+ghost use Rattle.lru.specs.LruCache.{lru_cache, put_entries};
+ghost use Rattle.roles.specs.declared.cache.KeptGrant.{KeptGrant};
 
 use crate::grants::caller_grant;
 use hub_rows::records::Token;
@@ -104,7 +107,30 @@ impl RightsCache {
         ensures admits { IfOk result (λ grant. IsGrantOf t.now (IsAllowed t.now token.now) grant.now) }
         ensures holds { IfOk result (λ grant. (a : Action) → AdmitsSomething (context t.now) grant.now a ↔ Holds t.now token.now a) }
     {
-        self.bring(alloc, t, token, stamp)?;
+        self.bring(alloc, t, token, stamp, stamp)?;
+        match self.at(token.id, stamp) {
+            Some(grant) => Ok(grant),
+            None => unreachable!(),
+        }
+    }
+
+    /// The same where the sources of rights (groups, services, roles, shares, and who is an admin) are as they were at the stamp `since`.
+    /// A grant that was kept from then on needn't be resolved again, though finding it is no hit.
+    pub fn look_since(
+        &mut self,
+        alloc: Global,
+        t: &Tables,
+        token: &Token,
+        since: u64,
+        stamp: u64,
+    ) -> Result<&Grant, AllocError>
+        requires right { IsRight self.old t.now token.now stamp }
+        requires since { IsRightSince self.old t.now token.now since stamp }
+        ensures* after { sem 𝓛 (EndsLooked self.entry t.now token.now stamp result) }
+        ensures admits { IfOk result (λ grant. IsGrantOf t.now (IsAllowed t.now token.now) grant.now) }
+        ensures holds { IfOk result (λ grant. (a : Action) → AdmitsSomething (context t.now) grant.now a ↔ Holds t.now token.now a) }
+    {
+        self.bring(alloc, t, token, since, stamp)?;
         match self.at(token.id, stamp) {
             Some(grant) => Ok(grant),
             None => unreachable!(),
@@ -117,15 +143,21 @@ impl RightsCache {
         alloc: Global,
         t: &Tables,
         token: &Token,
+        since: u64,
         stamp: u64,
     ) -> Result<(), AllocError>
-        requires { IsRight self.old t.now token.now stamp }
+        requires right { IsRight self.old t.now token.now stamp }
+        requires since { IsRightSince self.old t.now token.now since stamp }
         ensures ok { OnOk result (IsBrought self.old token.now.id stamp self.new) }
         ensures right { IsRight self.new t.now token.now stamp }
         ensures err { OnErr result ((found self.old token.now.id stamp ≡ None) × (self.new ≡ self.old)) }
     {
         if self.has(token.id, stamp) {
             self.hit(token.id, stamp);
+            return Ok(());
+        }
+        if self.has_since(token.id, since, stamp) {
+            self.renew(token.id, stamp);
             return Ok(());
         }
         let grant = caller_grant(alloc, t, token)?;
@@ -159,6 +191,25 @@ impl RightsCache {
         self.hits = self.hits.saturating_add(1);
     }
 
+    /// Whether the list has a grant of this id whose stamp is one from `since` to `stamp`.
+    fn has_since(&self, id: u64, since: u64, stamp: u64) -> bool
+        ensures { IsTrue result → IsSomeAnd (lookup (nat_eq id) self.now.entries) (spec.IsSince since stamp) }
+    {
+        match self.listed.peek(&id) {
+            Some(kept) => since <= kept.stamp && kept.stamp <= stamp,
+            None => false,
+        }
+    }
+
+    /// Gives the grant of the list for this id this stamp, brings it to the front, and lets go of the held one.
+    fn renew(&mut self, id: u64, stamp: u64)
+        ensures { (kept : KeptGrant) → lookup (nat_eq id) self.old.entries ≡ Some kept
+            → IsAfterMiss self.old id (kept_now stamp kept.grant) self.new }
+    {
+        restamp(&mut self.listed, id, stamp);
+        self.held = None;
+    }
+
     /// Keeps a grant in the list, or beside it without memory.
     fn keep(&mut self, id: u64, kept: KeptGrant)
         ensures { IsAfterMiss self.old id kept self.new }
@@ -167,6 +218,16 @@ impl RightsCache {
             Ok(_) => None,
             Err(refused) => Some(refused.value),
         };
+    }
+}
+
+/// Gives the grant of the list for this id this stamp, and brings it to the front.
+fn restamp(listed: &mut LruCache<u64, KeptGrant>, id: u64, stamp: u64)
+    ensures { (kept : KeptGrant) → lookup (nat_eq id) listed.old.entries ≡ Some kept
+        → listed.new ≡ lru_cache (put_entries nat_eq listed.old id (kept_now stamp kept.grant)) listed.old.cap }
+{
+    if let Some(kept) = listed.get_mut(&id) {
+        kept.stamp = stamp;
     }
 }
 

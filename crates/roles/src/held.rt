@@ -67,7 +67,8 @@ fn push_admin(scopes: &mut Vec<RawScope>, t: &Tables, user: &UserName) -> Result
     Ok(())
 }
 
-fn is_admin(t: &Tables, user: &UserName) -> bool
+/// Whether the user is an admin; who isn't kept is none.
+pub fn is_admin(t: &Tables, user: &UserName) -> bool
     ensures { result ≡ is_admin t.now user.now }
 {
     match t.user(user) {
