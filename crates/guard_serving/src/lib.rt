@@ -1,7 +1,7 @@
 //! The command `guard`: a listener's connections, each passed on to one server where a hub admits it.
 //! The contract of `run` carries it: by the words, and the secret in the file that they may name, it writes `ready`, takes connections
-//! until the listener fails, and tells how many they were and how it ended. Each of them was served by a guard of the words' server and
-//! target, or of the door that the secret opens. The program stands above it.
+//! until the listener fails, and tells how many they were and how it ended. As many servings as it counts were made by guards of the
+//! words' server and target, or of the door that the secret opens. The program stands above it.
 #![tactic(auto)]
 
 mod command;
