@@ -135,10 +135,10 @@ pub same_count : {K : Type 0} {A B : Type 0} {k k' : K} (came : Result A B) {n n
 same_count (Ok made) f h = tt
 same_count (Err e) f h = f h
 
-pub stamped_lives : (c : Cache) (s s' : Hub) (stamp : ℕ) (told told' : List Entry) (g : ℕ) (event : LifeEvent) (came : Result Step LifeRefusal) (faults faults' : ℕ)
-    → Steps g event came s s' told told' faults faults' → IsStamped c s.tables stamp s.length → IsStamped c s'.tables stamp s'.length
-stamped_lives c s s' stamp told told' g event (Ok made) faults faults' h t = stamped_stepped c s s' stamp g (noted_event event made.kept) h.hub t
-stamped_lives c s s' stamp told told' g event (Err e) faults faults' h t = stamped_same c s s' stamp h.hub t
+pub stamped_lives : (c : Cache) (s s' : Hub) (since stamp : ℕ) (told told' : List Entry) (g : ℕ) (event : LifeEvent) (came : Result Step LifeRefusal) (faults faults' : ℕ)
+    → Steps g event came s s' told told' faults faults' → IsStamped c s.tables since stamp s.length → IsStamped c s'.tables since stamp s'.length
+stamped_lives c s s' since stamp told told' g event (Ok made) faults faults' h t = stamped_stepped c s s' since stamp g (noted_event event made.kept) h.hub t
+stamped_lives c s s' since stamp told told' g event (Err e) faults faults' h t = stamped_same c s s' since stamp h.hub t
 
 -- ---- at a place
 

@@ -7,9 +7,9 @@ use Rattle.hub_rows.specs.declared.records.Token.{Token}
 use Rattle.std.specs.Borrow.{Bor}
 use Rattle.std.specs.declared.alloc.AllocError.{AllocError}
 use Rattle.hub_tables.specs.State.{State}
-use Rattle.roles.specs.Looks.{Cache, Entry, no_entries, IsAfter, IsLooked, IsRight, found}
+use Rattle.roles.specs.Looks.{Cache, Entry, OfAll, no_entries, IsAfter, IsLooked, IsRight, IsRightSince, found}
 use Rattle.roles.specs.Rights.{IsAllowed, IsGrantOf}
-use Rattle.roles.proofs.EachEntry.{looked_all, right_of_all}
+use Rattle.roles.proofs.EachEntry.{looked_all, right_of_all, since_of_all}
 use Rattle.hub_machine.specs.State.{Hub}
 use Rattle.hub_core.specs.Answer.{caller, is_past}
 use Rattle.hub_core.specs.Current.{IsRightIn, IsCurrent, AreNumbered, LookedFor, Looked}
@@ -22,26 +22,34 @@ same_some x y h = cc
 
 -- ---- a look
 
-right_for : (c : Cache) (t : State) (stamp : ℕ) (k : Token) → IsCurrent c t stamp → get t.tokens k.id ≡ Some k → IsRight c t k stamp
-right_for c t stamp k all at = right_of_all (IsRightIn t stamp) c t k stamp all (λ kept r e. r.right e k at)
+right_for : (c : Cache) (t : State) (since stamp : ℕ) (k : Token) → IsCurrent c t since stamp → get t.tokens k.id ≡ Some k → IsRight c t k stamp
+right_for c t since stamp k current at = right_of_all (IsRightIn t since stamp) c t k stamp current.each (λ kept r e. r.right (let a : since ≤ stamp = current.settled in let b : kept.stamp ≡ stamp = e in omega (arith, a, b)) k at)
 
-current_looked : (c n : Cache) (t : State) (stamp : ℕ) (k : Token) (grant : Rights) → IsCurrent c t stamp → AreNumbered t → get t.tokens k.id ≡ Some k
-    → IsGrantOf t (IsAllowed t k) grant → IsAfter c k.id stamp (found c k.id stamp) grant n → IsCurrent n t stamp
-current_looked c n t stamp k grant all numbered at exact after = looked_all (IsRightIn t stamp) c n k.id stamp grant after all (record {
-  older = let same : stamp ≤ stamp = omega arith in same;
-  numbered = numbered.tokens k.id k at;
-  right = λ e other there. subst (λ (x : Token). IsGrantOf t (IsAllowed t x) grant) (same_some k other (sym at ∙ there)) exact;
-})
+current_looked : (c n : Cache) (t : State) (since stamp : ℕ) (k : Token) (grant : Rights) → IsCurrent c t since stamp → AreNumbered t → get t.tokens k.id ≡ Some k
+    → IsGrantOf t (IsAllowed t k) grant → IsAfter c k.id stamp (found c k.id stamp) grant n → IsCurrent n t since stamp
+current_looked c n t since stamp k grant current numbered at exact after = record {
+  settled = current.settled;
+  each = looked_all (IsRightIn t since stamp) c n k.id stamp grant after current.each (record {
+    older = let same : stamp ≤ stamp = omega arith in same;
+    numbered = numbered.tokens k.id k at;
+    right = λ e other there. subst (λ (x : Token). IsGrantOf t (IsAllowed t x) grant) (same_some k other (sym at ∙ there)) exact;
+  });
+}
 
-pub look_may : (c : Cache) (t t' : State) (stamp : ℕ) (k : Token) → t' ≡ t → IsCurrent c t stamp → get t.tokens k.id ≡ Some k → IsRight c t' k stamp
-look_may c t t' stamp k e all at = subst (λ (x : State). IsRight c x k stamp) (sym e) (right_for c t stamp k all at)
+pub look_may : (c : Cache) (t t' : State) (since stamp : ℕ) (k : Token) → t' ≡ t → IsCurrent c t since stamp → get t.tokens k.id ≡ Some k → IsRight c t' k stamp
+look_may c t t' since stamp k e current at = subst (λ (x : State). IsRight c x k stamp) (sym e) (right_for c t since stamp k current at)
+
+-- what is kept since the sources of rights changed is right
+pub look_may_since : (c : Cache) (t t' : State) (since stamp : ℕ) (k : Token) → t' ≡ t → IsCurrent c t since stamp → get t.tokens k.id ≡ Some k → IsRightSince c t' k since stamp
+look_may_since c t t' since stamp k e current at =
+    subst (λ (x : State). IsRightSince c x k since stamp) (sym e) (since_of_all (IsRightIn t since stamp) c t k since stamp current.each (λ kept r h. r.right h.0 k at))
 
 -- the cache after a look, whatever it answered
-pub current_after : (c n : Cache) (t t' : State) (stamp : ℕ) (k : Token) (r : Result (Bor Rights) AllocError) → t' ≡ t → IsCurrent c t stamp → AreNumbered t
-    → get t.tokens k.id ≡ Some k → IfOk r (λ grant. IsGrantOf t' (IsAllowed t' k) grant.now) → IsLooked c k.id stamp r n → IsCurrent n t stamp
-current_after c n t t' stamp k (Ok grant) e all numbered at exact looked =
-    current_looked c n t stamp k grant.now all numbered at (subst (λ (x : State). IsGrantOf x (IsAllowed x k) grant.now) e exact) looked
-current_after c n t t' stamp k (Err x) e all numbered at exact looked = subst (λ (y : Cache). IsCurrent y t stamp) (sym looked.1) all
+pub current_after : (c n : Cache) (t t' : State) (since stamp : ℕ) (k : Token) (r : Result (Bor Rights) AllocError) → t' ≡ t → IsCurrent c t since stamp → AreNumbered t
+    → get t.tokens k.id ≡ Some k → IfOk r (λ grant. IsGrantOf t' (IsAllowed t' k) grant.now) → IsLooked c k.id stamp r n → IsCurrent n t since stamp
+current_after c n t t' since stamp k (Ok grant) e current numbered at exact looked =
+    current_looked c n t since stamp k grant.now current numbered at (subst (λ (x : State). IsGrantOf x (IsAllowed x k) grant.now) e exact) looked
+current_after c n t t' since stamp k (Err x) e current numbered at exact looked = subst (λ (y : Cache). IsCurrent y t since stamp) (sym looked.1) current
 
 same_result : (r : Result (Bor Rights) AllocError) (grant : Bor Rights) (c n : Cache) (id stamp : ℕ) → r ≡ Ok grant → IsLooked c id stamp r n → IsAfter c id stamp (found c id stamp) grant.now n
 same_result r grant c n id stamp e h = subst (λ (x : Result (Bor Rights) AllocError). IsLooked c id stamp x n) e h
@@ -86,5 +94,8 @@ none_held x h = cc
 none_there : (x : Entry) → Contains [] x → ⊥
 none_there x h = let lt : h.0 < 0 = h.1 in omega (arith, lt)
 
-pub current_empty : (c : Cache) (t : State) (stamp capacity : ℕ) → c ≡ no_entries capacity → IsCurrent c t stamp
-current_empty c t stamp capacity e = subst (λ (y : Cache). IsCurrent y t stamp) (sym e) (λ id kept at. absurd (none_there (id, kept) at), λ id kept at. absurd (none_held (id, kept) at))
+pub current_empty : (c : Cache) (t : State) (stamp capacity : ℕ) → c ≡ no_entries capacity → IsCurrent c t stamp stamp
+current_empty c t stamp capacity e = record {
+  settled = let same : stamp ≤ stamp = omega arith in same;
+  each = subst (OfAll (IsRightIn t stamp stamp)) (sym e) (λ id kept at. absurd (none_there (id, kept) at), λ id kept at. absurd (none_held (id, kept) at));
+}

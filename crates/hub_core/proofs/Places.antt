@@ -55,13 +55,13 @@ placed start now draw asked a o b b' answers r r' carried =
     ]
 
 -- what a carried answer may change of a book
-abbrev pub carrier : Standing → Carrier
-carrier b = record { hub = b.hub; told = b.told; stamp = b.stamp; faults = b.faults }
+abbrev pub carrier : Standing → (since : ℕ) → Carrier
+carrier b since = record { hub = b.hub; told = b.told; stamp = b.stamp; since = since; faults = b.faults }
 
-gave : (b b' : Standing) (now : ℕ) (draw : Option (List ℕ)) (asked : Asked) (a : Answer) (o : Outcome) → Answers b.hub now draw asked a
-    → Did (change_of a) (says_of a b.hub) o (carrier b) (carrier b') ⊎ Undid (change_of a) o (carrier b) (carrier b')
+gave : (b b' : Standing) (since since' now : ℕ) (draw : Option (List ℕ)) (asked : Asked) (a : Answer) (o : Outcome) → Answers b.hub now draw asked a
+    → Did (change_of a) (says_of a b.hub) o (carrier b since) (carrier b' since') ⊎ Undid (change_of a) o (carrier b since) (carrier b' since')
     → Gave b b' now draw asked o ⊎ Faulted b b' now draw asked o
-gave b b' now draw asked a o answers carried =
+gave b b' since since' now draw asked a o answers carried =
     elim carried as (λ _. Gave b b' now draw asked o ⊎ Faulted b b' now draw asked o) [
       | inl d ↦ inl (record {
         answer = a;
@@ -85,10 +85,10 @@ gave b b' now draw asked a o answers carried =
     ]
 
 -- whatever came of carrying the answer out
-pub visited_of : {E : Type 0} (b b' : Standing) (now : ℕ) (draw : Option (List ℕ)) (asked : Asked) (a : Answer) (r : Result Outcome E) → Answers b.hub now draw asked a
-    → Carried (change_of a) (says_of a b.hub) r (carrier b) (carrier b') → Visited b now draw asked r b'
-visited_of b b' now draw asked a (Ok o) answers carried = gave b b' now draw asked a o answers carried
-visited_of b b' now draw asked a (Err e) answers carried = record { hub = carried.hub; told = carried.telling; stamped = carried.stamped }
+pub visited_of : {E : Type 0} (b b' : Standing) (since since' now : ℕ) (draw : Option (List ℕ)) (asked : Asked) (a : Answer) (r : Result Outcome E) → Answers b.hub now draw asked a
+    → Carried (change_of a) (says_of a b.hub) r (carrier b since) (carrier b' since') → Visited b now draw asked r b'
+visited_of b b' since since' now draw asked a (Ok o) answers carried = gave b b' since since' now draw asked a o answers carried
+visited_of b b' since since' now draw asked a (Err e) answers carried = record { hub = carried.hub; told = carried.telling; stamped = carried.stamped }
 
 pub visited_at : {E : Type 0} (start : Start) (now : ℕ) (draw : Option (List ℕ)) (asked : Asked) (a : Answer) (r : Result Outcome E) (b b' : Carrier)
     → Answers b.hub now draw asked a → Reached start b.told b.hub → Reached start b'.told b'.hub → Carried (change_of a) (says_of a b.hub) r b b'

@@ -13,16 +13,17 @@ use Rattle.hub_opening.specs.Opening.{next_token}
 
 -- ---- what is true of every entry
 
--- an entry has no later stamp than the book's and an id below the next, and one of the book's stamp admits exactly what the token of its
--- id is allowed
-pub record IsRightIn (t : State) (stamp : ℕ) (id : ℕ) (kept : KeptGrant) : Type 0 where
+-- an entry has no later stamp than the book's and an id below the next, and one whose stamp is `since` or later admits exactly what the
+-- token of its id is allowed
+pub record IsRightIn (t : State) (since stamp : ℕ) (id : ℕ) (kept : KeptGrant) : Type 0 where
   pub older : kept.stamp ≤ stamp
   pub numbered : id < next_token t
-  pub right : kept.stamp ≡ stamp → (k : Token) → get t.tokens id ≡ Some k → IsGrantOf t (IsAllowed t k) kept.grant
+  pub right : since ≤ kept.stamp → (k : Token) → get t.tokens id ≡ Some k → IsGrantOf t (IsAllowed t k) kept.grant
 
--- Each entry of the cache is right in this state, at the book's stamp
-abbrev pub IsCurrent : Cache → State → (stamp : ℕ) → Type 0
-IsCurrent c t stamp = OfAll (IsRightIn t stamp) c
+-- Each entry of the cache is right in this state, at the book's stamp; the last change of a source of rights left the stamp `since`
+pub record IsCurrent (c : Cache) (t : State) (since stamp : ℕ) : Type 0 where
+  pub settled : since ≤ stamp
+  pub each : OfAll (IsRightIn t since stamp) c
 
 -- ---- what keeps it so
 
@@ -36,8 +37,8 @@ pub record AreNumbered (t : State) : Type 0 where
   pub codes : (id : ℕ) (c : ShareCode) → get t.codes id ≡ Some c → id < next_code t
 
 -- what is true of every book's cache: its entries are of now, so will they be after a change, and the stamp has room
-pub record IsStamped (c : Cache) (t : State) (stamp length : ℕ) : Type 0 where
-  pub current : IsCurrent c t stamp
+pub record IsStamped (c : Cache) (t : State) (since stamp length : ℕ) : Type 0 where
+  pub current : IsCurrent c t since stamp
   pub numbered : AreNumbered t
   pub room : stamp ≤ length
 

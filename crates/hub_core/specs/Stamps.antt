@@ -8,6 +8,7 @@ use Rattle.hub_rows.specs.declared.changes.RowChange.TheVariants.{Put, Remove}
 use Rattle.hub_rows.specs.declared.rows.Row.TheVariants as Row
 use Rattle.hub_rows.specs.declared.rows.RowKey.TheVariants as RowKey
 use Rattle.hub_rows.specs.declared.records.User.{User}
+use Rattle.hub_tables.specs.Lookups.{is_admin}
 use Rattle.hub_tables.specs.State.{State}
 use Rattle.hub_machine.specs.Apply.{rows_of}
 use Rattle.hub_machine.specs.declared.change.Change.{Change}
@@ -35,6 +36,16 @@ touches_rights t _ = false
 abbrev pub changes_rights : State → List RowChange → Bool
 changes_rights t rows = list_any (touches_rights t) rows
 
+-- such a group, service, role or share is put or removed, or somebody becomes an admin or is one no longer (who isn't kept is none)
+abbrev pub touches_sources : State → RowChange → Bool
+touches_sources t (Put (Row.User row)) = not (same_bool (is_admin t row.name) row.admin)
+touches_sources t (Remove (RowKey.User name)) = is_admin t name
+touches_sources t r = touches_rights t r
+
+-- a change of these rows changes what rights come from
+abbrev pub changes_sources : State → List RowChange → Bool
+changes_sources t rows = list_any (touches_sources t) rows
+
 -- a step of a server's life is none, nor are the rows of an end
 abbrev pub is_of_rights : State → Change → Bool
 is_of_rights t c = changes_rights t (rows_of c)
@@ -43,3 +54,8 @@ is_of_rights t c = changes_rights t (rows_of c)
 abbrev pub stamp_after : State → Option Change → ℕ → ℕ
 stamp_after t None stamp = stamp
 stamp_after t (Some c) stamp = if is_of_rights t c then stamp + 1 else stamp
+
+-- the stamp that the last change of a source of rights left
+abbrev pub since_after : State → Option Change → (stamp since : ℕ) → ℕ
+since_after t None stamp since = since
+since_after t (Some c) stamp since = if changes_sources t (rows_of c) then stamp + 1 else since

@@ -21,7 +21,7 @@ mod life;
 mod live;
 
 use crate::decide::decide;
-use crate::stamps::{is_of_rights, raised};
+use crate::stamps::Stamps;
 use hub_kit::moment::Moment;
 use hub_machine::answer::{Answer, good_reply, refusal_reply};
 use hub_machine::call::Asked;
@@ -47,8 +47,8 @@ pub struct Book<K: Keeper, T: Trail<Entry = Change>> {
     machine: Machine,
     /// The grants of the tokens that were looked for last.
     rights: RightsCache,
-    /// How often rights have changed, which is the stamp of the grants of now.
-    stamp: u64,
+    /// How often rights have changed, which is the stamp of the grants of now, and since when they come from the same sources.
+    stamps: Stamps,
     /// The machine as it was at opening, for contracts alone.
     start: Snapshot<Machine>,
     /// The keeper as it was then, for contracts alone.
@@ -64,7 +64,7 @@ impl<K: Keeper + Drop, T: Trail<Entry = Change> + Drop> Drop for Book<K, T> {
             trail: _,
             machine: _,
             rights: _,
-            stamp: _,
+            stamps: _,
             start: _,
             found: _,
             alloc: _,
@@ -94,11 +94,11 @@ impl<K: Keeper, T: Trail<Entry = Change>> Model for Book<K, T> {
       told = T.told b.trail;
       faults = K.faults b.keeper;
       rights = b.rights;
-      stamp = b.stamp;
+      stamp = b.stamps.stamp;
     } };
 
     ghost invariant = { λ b. Reached (record { machine = b.start.value; has_rows = K.is_told b.found.value }) (T.told b.trail) b.machine
-        × IsStamped b.rights b.machine.tables b.stamp b.machine.length × (owed b.machine.lives ≤ T.spare b.trail)
+        × IsStamped b.rights b.machine.tables b.stamps.since b.stamps.stamp b.machine.length × (owed b.machine.lives ≤ T.spare b.trail)
         × (K.Tells b.keeper → Keeps (K.rows b.keeper) b.machine.tables) × (K.Tells b.keeper → IsTrue (K.is_told b.found.value)) };
 }
 
@@ -108,15 +108,27 @@ fn carry<K: Keeper, T: Trail<Entry = Change>>(
     machine: &mut Machine,
     keeper: &mut K,
     trail: &mut T,
-    stamp: &mut u64,
+    stamps: &mut Stamps,
     answer: Answer,
 ) -> Result<Outcome, AllocError>
     requires may { MayBeDone machine.old (change_of (answer_view answer)) }
-    requires room { stamp.old ≤ machine.old.length }
+    requires room { stamps.old.stamp ≤ machine.old.length }
     ensures carried { Carried (change_of (answer_view answer))
         (outcome_of (long_after (change_of (answer_view answer)) machine.old.length) (answer_view answer)) result
-        (record { hub = machine.old; told = T.told trail.old; stamp = stamp.old; faults = K.faults keeper.old })
-        (record { hub = machine.new; told = T.told trail.new; stamp = stamp.new; faults = K.faults keeper.new }) }
+        (record {
+          hub = machine.old;
+          told = T.told trail.old;
+          stamp = stamps.old.stamp;
+          since = stamps.old.since;
+          faults = K.faults keeper.old;
+        })
+        (record {
+          hub = machine.new;
+          told = T.told trail.new;
+          stamp = stamps.new.stamp;
+          since = stamps.new.since;
+          faults = K.faults keeper.new;
+        }) }
     ensures counted { K.faults keeper.old ≤ K.faults keeper.new }
     ensures spare { owed machine.old.lives ≤ T.spare trail.old → owed machine.new.lives ≤ T.spare trail.new }
     ensures told { K.Tells keeper.new → K.Tells keeper.old }
@@ -142,7 +154,7 @@ fn carry<K: Keeper, T: Trail<Entry = Change>>(
         }
         Answer::Works { change, work } => (change, Outcome::Work(work)),
     };
-    carry_change(alloc, machine, keeper, trail, stamp, change, says)
+    carry_change(alloc, machine, keeper, trail, stamps, change, says)
 }
 
 /// Carries a change out, after which this is said.
@@ -151,33 +163,45 @@ fn carry_change<K: Keeper, T: Trail<Entry = Change>>(
     machine: &mut Machine,
     keeper: &mut K,
     trail: &mut T,
-    stamp: &mut u64,
+    stamps: &mut Stamps,
     change: Planned,
     says: Outcome,
 ) -> Result<Outcome, AllocError>
     requires may { MayBeDone machine.old (Some change) }
-    requires room { stamp.old ≤ machine.old.length }
+    requires room { stamps.old.stamp ≤ machine.old.length }
     ensures carried { Carried (Some change) (outcome_view says) result
-        (record { hub = machine.old; told = T.told trail.old; stamp = stamp.old; faults = K.faults keeper.old })
-        (record { hub = machine.new; told = T.told trail.new; stamp = stamp.new; faults = K.faults keeper.new }) }
+        (record {
+          hub = machine.old;
+          told = T.told trail.old;
+          stamp = stamps.old.stamp;
+          since = stamps.old.since;
+          faults = K.faults keeper.old;
+        })
+        (record {
+          hub = machine.new;
+          told = T.told trail.new;
+          stamp = stamps.new.stamp;
+          since = stamps.new.since;
+          faults = K.faults keeper.new;
+        }) }
     ensures counted { K.faults keeper.old ≤ K.faults keeper.new }
     ensures spare { owed machine.old.lives ≤ T.spare trail.old → owed machine.new.lives ≤ T.spare trail.new }
     ensures told { K.Tells keeper.new → K.Tells keeper.old }
     ensures keeps { (K.Tells keeper.old → Keeps (K.rows keeper.old) machine.old.tables) → K.Tells keeper.new
         → Keeps (K.rows keeper.new) machine.new.tables }
 {
-    let of_rights = is_of_rights(machine.tables(), change.change());
     // The reply to a refusal of the keeper is made before the change is tried, so that no memory can be wanting between them.
     let Ok(fault) = refusal_reply(alloc, machine.length(), &Refusal::KeeperFault) else {
         drop(change);
         drop(says);
         return Err(AllocError);
     };
+    let after = stamps.after(machine.tables(), change.change());
     // What isn't said is dropped in one call each, since it has many parts.
     match machine.enter(alloc, keeper, trail, change) {
         Ok(true) => {
             drop(fault);
-            *stamp = raised(*stamp, of_rights);
+            *stamps = after;
             Ok(says)
         }
         Ok(false) => {
@@ -225,7 +249,7 @@ impl<K: Keeper, T: Trail<Entry = Change>> Book<K, T> {
                     trail,
                     machine,
                     rights,
-                    stamp: 0,
+                    stamps: Stamps { stamp: 0, since: 0 },
                     start,
                     found,
                     alloc,
@@ -262,7 +286,7 @@ impl<K: Keeper, T: Trail<Entry = Change>> Book<K, T> {
             alloc,
             &self.machine,
             &mut self.rights,
-            self.stamp,
+            self.stamps,
             now,
             draw,
             asked,
@@ -274,7 +298,7 @@ impl<K: Keeper, T: Trail<Entry = Change>> Book<K, T> {
             &mut self.machine,
             &mut self.keeper,
             &mut self.trail,
-            &mut self.stamp,
+            &mut self.stamps,
             answer,
         )
     }
@@ -328,7 +352,7 @@ impl<K: Keeper, T: Trail<Entry = Change>> Book<K, T> {
             trail,
             machine: _,
             rights: _,
-            stamp: _,
+            stamps: _,
             start: _,
             found: _,
             alloc: _,

@@ -18,6 +18,7 @@ use crate::caller::good_token;
 use crate::dispatch::{by_nobody, row};
 use crate::holding::inside_of;
 use crate::needs::{first_refusal, is_held, is_there, needs, needs_token};
+use crate::stamps::Stamps;
 use hub_kit::list::List;
 use hub_kit::moment::Moment;
 use hub_machine::answer::Answer;
@@ -98,16 +99,16 @@ pub fn decide(
     alloc: Global,
     hub: &Machine,
     rights: &mut RightsCache,
-    stamp: u64,
+    stamps: Stamps,
     now: Moment,
     draw: Option<[u8; 16]>,
     asked: &Asked,
 ) -> Result<Answer, AllocError>
-    requires current { IsCurrent rights.old hub.now.tables stamp }
+    requires current { IsCurrent rights.old hub.now.tables stamps.since stamps.stamp }
     requires numbered { AreNumbered hub.now.tables }
     ensures answers { IfOk result (λ a. Answers hub.now now draw asked.now (answer_view a)) }
-    ensures looked { Looked rights.old stamp (decider hub.now now asked.now) result rights.new }
-    ensures current { IsCurrent rights.new hub.now.tables stamp }
+    ensures looked { Looked rights.old stamps.stamp (decider hub.now now asked.now) result rights.new }
+    ensures current { IsCurrent rights.new hub.now.tables stamps.since stamps.stamp }
 {
     let revision = hub.length();
     let past = is_past(revision, asked.seen);
@@ -118,7 +119,7 @@ pub fn decide(
             length: revision,
         }));
     }
-    after_seen(alloc, hub, rights, stamp, now, draw, asked)
+    after_seen(alloc, hub, rights, stamps, now, draw, asked)
 }
 
 /// The answer to a call whose caller hasn't seen more than there is.
@@ -126,21 +127,21 @@ fn after_seen(
     alloc: Global,
     hub: &Machine,
     rights: &mut RightsCache,
-    stamp: u64,
+    stamps: Stamps,
     now: Moment,
     draw: Option<[u8; 16]>,
     asked: &Asked,
 ) -> Result<Answer, AllocError>
-    requires current { IsCurrent rights.old hub.now.tables stamp }
+    requires current { IsCurrent rights.old hub.now.tables stamps.since stamps.stamp }
     requires numbered { AreNumbered hub.now.tables }
     requires past { spec.is_past hub.now.length asked.now.seen ≡ false }
     ensures answers { IfOk result (λ a. Answers hub.now now draw asked.now (answer_view a)) }
-    ensures looked { Looked rights.old stamp (decider hub.now now asked.now) result rights.new }
-    ensures current { IsCurrent rights.new hub.now.tables stamp }
+    ensures looked { Looked rights.old stamps.stamp (decider hub.now now asked.now) result rights.new }
+    ensures current { IsCurrent rights.new hub.now.tables stamps.since stamps.stamp }
 {
     let needed = needs_token(&asked.call);
     if needed {
-        return with_token(alloc, hub, rights, stamp, now, draw, asked);
+        return with_token(alloc, hub, rights, stamps, now, draw, asked);
     }
     without_token(alloc, hub, now, draw, &asked.call)
 }
@@ -164,23 +165,23 @@ fn with_token(
     alloc: Global,
     hub: &Machine,
     rights: &mut RightsCache,
-    stamp: u64,
+    stamps: Stamps,
     now: Moment,
     draw: Option<[u8; 16]>,
     asked: &Asked,
 ) -> Result<Answer, AllocError>
-    requires current { IsCurrent rights.old hub.now.tables stamp }
+    requires current { IsCurrent rights.old hub.now.tables stamps.since stamps.stamp }
     requires numbered { AreNumbered hub.now.tables }
     requires past { spec.is_past hub.now.length asked.now.seen ≡ false }
     requires needed { need.needs_token asked.now.call ≡ true }
     ensures answers { IfOk result (λ a. Answers hub.now now draw asked.now (answer_view a)) }
-    ensures looked { Looked rights.old stamp (decider hub.now now asked.now) result rights.new }
-    ensures current { IsCurrent rights.new hub.now.tables stamp }
+    ensures looked { Looked rights.old stamps.stamp (decider hub.now now asked.now) result rights.new }
+    ensures current { IsCurrent rights.new hub.now.tables stamps.since stamps.stamp }
 {
     let caller = good_token(alloc, hub, now, &asked.token)?;
     match caller {
         None => Ok(Answer::Refuses(Refusal::NoValidToken)),
-        Some(token) => by_rights(alloc, hub, rights, stamp, now, draw, token, &asked.call),
+        Some(token) => by_rights(alloc, hub, rights, stamps, now, draw, token, &asked.call),
     }
 }
 
@@ -189,20 +190,20 @@ fn by_rights(
     alloc: Global,
     hub: &Machine,
     rights: &mut RightsCache,
-    stamp: u64,
+    stamps: Stamps,
     now: Moment,
     draw: Option<[u8; 16]>,
     token: &Token,
     call: &Call,
 ) -> Result<Answer, AllocError>
-    requires current { IsCurrent rights.old hub.now.tables stamp }
+    requires current { IsCurrent rights.old hub.now.tables stamps.since stamps.stamp }
     requires numbered { AreNumbered hub.now.tables }
     requires kept { map.get hub.now.tables.tokens token.now.id ≡ Some token.now }
     ensures answers { IfOk result (λ a. ByRights hub.now now draw token.now call.now (answer_view a)) }
-    ensures looked { Looked rights.old stamp (Some token.now) result rights.new }
-    ensures current { IsCurrent rights.new hub.now.tables stamp }
+    ensures looked { Looked rights.old stamps.stamp (Some token.now) result rights.new }
+    ensures current { IsCurrent rights.new hub.now.tables stamps.since stamps.stamp }
 {
-    let grant = rights.look(alloc, hub.tables(), token, stamp)?;
+    let grant = rights.look_since(alloc, hub.tables(), token, stamps.since, stamps.stamp)?;
     judged(alloc, hub, now, draw, token, grant, call)
 }
 

@@ -1,7 +1,7 @@
 use Rattle.std.proofs.Common.{◌≡◌, ◌∙◌, ◌+◌, Bool, true, false, ap, inl, inr, refl, Ok}
-use Rattle.std.specs.Prelude.{if◌then◌else◌}
+use Rattle.std.specs.Prelude.{Some}
 use Rattle.hub_machine.specs.Replies.{answered, refusal_reply}
-use Rattle.hub_core.specs.Stamps.{is_of_rights}
+use Rattle.hub_core.specs.Stamps.{since_after, stamp_after}
 use Rattle.hub_machine.specs.declared.refusal.Refusal.TheVariants.{KeeperFault}
 use Rattle.hub_core.proofs.book.carry_change.Goals as goal
 
@@ -11,8 +11,8 @@ returns-in-Ok-true-clause-carried g c =
     inl (record {
       hub = same.0;
       telling = same.1;
-      stamped = c.raised.ensures ∙ ap (λ (b : Bool). if b then c.args.stamp.now + 1 else c.args.stamp.now)
-          (c.is_of_rights-of_rights.ensures ∙ (λ i. is_of_rights (c.tables.ensures i) (c.change.ensures i)));
+      stamped = c.after-after.ensures.stamp ∙ (λ i. stamp_after (c.tables.ensures i) (Some (c.change.ensures i)) c.args.stamps.now.stamp);
+      settled = c.after-after.ensures.since ∙ (λ i. since_after (c.tables.ensures i) (Some (c.change.ensures i)) c.args.stamps.now.stamp c.args.stamps.now.since);
       unasked = λ e. ap g.K.Keeper.faults (c.in-Ok-true.ensures.calm e).0;
       said = refl;
     })
@@ -30,6 +30,6 @@ returns-in-Ok-false-clause-carried g c =
       has = refl;
       commits = commits _ (λ e. (c.in-Ok-false.ensures.calm e).1 (ap Ok c.in-Ok-false.field-0-test));
       said = ap answered (c.in-Ok.ensures ∙ ap (λ n. refusal_reply n KeeperFault) c.length.ensures.value);
-      stays = record { hub = same.0; telling = same.1; stamped = refl };
+      stays = record { hub = same.0; telling = same.1; stamped = refl; settled = refl };
       rises = c.in-Ok-false.ensures.cause (ap Ok c.in-Ok-false.field-0-test);
     })

@@ -11,5 +11,5 @@ returns-clause-answers c = IfOk-weaker c.without_token.result _ _
     c.without_token.ensures
 
 pub returns-clause-looked : goal.returns-clause-looked
-returns-clause-looked c = not_looked c.args.rights.now c.args.stamp _ c.without_token.result
+returns-clause-looked c = not_looked c.args.rights.now c.args.stamps.stamp _ c.without_token.result
     (none_decides c.args.hub.now c.args.now c.args.asked.now c.requires.past (sym c.needs_token-needed.ensures ∙ c.if-needed.false))

@@ -10,5 +10,5 @@ returns-then-past-clause-answers c = past c.args.hub.now c.args.now c.args.draw 
     c.named-seen.ensures c.length-revision.ensures.value
 
 pub returns-then-past-clause-looked : goal.returns-then-past-clause-looked
-returns-then-past-clause-looked c = none_looked c.args.rights.now c.args.stamp _ (past_decides c.args.hub.now c.args.now c.args.asked.now
+returns-then-past-clause-looked c = none_looked c.args.rights.now c.args.stamps.stamp _ (past_decides c.args.hub.now c.args.now c.args.asked.now
     (ap (λ (n : ℕ). is_past n c.args.asked.now.seen) (sym c.length-revision.ensures.value) ∙ sym c.is_past-past.ensures ∙ c.if-past.true))

@@ -12,7 +12,7 @@ returns-in-None-clause-answers c = nobody_known c.args.hub.now c.args.now c.args
     (sym c.in_ok-caller.ensures.value ∙ ap option_copied c.in-None.is)
 
 pub returns-in-None-clause-looked : goal.returns-in-None-clause-looked
-returns-in-None-clause-looked c = none_looked c.args.rights.now c.args.stamp _ (decides c.args.hub.now c.args.now c.args.asked.now None c.requires.past c.requires.needed
+returns-in-None-clause-looked c = none_looked c.args.rights.now c.args.stamps.stamp _ (decides c.args.hub.now c.args.now c.args.asked.now None c.requires.past c.requires.needed
     (sym c.in_ok-caller.ensures.value ∙ ap option_copied c.in-None.is))
 
 pub returns-in-Some-clause-answers : goal.returns-in-Some-clause-answers
@@ -22,5 +22,5 @@ returns-in-Some-clause-answers c = IfOk-weaker c.by_rights.result _ _
     c.by_rights.ensures.answers
 
 pub returns-in-Some-clause-looked : goal.returns-in-Some-clause-looked
-returns-in-Some-clause-looked c = looked_of c.args.rights.now c.by_rights.new.rights c.args.stamp _ _ c.by_rights.result (sym (decides c.args.hub.now c.args.now c.args.asked.now (Some c.in-Some.token.now) c.requires.past c.requires.needed
+returns-in-Some-clause-looked c = looked_of c.args.rights.now c.by_rights.new.rights c.args.stamps.stamp _ _ c.by_rights.result (sym (decides c.args.hub.now c.args.now c.args.asked.now (Some c.in-Some.token.now) c.requires.past c.requires.needed
     (sym c.in_ok-caller.ensures.value ∙ ap option_copied c.in-Some.is))) c.by_rights.ensures.looked

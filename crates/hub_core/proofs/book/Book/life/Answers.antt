@@ -9,7 +9,7 @@ invariant_of-self g c = (
   reached_stepped (record { machine = c.self.inside.start.value; has_rows = g.K.Keeper.is_told c.self.inside.found.value }) c.self.inside.machine c.step.new.self
       (g.T.Trail.told c.self.inside.trail) (g.T.Trail.told c.step.new.trail) c.args.generation c.args.event c.step.result
       (g.K.Keeper.faults c.self.inside.keeper) (g.K.Keeper.faults c.step.new.keeper) c.requires.outcome c.self.invariant.0 c.step.ensures.steps,
-  stamped_lives c.self.inside.rights c.self.inside.machine c.step.new.self c.self.inside.stamp (g.T.Trail.told c.self.inside.trail) (g.T.Trail.told c.step.new.trail)
+  stamped_lives c.self.inside.rights c.self.inside.machine c.step.new.self c.self.inside.stamps.since c.self.inside.stamps.stamp (g.T.Trail.told c.self.inside.trail) (g.T.Trail.told c.step.new.trail)
       c.args.generation c.args.event c.step.result
       (g.K.Keeper.faults c.self.inside.keeper) (g.K.Keeper.faults c.step.new.keeper) c.step.ensures.steps c.self.invariant.1,
   c.step.ensures.room,
@@ -34,7 +34,7 @@ returns-clause-lives g c =
       told = g.T.Trail.told c.step.new.trail;
       faults = g.K.Keeper.faults c.step.new.keeper;
       rights = c.self.inside.rights;
-      stamp = c.self.inside.stamp;
+      stamp = c.self.inside.stamps.stamp;
     }) in
     let P : Standing → Type 0 = λ b. LivesOn b new c.args.generation c.args.event c.step.result in
     subst P c.self.view_is (record {

@@ -21,12 +21,12 @@ carry-requires-clause-may g c = may_be_done c.self.inside.machine c.args.now c.a
 pub invariant_of-self-2 : goal.invariant_of-self-2
 invariant_of-self-2 g c = (
   reached_carried (record { machine = c.self.inside.start.value; has_rows = g.K.Keeper.is_told c.self.inside.found.value }) c.args.now c.args.draw c.args.asked.now (answer_view c.in_ok-answer.answer) (says_of (answer_view c.in_ok-answer.answer) c.self.inside.machine) c.carry.result
-      (record { hub = c.self.inside.machine; told = g.T.Trail.told c.self.inside.trail; stamp = c.self.inside.stamp; faults = g.K.Keeper.faults c.self.inside.keeper })
-      (record { hub = c.carry.new.machine; told = g.T.Trail.told c.carry.new.trail; stamp = c.carry.new.stamp; faults = g.K.Keeper.faults c.carry.new.keeper })
+      (record { hub = c.self.inside.machine; told = g.T.Trail.told c.self.inside.trail; stamp = c.self.inside.stamps.stamp; since = c.self.inside.stamps.since; faults = g.K.Keeper.faults c.self.inside.keeper })
+      (record { hub = c.carry.new.machine; told = g.T.Trail.told c.carry.new.trail; stamp = c.carry.new.stamps.stamp; since = c.carry.new.stamps.since; faults = g.K.Keeper.faults c.carry.new.keeper })
       c.in_ok-answer.ensures.answers c.self.invariant.0 c.carry.ensures.carried,
   stamped_carried c.decide.new.rights (change_of (answer_view c.in_ok-answer.answer)) (says_of (answer_view c.in_ok-answer.answer) c.self.inside.machine) c.carry.result
-      (record { hub = c.self.inside.machine; told = g.T.Trail.told c.self.inside.trail; stamp = c.self.inside.stamp; faults = g.K.Keeper.faults c.self.inside.keeper })
-      (record { hub = c.carry.new.machine; told = g.T.Trail.told c.carry.new.trail; stamp = c.carry.new.stamp; faults = g.K.Keeper.faults c.carry.new.keeper })
+      (record { hub = c.self.inside.machine; told = g.T.Trail.told c.self.inside.trail; stamp = c.self.inside.stamps.stamp; since = c.self.inside.stamps.since; faults = g.K.Keeper.faults c.self.inside.keeper })
+      (record { hub = c.carry.new.machine; told = g.T.Trail.told c.carry.new.trail; stamp = c.carry.new.stamps.stamp; since = c.carry.new.stamps.since; faults = g.K.Keeper.faults c.carry.new.keeper })
       (answer_numbers c.self.inside.machine c.args.now c.args.draw c.args.asked.now (answer_view c.in_ok-answer.answer) c.are_leased.ensures c.self.invariant.1.numbered (small c.next_generation-generation.ensures.value c.next_generation-generation.ensures.room) c.in_ok-answer.ensures.answers) c.carry.ensures.carried
       (record { current = c.decide.ensures.current; numbered = c.self.invariant.1.numbered; room = c.self.invariant.1.room }),
   c.carry.ensures.spare c.self.invariant.2,
@@ -45,31 +45,31 @@ returns-clause-visited g c =
       told = g.T.Trail.told c.carry.new.trail;
       faults = g.K.Keeper.faults c.carry.new.keeper;
       rights = c.decide.new.rights;
-      stamp = c.carry.new.stamp;
+      stamp = c.carry.new.stamps.stamp;
     }) in
     let P : Standing → Type 0 = λ b. Visited b c.args.now c.args.draw c.args.asked.now c.carry.result after in
     subst P c.self.view_is
-    (visited_of _ after c.args.now c.args.draw c.args.asked.now (answer_view c.in_ok-answer.answer) c.carry.result
+    (visited_of _ after c.self.inside.stamps.since c.carry.new.stamps.since c.args.now c.args.draw c.args.asked.now (answer_view c.in_ok-answer.answer) c.carry.result
     c.in_ok-answer.ensures.answers c.carry.ensures.carried)
 
 pub returns-clause-reached : goal.returns-clause-reached
 returns-clause-reached g c =
     reached_carried (record { machine = c.self.inside.start.value; has_rows = g.K.Keeper.is_told c.self.inside.found.value }) c.args.now c.args.draw c.args.asked.now (answer_view c.in_ok-answer.answer) (says_of (answer_view c.in_ok-answer.answer) c.self.inside.machine) c.carry.result
-    (record { hub = c.self.inside.machine; told = g.T.Trail.told c.self.inside.trail; stamp = c.self.inside.stamp; faults = g.K.Keeper.faults c.self.inside.keeper })
-    (record { hub = c.carry.new.machine; told = g.T.Trail.told c.carry.new.trail; stamp = c.carry.new.stamp; faults = g.K.Keeper.faults c.carry.new.keeper })
+    (record { hub = c.self.inside.machine; told = g.T.Trail.told c.self.inside.trail; stamp = c.self.inside.stamps.stamp; since = c.self.inside.stamps.since; faults = g.K.Keeper.faults c.self.inside.keeper })
+    (record { hub = c.carry.new.machine; told = g.T.Trail.told c.carry.new.trail; stamp = c.carry.new.stamps.stamp; since = c.carry.new.stamps.since; faults = g.K.Keeper.faults c.carry.new.keeper })
     c.in_ok-answer.ensures.answers c.self.invariant.0 c.carry.ensures.carried
 
 pub returns-clause-looked : goal.returns-clause-looked
 returns-clause-looked g c =
     let P : Standing → Type 0 = λ b. Looked b.rights b.stamp (decider b.hub c.args.now c.args.asked.now) c.carry.result c.decide.new.rights in
-    subst P c.self.view_is (looked_then c.self.inside.rights c.decide.new.rights c.self.inside.stamp (decider c.self.inside.machine c.args.now c.args.asked.now) c.carry.result
+    subst P c.self.view_is (looked_then c.self.inside.rights c.decide.new.rights c.self.inside.stamps.stamp (decider c.self.inside.machine c.args.now c.args.asked.now) c.carry.result
     c.in_ok-answer.ensures.looked)
 
 pub returns-clause-sound : goal.returns-clause-sound
 returns-clause-sound g c =
     sound_carried c.args.now c.args.draw c.args.asked.now (answer_view c.in_ok-answer.answer) c.carry.result
-    (record { hub = c.self.inside.machine; told = g.T.Trail.told c.self.inside.trail; stamp = c.self.inside.stamp; faults = g.K.Keeper.faults c.self.inside.keeper })
-    (record { hub = c.carry.new.machine; told = g.T.Trail.told c.carry.new.trail; stamp = c.carry.new.stamp; faults = g.K.Keeper.faults c.carry.new.keeper })
+    (record { hub = c.self.inside.machine; told = g.T.Trail.told c.self.inside.trail; stamp = c.self.inside.stamps.stamp; since = c.self.inside.stamps.since; faults = g.K.Keeper.faults c.self.inside.keeper })
+    (record { hub = c.carry.new.machine; told = g.T.Trail.told c.carry.new.trail; stamp = c.carry.new.stamps.stamp; since = c.carry.new.stamps.since; faults = g.K.Keeper.faults c.carry.new.keeper })
     c.are_leased.ensures c.self.invariant.1.numbered (small c.next_generation-generation.ensures.value c.next_generation-generation.ensures.room) c.in_ok-answer.ensures.answers c.carry.ensures.carried
 
 pub returns-clause-placed : goal.returns-clause-placed
@@ -77,11 +77,11 @@ returns-clause-placed g c =
     let P : Standing → Type 0 = λ b.
     VisitedAt b.start (entries_of b) (g.T.Trail.told c.carry.new.trail) b.faults (g.K.Keeper.faults c.carry.new.keeper) c.args.now c.args.draw c.args.asked.now c.carry.result in
     let there = (reached_carried (record { machine = c.self.inside.start.value; has_rows = g.K.Keeper.is_told c.self.inside.found.value }) c.args.now c.args.draw c.args.asked.now (answer_view c.in_ok-answer.answer) (says_of (answer_view c.in_ok-answer.answer) c.self.inside.machine) c.carry.result
-    (record { hub = c.self.inside.machine; told = g.T.Trail.told c.self.inside.trail; stamp = c.self.inside.stamp; faults = g.K.Keeper.faults c.self.inside.keeper })
-    (record { hub = c.carry.new.machine; told = g.T.Trail.told c.carry.new.trail; stamp = c.carry.new.stamp; faults = g.K.Keeper.faults c.carry.new.keeper })
+    (record { hub = c.self.inside.machine; told = g.T.Trail.told c.self.inside.trail; stamp = c.self.inside.stamps.stamp; since = c.self.inside.stamps.since; faults = g.K.Keeper.faults c.self.inside.keeper })
+    (record { hub = c.carry.new.machine; told = g.T.Trail.told c.carry.new.trail; stamp = c.carry.new.stamps.stamp; since = c.carry.new.stamps.since; faults = g.K.Keeper.faults c.carry.new.keeper })
     c.in_ok-answer.ensures.answers c.self.invariant.0 c.carry.ensures.carried) in
     subst P c.self.view_is
     (visited_at (record { machine = c.self.inside.start.value; has_rows = g.K.Keeper.is_told c.self.inside.found.value }) c.args.now c.args.draw c.args.asked.now (answer_view c.in_ok-answer.answer) c.carry.result
-    (record { hub = c.self.inside.machine; told = g.T.Trail.told c.self.inside.trail; stamp = c.self.inside.stamp; faults = g.K.Keeper.faults c.self.inside.keeper })
-    (record { hub = c.carry.new.machine; told = g.T.Trail.told c.carry.new.trail; stamp = c.carry.new.stamp; faults = g.K.Keeper.faults c.carry.new.keeper })
+    (record { hub = c.self.inside.machine; told = g.T.Trail.told c.self.inside.trail; stamp = c.self.inside.stamps.stamp; since = c.self.inside.stamps.since; faults = g.K.Keeper.faults c.self.inside.keeper })
+    (record { hub = c.carry.new.machine; told = g.T.Trail.told c.carry.new.trail; stamp = c.carry.new.stamps.stamp; since = c.carry.new.stamps.since; faults = g.K.Keeper.faults c.carry.new.keeper })
     c.in_ok-answer.ensures.answers c.self.invariant.0 there c.carry.ensures.carried)
