@@ -13,15 +13,16 @@ use record_texts::known_form::{server_of, token_of, user_of};
 use record_texts::record::{RowError, of_row};
 use std::alloc::Global;
 
-/// All rows, in their order, or the kind and the key of the first that doesn't read. Each kept row is let go as soon as it was read.
+/// All rows, in their order, or the kind and the key of the first that doesn't read. The kept rows are let go at the end, all at once:
+/// between what is made of them each would leave a hole, and the heap would look through these.
 pub fn read_rows(alloc: Global, kept: Vec<KeptRow>) -> Result<List<Row>, RowError>
     ensures { spec.AreReading kept.items result }
 {
     let Ok(mut rows) = Vec::with_capacity(alloc, kept.len()) else {
         return Err(RowError::Memory);
     };
-    for one in kept {
-        let row = match read_row(alloc, &one) {
+    for one in kept.as_slice() {
+        let row = match read_row(alloc, one) {
             Ok(row) => row,
             Err(error) => return Err(error),
         };
