@@ -1,6 +1,6 @@
 -- What is made of rows that were read, and of those that weren't.
-use Rattle.std.proofs.Common.{◌≡◌, ◌<◌, ◌≤◌, ℕ, zero, suc, List, [], ◌∷◌, length, get_or, slice_get, Option, Some, None, inl, inr, refl, sym, ap, subst, ◌∙◌, arith}
-use Rattle.std.specs.Prelude.{Result, Ok, Err, IfOk, IfErr}
+use Rattle.std.proofs.Common.{◌≡◌, ◌≤◌, ℕ, zero, suc, List, [], ◌∷◌, slice_get, Some, None, inl, inr, sym, ap, subst, ◌∙◌}
+use Rattle.std.specs.Prelude.{Result, Ok, Err, IfOk, IfErr, option_map}
 use Rattle.scope_names.specs.declared.custom.CustomRow.{CustomRow}
 use Rattle.hub_rows.specs.declared.limits.Limits.{Limits}
 use Rattle.hub_rows.specs.declared.rows.Row.{Row}
@@ -41,27 +41,30 @@ unread limits scopes kept Wanting said first is = subst (λ (x : OpenError). Are
 
 -- ---- by the rules across rows
 
-read_at : (kept : List KeptRow) (rows : List Row) (i : ℕ) (row : Row) → AreReadAs kept rows → i < length rows → row ≡ get_or rows i row → slice_get kept i ≡ Some (kept_as row)
-read_at kept [] i row are lt e = absurd (omega (arith, lt))
-read_at [] (r ∷ rows) i row are lt e = absurd are
-read_at (k ∷ kept) (r ∷ rows) zero row are lt e = ap Some (sym are.0.same ∙ ap kept_as (sym e))
-read_at (k ∷ kept) (r ∷ rows) (suc i) row are lt e = read_at kept rows i row are.1 (omega (arith, lt)) e
+none_some : {X : Type 0} {x : X} → None ≡ Some x → ⊥
+none_some h = cc
+
+read_at : (kept : List KeptRow) (rows : List Row) (i : ℕ) (row : Row) → AreReadAs kept rows → slice_get rows i ≡ Some row → slice_get kept i ≡ Some (kept_as row)
+read_at kept [] i row are there = absurd (none_some there)
+read_at [] (r ∷ rows) i row are there = absurd are
+read_at (k ∷ kept) (r ∷ rows) zero row are there = ap Some (sym are.0.same) ∙ ap (option_map kept_as) there
+read_at (k ∷ kept) (r ∷ rows) (suc i) row are there = read_at kept rows i row are.1 there
 
 pub broken : (limits : Limits) (scopes : List CustomRow) (kept : List KeptRow) (rows : List Row) (place : ℕ) (row : Row) (e : OpenError) → AreReadAs kept rows
-    → sound_rows (kept_tables limits scopes rows) rows ≡ place → place < length rows → row ≡ get_or rows place row → IsBadRow (kept_as row) e → AreTables limits scopes kept (Err e)
-broken limits scopes kept rows place row KeeperFault are sound lt here is = absurd is
-broken limits scopes kept rows place row (BadRow number name) are sound lt here is =
+    → sound_rows (kept_tables limits scopes rows) rows ≡ place → slice_get rows place ≡ Some row → IsBadRow (kept_as row) e → AreTables limits scopes kept (Err e)
+broken limits scopes kept rows place row KeeperFault are sound here is = absurd is
+broken limits scopes kept rows place row (BadRow number name) are sound here is =
     inr (record {
       rows = rows;
       bad = kept_as row;
       read = are;
-      there = ap (slice_get kept) sound ∙ read_at kept rows place row are lt here;
+      there = ap (slice_get kept) sound ∙ read_at kept rows place row are here;
       kind = is.0;
       key = is.1;
     })
-broken limits scopes kept rows place row (LostTarget target) are sound lt here is = absurd is
-broken limits scopes kept rows place row (Full number limit) are sound lt here is = absurd is
-broken limits scopes kept rows place row Memory are sound lt here is = tt
+broken limits scopes kept rows place row (LostTarget target) are sound here is = absurd is
+broken limits scopes kept rows place row (Full number limit) are sound here is = absurd is
+broken limits scopes kept rows place row Memory are sound here is = tt
 
 -- ---- what is true of such tables
 

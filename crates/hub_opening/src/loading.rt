@@ -16,7 +16,7 @@ use keeper::keeper::{Item, Keeper, KeeperError, Row as KeptRow};
 use kept_rows::reading::read_rows;
 use record_texts::item::item_of;
 use record_texts::record::RowError;
-use row_rules::kept::{RowsError, kept_tables};
+use row_rules::kept::{TakenError, taken_tables};
 use scope_names::table::{ScopeTable, TableError};
 use std::alloc::{AllocError, Global};
 
@@ -54,7 +54,7 @@ fn tables_of(alloc: Global, kept: Vec<KeptRow>, config: &HubConfig) -> Result<Ta
     ensures { spec.AreTables config.now.limits config.now.custom_scopes kept.items result }
 {
     match read_rows(alloc, kept) {
-        Ok(rows) => sound_tables(alloc, rows.as_slice(), config),
+        Ok(rows) => sound_tables(alloc, rows.into_vec(), config),
         Err(error) => Err(unread(error)),
     }
 }
@@ -69,17 +69,17 @@ fn unread(error: RowError) -> OpenError
 }
 
 /// The tables of rows that were read, if none breaks a rule across rows.
-fn sound_tables(alloc: Global, rows: &[Row], config: &HubConfig) -> Result<Tables, OpenError>
+fn sound_tables(alloc: Global, rows: Vec<Row>, config: &HubConfig) -> Result<Tables, OpenError>
     requires { spec.MakeTable config.now.custom_scopes }
-    ensures { (kept : List Kept) → AreReadAs kept rows.now → spec.AreTables config.now.limits config.now.custom_scopes kept result }
+    ensures { (kept : List Kept) → AreReadAs kept rows.items → spec.AreTables config.now.limits config.now.custom_scopes kept result }
 {
     let Ok(scopes) = scope_table(alloc, config) else {
         return Err(OpenError::Memory);
     };
-    match kept_tables(alloc, config.limits, scopes, rows) {
+    match taken_tables(alloc, config.limits, scopes, rows) {
         Ok(tables) => Ok(tables),
-        Err(RowsError::Broken(place)) => Err(bad_row(alloc, &rows[place])),
-        Err(RowsError::Memory) => Err(OpenError::Memory),
+        Err(TakenError::Broken { row, .. }) => Err(bad_row(alloc, &row)),
+        Err(TakenError::Memory) => Err(OpenError::Memory),
     }
 }
 

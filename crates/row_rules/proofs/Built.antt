@@ -1,7 +1,5 @@
--- What stands in tables that have all rows but some tokens and share codes, and what their rows come to.
-use Rattle.std.proofs.Common.{◌≡◌, ℕ, ◌≤◌, min, ◌&&◌, List, [], ◌∷◌, length, take, drop, fold, refl, ap, sym, ◌∙◌, arith}
-use Rattle.std.proofs.lemmas.List.{take-append-drop, take_all, drop_all}
-use Rattle.std.proofs.lemmas.List.Sums.{fold-append}
+-- What stands in tables that have all rows but some tokens and share codes, and how these are put.
+use Rattle.std.proofs.Common.{◌≡◌, List, [], ◌∷◌, fold, refl, ap, sym, subst, ◌∙◌}
 use Rattle.std.specs.Ordering.{nat_cmp}
 use Rattle.std.specs.FinMap.{FinMap}
 use Rattle.hub_rows.specs.declared.rows.Row.{Row}
@@ -9,9 +7,11 @@ use Rattle.hub_rows.specs.declared.records.ShareCode.{ShareCode}
 use Rattle.hub_rows.specs.declared.records.Token.{Token}
 use Rattle.hub_tables.specs.Changes.{with_row}
 use Rattle.hub_tables.specs.State.{State}
-use Rattle.row_rules.specs.Across.{rows_put, stands, is_new, is_sole, passing, sound_rows}
-use Rattle.row_rules.specs.Judged.{with_other, fits, IsPut, IsJudged}
-use Rattle.row_rules.proofs.Passing.{passing_both, passing_same}
+use Rattle.row_rules.specs.Across.{rows_put, stands}
+use Rattle.row_rules.specs.Judged.{with_other, with_hashed, is_free, part_of, AreOthersPut, IsLedger}
+use Rattle.row_rules.specs.declared.standing.Ledger.{Ledger}
+
+-- ---- all rows but tokens and share codes
 
 -- other tokens and share codes in the tables
 abbrev swapped : State → FinMap nat_cmp Token → FinMap nat_cmp ShareCode → State
@@ -26,34 +26,30 @@ swapped_rows : (rows : List Row) (t : State) (a : FinMap nat_cmp Token) (b : Fin
 swapped_rows [] t a b = refl
 swapped_rows (row ∷ rows) t a b = ap (λ s. fold (λ s row. with_other row s) s rows) (swapped_row row t a b) ∙ swapped_rows rows (with_row row t) a b
 
+pub others_put : (rows : List Row) (t after : State) → after ≡ fold (λ s row. with_other row s) t rows → AreOthersPut t rows after
+others_put rows t after e = e ∙ swapped_rows rows t t.tokens t.codes
+
+-- ---- and of those the ones of the first rows
+
+pub part_more : (row : Row) (all first : State) → with_hashed row (part_of all first) ≡ part_of all (with_row row first)
+part_more (Row.Token k) all first = refl
+part_more (Row.ShareCode c) all first = refl
+part_more row all first = refl
+
 -- no rule asks for tokens or share codes
-swapped_stands : (row : Row) (t : State) (a : FinMap nat_cmp Token) (b : FinMap nat_cmp ShareCode) → stands (swapped t a b) row ≡ stands t row
-swapped_stands (Row.Token k) t a b = refl
-swapped_stands row t a b = refl
+pub part_stands : (row : Row) (all first : State) → stands (part_of all first) row ≡ stands all row
+part_stands (Row.Token k) all first = refl
+part_stands row all first = refl
 
-all_put : (rows : List Row) (t : State) (n : ℕ) → rows_put (drop n rows) (rows_put (take n rows) t) ≡ rows_put rows t
-all_put rows t n = sym (fold-append (λ s row. with_row row s) t (take n rows) (drop n rows)) ∙ ap (λ xs. rows_put xs t) (take-append-drop n rows)
+pub part_free : (row : Row) (all first : State) → is_free (part_of all first) row ≡ is_free first row
+part_free (Row.Token k) all first = refl
+part_free (Row.ShareCode c) all first = refl
+part_free row all first = refl
 
-module _ (rows : List Row) (t first after : State) (fit fitting : ℕ) (p : IsPut t rows fit first) (others : after ≡ fold (λ s row. with_other row s) first (drop fit rows))
-    (count : fitting ≡ passing (fits after) [] rows) where
-  built : after ≡ swapped (rows_put rows t) first.tokens first.codes
-  built = others ∙ swapped_rows (drop fit rows) first first.tokens first.codes
-      ∙ ap (λ s. swapped s first.tokens first.codes) (ap (rows_put (drop fit rows)) p.after_is ∙ all_put rows t fit)
+ledger_with : (row : Row) (t : State) (ledger : Ledger) → IsLedger t ledger → IsLedger (with_hashed row t) ledger
+ledger_with (Row.Token k) t ledger l = record { code = l.code; generation = l.generation; token = l.token; leased = l.leased }
+ledger_with (Row.ShareCode c) t ledger l = record { code = l.code; generation = l.generation; token = l.token; leased = l.leased }
+ledger_with row t ledger l = l
 
-  fits_same : (before : List Row) (row : Row) → fits after before row ≡ fits (rows_put rows t) before row
-  fits_same before row = ap (λ s. is_sole before row && stands s row) built ∙ ap (λ b. is_sole before row && b) (swapped_stands row (rows_put rows t) first.tokens first.codes)
-
-  counted : min fit fitting ≡ sound_rows (rows_put rows t) rows
-  counted =
-      ap (λ n. min n fitting) p.count ∙ ap (min (passing is_new [] rows)) (count ∙ passing_same (fits after) (fits (rows_put rows t)) fits_same [] rows)
-      ∙ sym (passing_both is_new (fits (rows_put rows t)) [] rows)
-
-  whole : length rows ≤ fit → after ≡ rows_put rows t
-  whole all = others ∙ ap (fold (λ s row. with_other row s) first) (drop_all fit rows all) ∙ p.after_is ∙ ap (λ xs. rows_put xs t) (take_all fit rows all)
-
-  pub judged : (sound : ℕ) → sound ≡ min fit fitting → IsJudged t rows sound after
-  judged sound e = record {
-    within = let w : fit ≤ length rows = p.within in omega arith;
-    count = e ∙ counted;
-    whole = λ all. whole (omega arith);
-  }
+pub ledger_on : (row : Row) (t after : State) (ledger : Ledger) → after ≡ with_hashed row t → IsLedger t ledger → IsLedger after ledger
+ledger_on row t after ledger put l = subst (λ s. IsLedger s ledger) (sym put) (ledger_with row t ledger l)

@@ -19,8 +19,6 @@ use Rattle.hub_tables.specs.State.{State}
 use Rattle.row_rules.specs.Across.{rows_put, is_this, has, is_new, token_id, token_hash, code_id, code_hash}
 use Rattle.row_rules.specs.Judged.{Holds, AreHeld, IsBare, is_free, is_hashed}
 use Rattle.hub_tables.proofs.Fresh.{fits_fresh}
-use Rattle.std.proofs.lemmas.List.Sums.{fold-append}
-use Rattle.row_rules.proofs.Passing.{taken_more}
 use Rattle.row_rules.proofs.Marks.{or_none, or_joined, has_more, has_skipped, contains_more}
 
 none_some : {A : Type 0} {x : A} → None ≡ Some x → ⊥
@@ -120,16 +118,6 @@ pub free_is_new : (row : Row) (t : State) (rows : List Row) → AreHeld t rows �
 free_is_new (Row.Token k) t rows h = ap not ((λ i. h.tokens.ids k.id i || h.tokens.hashes k.hash i) ∙ or_none _ ∙ or_none _)
 free_is_new (Row.ShareCode c) t rows h = λ i. not (h.codes.ids c.id i || h.codes.hashes c.hash i)
 free_is_new row t rows h = refl
-
--- ---- a step of putting
-
-module _ (rows : List Row) (i : ℕ) (row : Row) (within : i < length rows) (here : row ≡ get_or rows i row) (t after : State) (put : after ≡ with_row row t) where
-  pub held_on : AreHeld t (take i rows) → is_free t row ≡ true → AreHeld after (take (i + 1) rows)
-  held_on h free = subst (AreHeld after) (sym (taken_more rows i row within here)) (subst (λ s. AreHeld s (take i rows ++ row ∷ [])) (sym put) (held_more row t (take i rows) h free))
-
-  pub put_on : (start : State) → t ≡ rows_put (take i rows) start → after ≡ rows_put (take (i + 1) rows) start
-  put_on start e =
-      put ∙ ap (with_row row) e ∙ sym (fold-append (λ s row. with_row row s) start (take i rows) (row ∷ [])) ∙ ap (λ xs. rows_put xs start) (sym (taken_more rows i row within here))
 
 -- ---- a row that isn't found by a hash may be put
 

@@ -1,4 +1,5 @@
-pub mod Passing
 pub mod Marks
 pub mod Hashed
 pub mod Built
+pub mod Way
+pub mod Taken

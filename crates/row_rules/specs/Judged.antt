@@ -1,5 +1,5 @@
 -- How the rows are put and judged.
-use Rattle.std.specs.Prelude.{◌≡◌, ℕ, ◌<◌, ◌≤◌, Bool, true, false, not, ◌&&◌, ◌||◌, List, [], length, take, codes, Option, Some, None}
+use Rattle.std.specs.Prelude.{◌≡◌, ℕ, Bool, true, false, not, ◌&&◌, ◌||◌, List, [], length, slice_get, codes, Option, Some, None}
 use Rattle.std.specs.Prelude.{Result, Ok, Err, if◌then◌else◌}
 use Rattle.std.specs.Option.{is_some}
 use Rattle.std.specs.Ordering.{nat_cmp}
@@ -16,10 +16,10 @@ use Rattle.hub_tables.specs.Changes.{with_row}
 use Rattle.hub_tables.specs.Hashes.{row_with}
 use Rattle.hub_tables.specs.Lookups.{next_of}
 use Rattle.hub_tables.specs.State.{State}
-use Rattle.row_rules.specs.Across.{rows_put, is_leased, is_new, is_sole, stands, has, token_id, token_hash, code_id, code_hash}
-use Rattle.row_rules.specs.Across.{leased_server, leased_generation, started_server, passing, sound_rows}
-use Rattle.row_rules.specs.declared.kept.RowsError.{RowsError}
-use Rattle.row_rules.specs.declared.kept.RowsError.TheVariants.{Broken, Memory}
+use Rattle.row_rules.specs.Across.{rows_put, is_leased, stands, has, token_id, token_hash, code_id, code_hash}
+use Rattle.row_rules.specs.Across.{leased_server, leased_generation, started_server, sound_rows}
+use Rattle.row_rules.specs.declared.kept.TakenError.{TakenError}
+use Rattle.row_rules.specs.declared.kept.TakenError.TheVariants.{Broken, Memory}
 use Rattle.row_rules.specs.declared.standing.Ledger.{Ledger}
 use Rattle.row_rules.specs.declared.seen.Seen.{Seen}
 
@@ -45,6 +45,10 @@ is_free t _ = true
 abbrev pub with_other : Row → State → State
 with_other row t = if is_hashed row then t else with_row row t
 
+-- and one that is found by a hash
+abbrev pub with_hashed : Row → State → State
+with_hashed row t = if is_hashed row then with_row row t else t
+
 -- the ids and the hashes of kept rows are those of these rows
 pub record Holds {X : Type 0} (hash_of : X → List ℕ) (id : Row → Option ℕ) (hash : Row → Option (List ℕ)) (kept : FinMap nat_cmp X)
     (rows : List Row) : Type 0 where
@@ -60,11 +64,13 @@ pub record IsBare (t : State) : Type 0 where
   pub tokens : t.tokens ≡ empty
   pub codes : t.codes ≡ empty
 
--- the rows before the first whose id or hash is taken are put
-pub record IsPut (t : State) (rows : List Row) (fit : ℕ) (after : State) : Type 0 where
-  pub within : fit ≤ length rows
-  pub count : fit ≡ passing is_new [] rows
-  pub after_is : after ≡ rows_put (take fit rows) t
+-- the tables have all rows but for tokens and share codes, of which they have those of the first rows
+abbrev pub part_of : (all first : State) → State
+part_of all first = record all { tokens = first.tokens; codes = first.codes }
+
+-- all rows are put but for tokens and share codes, of which there are none
+abbrev pub AreOthersPut : State → List Row → State → Type 0
+AreOthersPut t rows after = after ≡ part_of (rows_put rows t) t
 
 -- ---- judging
 
@@ -110,20 +116,16 @@ pub record IsAdded (seen : Seen) (row : Row) (sole : Bool) (after : Seen) : Type
   pub generations : map_of nat_cmp after.generations ≡ noted (map_of nat_cmp seen.generations) (leased_generation row)
   pub started : map_of key_cmp after.started ≡ noted (map_of key_cmp seen.started) (started_server row)
 
--- whether a row keeps the rules that aren't of ids and hashes
-abbrev pub fits : (all : State) → (before : List Row) → Row → Bool
-fits all before row = is_sole before row && stands all row
+-- what a row has is noted, and nothing of it was before, it stands on the tables, and neither its id nor its hash is kept
+pub record IsWeighed (t : State) (seen : Seen) (row : Row) (keeps : Bool) (after : Seen) : Type 0 where
+  pub sole : Bool
+  pub added : IsAdded seen row sole after
+  pub keeps_is : keeps ≡ (sole && (stands t row && is_free t row))
 
 -- ---- both
 
--- the sound rows were counted, and where all are, the tables are those of all
-pub record IsJudged (t : State) (rows : List Row) (sound : ℕ) (after : State) : Type 0 where
-  pub within : sound ≤ length rows
-  pub count : sound ≡ sound_rows (rows_put rows t) rows
-  pub whole : length rows ≤ sound → after ≡ rows_put rows t
-
--- all rows were put, or the place of the first that breaks a rule was found
-abbrev pub IsFilled : State → List Row → Result (Unit {0}) RowsError → State → Type 0
-IsFilled t rows (Ok _) after = (after ≡ rows_put rows t) × (sound_rows (rows_put rows t) rows ≡ length rows)
-IsFilled t rows (Err (Broken place)) after = (sound_rows (rows_put rows t) rows ≡ place) × (place < length rows)
-IsFilled t rows (Err Memory) after = Unit {0}
+-- all rows were put, or the first that breaks a rule was found
+abbrev pub IsTaken : State → List Row → Result (Unit {0}) TakenError → State → Type 0
+IsTaken t rows (Ok _) after = (after ≡ rows_put rows t) × (sound_rows (rows_put rows t) rows ≡ length rows)
+IsTaken t rows (Err (Broken place row)) after = (sound_rows (rows_put rows t) rows ≡ place) × (slice_get rows place ≡ Some row)
+IsTaken t rows (Err Memory) after = Unit {0}

@@ -1,10 +1,8 @@
 //! The tables of kept rows.
-ghost use Rattle.std.specs.Prelude.{◌≡◌, min, IfOk};
-ghost use Rattle.row_rules.specs.Across.{IsAnswer};
-ghost use Rattle.row_rules.specs.Judged.{IsBare, IsFilled, IsJudged};
+ghost use Rattle.std.specs.Prelude.{◌≡◌, IfOk};
+ghost use Rattle.row_rules.specs.Across.{IsAnswer, IsTakenAnswer};
 
-use crate::judged::count_fitting;
-use crate::put::{put_new, put_others};
+use crate::judged::put_judged;
 use hub_rows::limits::Limits;
 use hub_rows::rows::Row;
 use hub_tables::tables::Tables;
@@ -18,6 +16,13 @@ pub enum RowsError {
     Memory,
 }
 
+/// Why rows that were handed over make no tables. `Broken` has the place of the first row that breaks a rule, and the row.
+#[derive(Drop)]
+pub enum TakenError {
+    Broken { place: usize, row: Row },
+    Memory,
+}
+
 /// The tables of these rows and no others, where each row keeps the rules. The rows come in the order of kind and key.
 pub fn kept_tables(
     alloc: Global,
@@ -27,8 +32,40 @@ pub fn kept_tables(
 ) -> Result<Tables, RowsError>
     ensures { IsAnswer limits scopes rows.now result }
 {
+    let Ok(copies) = copies_of(alloc, rows) else {
+        return Err(RowsError::Memory);
+    };
+    match taken_tables(alloc, limits, scopes, copies) {
+        Ok(tables) => Ok(tables),
+        Err(TakenError::Broken { place, row }) => {
+            drop(row);
+            Err(RowsError::Broken(place))
+        }
+        Err(TakenError::Memory) => Err(RowsError::Memory),
+    }
+}
+
+fn copies_of(alloc: Global, rows: &[Row]) -> Result<Vec<Row>, AllocError>
+    ensures { IfOk result (λ copies. copies.items ≡ rows.now) }
+{
+    let mut copies = Vec::with_capacity(alloc, rows.len())?;
+    for row in rows {
+        copies.push(row.copy(alloc)?)?;
+    }
+    Ok(copies)
+}
+
+/// The same of rows that are handed over, of which the tokens and the share codes go into the tables as they are.
+pub fn taken_tables(
+    alloc: Global,
+    limits: Limits,
+    scopes: ScopeTable,
+    rows: Vec<Row>,
+) -> Result<Tables, TakenError>
+    ensures { IsTakenAnswer limits scopes rows.items result }
+{
     let mut tables = Tables::new(alloc, limits, scopes);
-    match fill(alloc, &mut tables, rows) {
+    match put_judged(alloc, &mut tables, rows) {
         Ok(()) => Ok(tables),
         Err(error) => {
             // in one call, since they have many parts
@@ -36,39 +73,4 @@ pub fn kept_tables(
             Err(error)
         }
     }
-}
-
-/// Puts the rows into bare tables, where each keeps the rules. After an error the tables have some of them.
-fn fill(alloc: Global, tables: &mut Tables, rows: &[Row]) -> Result<(), RowsError>
-    requires { IsBare tables.old }
-    ensures { IsFilled tables.old rows.now result tables.new }
-{
-    match put_sound(alloc, tables, rows) {
-        Ok(sound) => {
-            if sound < rows.len() {
-                return Err(RowsError::Broken(sound));
-            }
-            Ok(())
-        }
-        Err(_) => Err(RowsError::Memory),
-    }
-}
-
-/// Puts the rows into bare tables, and tells how many come before the first that breaks a rule.
-/// Tokens and share codes are left out from the first on that can't be put, since the rows before it, which may break a rule of their own,
-/// don't ask for them.
-fn put_sound(alloc: Global, tables: &mut Tables, rows: &[Row]) -> Result<usize, AllocError>
-    requires { IsBare tables.old }
-    ensures { IfOk result (λ sound. IsJudged tables.old rows.now sound tables.new) }
-{
-    let fit = put_new(alloc, tables, rows)?;
-    put_others(alloc, tables, &rows[fit..])?;
-    let fitting = count_fitting(alloc, tables, rows)?;
-    Ok(least(fit, fitting))
-}
-
-fn least(one: usize, other: usize) -> usize
-    ensures { result ≡ min one other }
-{
-    if one < other { one } else { other }
 }

@@ -1,10 +1,10 @@
 //! Rows, put into tables. A token or a share code can be put where neither its id nor its hash is taken.
-ghost use Rattle.std.specs.Prelude.{◌≡◌, not, ◌||◌, fold, IsTrue, IfOk, OnOk};
+ghost use Rattle.std.specs.Prelude.{◌≡◌, not, ◌||◌, fold, IsTrue, OnOk};
 ghost use Rattle.hub_rows.specs.declared.records.ShareCode.{ShareCode};
 ghost use Rattle.hub_tables.specs.Changes.{with_row, FitsKey};
 ghost use Rattle.hub_tables.specs.Hashes.{FitsCode};
 ghost use Rattle.row_rules.specs.Judged as spec;
-ghost use Rattle.row_rules.specs.Judged.{IsBare, IsPut, with_other};
+ghost use Rattle.row_rules.specs.Judged.{with_other, with_hashed};
 
 use hub_kit::text::Text;
 use hub_rows::changes::RowChange;
@@ -12,20 +12,6 @@ use hub_rows::rows::Row;
 use hub_tables::tables::Tables;
 use std::alloc::{AllocError, Global};
 use table_changes::change;
-
-/// Puts the rows that come before the first whose id or hash is taken, and tells how many they are.
-pub(crate) fn put_new(alloc: Global, tables: &mut Tables, rows: &[Row]) -> Result<usize, AllocError>
-    requires { IsBare tables.old }
-    ensures { IfOk result (λ fit. IsPut tables.old rows.now fit tables.new) }
-{
-    for (i, row) in rows.iter().enumerate() {
-        if !is_free(tables, row) {
-            return Ok(i);
-        }
-        put_copy(alloc, tables, row)?;
-    }
-    Ok(rows.len())
-}
 
 /// Puts the rows that aren't found by a hash.
 pub(crate) fn put_others(alloc: Global, tables: &mut Tables, rows: &[Row]) -> Result<(), AllocError>
@@ -53,6 +39,18 @@ fn put_copy(alloc: Global, tables: &mut Tables, row: &Row) -> Result<(), AllocEr
     change(tables, RowChange::Put(row.copy(alloc)?))
 }
 
+/// Puts a row that is found by a hash, and lets another go, which is put already.
+pub(crate) fn put_hashed(tables: &mut Tables, row: Row) -> Result<(), AllocError>
+    requires { FitsKey tables.old row }
+    ensures { OnOk result (tables.new ≡ with_hashed row tables.old) }
+{
+    if is_hashed(&row) {
+        return change(tables, RowChange::Put(row));
+    }
+    drop(row);
+    Ok(())
+}
+
 /// Whether a row is found by a hash.
 fn is_hashed(row: &Row) -> bool
     ensures { result ≡ spec.is_hashed row.now }
@@ -61,7 +59,7 @@ fn is_hashed(row: &Row) -> bool
 }
 
 /// Whether a row may be put: no other has its id or its hash.
-fn is_free(tables: &Tables, row: &Row) -> bool
+pub(crate) fn is_free(tables: &Tables, row: &Row) -> bool
     ensures value { result ≡ spec.is_free tables.now row.now }
     ensures fits { IsTrue result → FitsKey tables.now row.now }
 {
