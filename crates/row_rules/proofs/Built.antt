@@ -1,33 +1,43 @@
 -- What stands in tables that have all rows but some tokens and share codes, and how these are put.
 use Rattle.std.proofs.Common.{◌≡◌, List, [], ◌∷◌, fold, refl, ap, sym, subst, ◌∙◌}
 use Rattle.std.specs.Ordering.{nat_cmp}
-use Rattle.std.specs.FinMap.{FinMap}
+use Rattle.std.specs.FinMap.{FinMap, empty}
+use Rattle.hub_kit.specs.KeyOrder.{name_cmp}
 use Rattle.hub_rows.specs.declared.rows.Row.{Row}
 use Rattle.hub_rows.specs.declared.records.ShareCode.{ShareCode}
 use Rattle.hub_rows.specs.declared.records.Token.{Token}
+use Rattle.hub_rows.specs.declared.records.User.{User}
 use Rattle.hub_tables.specs.Changes.{with_row}
 use Rattle.hub_tables.specs.State.{State}
 use Rattle.row_rules.specs.Across.{rows_put, stands}
-use Rattle.row_rules.specs.Judged.{with_other, with_hashed, is_free, part_of, AreOthersPut, IsLedger}
+use Rattle.row_rules.specs.Judged.{users_back, with_other, with_hashed, is_free, part_of, AreOthersPut, IsLedger}
 use Rattle.row_rules.specs.declared.standing.Ledger.{Ledger}
+use Rattle.row_rules.proofs.Users.{all_users}
 
 -- ---- all rows but tokens and share codes
 
--- other tokens and share codes in the tables
-abbrev swapped : State → FinMap nat_cmp Token → FinMap nat_cmp ShareCode → State
-swapped t tokens codes = record t { tokens = tokens; codes = codes }
+-- other users, tokens and share codes in the tables
+abbrev swapped : State → FinMap name_cmp User → FinMap nat_cmp Token → FinMap nat_cmp ShareCode → State
+swapped t users tokens codes = record t { users = users; tokens = tokens; codes = codes }
 
-swapped_row : (row : Row) (t : State) (a : FinMap nat_cmp Token) (b : FinMap nat_cmp ShareCode) → with_other row (swapped t a b) ≡ swapped (with_row row t) a b
-swapped_row (Row.Token k) t a b = refl
-swapped_row (Row.ShareCode c) t a b = refl
-swapped_row row t a b = refl
+swapped_row : (row : Row) (t : State) (u : FinMap name_cmp User) (a : FinMap nat_cmp Token) (b : FinMap nat_cmp ShareCode)
+    → with_other row (swapped t u a b) ≡ swapped (with_row row t) u a b
+swapped_row (Row.User r) t u a b = refl
+swapped_row (Row.Token k) t u a b = refl
+swapped_row (Row.ShareCode c) t u a b = refl
+swapped_row row t u a b = refl
 
-swapped_rows : (rows : List Row) (t : State) (a : FinMap nat_cmp Token) (b : FinMap nat_cmp ShareCode) → fold (λ s row. with_other row s) (swapped t a b) rows ≡ swapped (rows_put rows t) a b
-swapped_rows [] t a b = refl
-swapped_rows (row ∷ rows) t a b = ap (λ s. fold (λ s row. with_other row s) s rows) (swapped_row row t a b) ∙ swapped_rows rows (with_row row t) a b
+swapped_rows : (rows : List Row) (t : State) (u : FinMap name_cmp User) (a : FinMap nat_cmp Token) (b : FinMap nat_cmp ShareCode)
+    → fold (λ s row. with_other row s) (swapped t u a b) rows ≡ swapped (rows_put rows t) u a b
+swapped_rows [] t u a b = refl
+swapped_rows (row ∷ rows) t u a b = ap (λ s. fold (λ s row. with_other row s) s rows) (swapped_row row t u a b) ∙ swapped_rows rows (with_row row t) u a b
 
-pub others_put : (rows : List Row) (t after : State) → after ≡ fold (λ s row. with_other row s) t rows → AreOthersPut t rows after
-others_put rows t after e = e ∙ swapped_rows rows t t.tokens t.codes
+pub others_put : (rows : List Row) (t first after : State) → t.users ≡ empty → first ≡ record t { users = users_back rows t.users }
+    → after ≡ fold (λ s row. with_other row s) first rows → AreOthersPut t rows after
+others_put rows t first after bare users others =
+    others ∙ ap (λ s. fold (λ s row. with_other row s) s rows) users
+    ∙ swapped_rows rows t (users_back rows t.users) t.tokens t.codes
+    ∙ ap (λ u. swapped (rows_put rows t) u t.tokens t.codes) (all_users rows t bare)
 
 -- ---- and of those the ones of the first rows
 

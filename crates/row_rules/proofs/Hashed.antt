@@ -1,5 +1,5 @@
 -- A token or a share code is new among rows where neither its id nor its hash is kept.
-use Rattle.std.proofs.Common.{◌≡◌, ℕ, Bool, true, false, not, cond, ◌||◌, List, [], ◌∷◌, ◌++◌, length, map, take, get_or, ◌+◌, ◌<◌, Option, Some, None, is_some, refl, ap, sym, subst, ◌∙◌, arith}
+use Rattle.std.proofs.Common.{◌≡◌, ℕ, Bool, true, false, not, cond, ◌||◌, List, [], ◌∷◌, ◌++◌, length, map, Option, Some, None, is_some, refl, ap, sym, ◌∙◌, arith}
 use Rattle.std.specs.declared.cmp.Ordering.{Ordering}
 use Rattle.std.specs.declared.cmp.Ordering.TheVariants.{Less, Equal, Greater}
 use Rattle.std.specs.Cmp.{nat_cmp_total, eq_by_cmp_equiv}
@@ -16,7 +16,7 @@ use Rattle.hub_rows.specs.declared.records.Token.{Token}
 use Rattle.hub_tables.specs.Changes.{with_row, FitsKey}
 use Rattle.hub_tables.specs.Hashes.{row_with, FitsCode}
 use Rattle.hub_tables.specs.State.{State}
-use Rattle.row_rules.specs.Across.{rows_put, is_this, has, is_new, token_id, token_hash, code_id, code_hash}
+use Rattle.row_rules.specs.Across.{is_this, has, is_new, token_id, token_hash, code_id, code_hash}
 use Rattle.row_rules.specs.Judged.{Holds, AreHeld, IsBare, is_free, is_hashed}
 use Rattle.hub_tables.proofs.Fresh.{fits_fresh}
 use Rattle.row_rules.proofs.Marks.{or_none, or_joined, has_more, has_skipped, contains_more}

@@ -1,5 +1,6 @@
 pub mod Marks
 pub mod Hashed
+pub mod Users
 pub mod Built
 pub mod Way
 pub mod Taken

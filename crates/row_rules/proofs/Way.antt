@@ -1,5 +1,5 @@
 -- The way through the rows: each is judged, and put where it is found by a hash.
-use Rattle.std.proofs.Common.{◌≡◌, ℕ, ◌+◌, ◌<◌, Bool, true, false, cond, ◌&&◌, List, [], ◌∷◌, ◌++◌, length, Some, slice_get, fold, refl, ap, sym, subst, ◌∙◌, length-append, arith}
+use Rattle.std.proofs.Common.{◌≡◌, ℕ, ◌+◌, Bool, true, false, cond, ◌&&◌, List, [], ◌∷◌, ◌++◌, length, Some, slice_get, refl, ap, sym, subst, ◌∙◌, length-append, arith}
 use Rattle.std.proofs.lemmas.List.Sums.{fold-append}
 use Rattle.hub_rows.specs.declared.rows.Row.{Row}
 use Rattle.hub_tables.specs.Changes.{with_row}

@@ -1,5 +1,5 @@
 -- How the rows are put and judged.
-use Rattle.std.specs.Prelude.{◌≡◌, ℕ, Bool, true, false, not, ◌&&◌, ◌||◌, List, [], length, slice_get, codes, Option, Some, None}
+use Rattle.std.specs.Prelude.{◌≡◌, ℕ, Bool, true, false, not, ◌&&◌, ◌||◌, List, [], ◌∷◌, length, slice_get, codes, Option, Some, None}
 use Rattle.std.specs.Prelude.{Result, Ok, Err, if◌then◌else◌}
 use Rattle.std.specs.Option.{is_some}
 use Rattle.std.specs.Ordering.{nat_cmp}
@@ -12,6 +12,7 @@ use Rattle.keyed_rows.specs.Rows.{map_of}
 use Rattle.hub_rows.specs.declared.rows.Row.{Row}
 use Rattle.hub_rows.specs.declared.records.ShareCode.{ShareCode}
 use Rattle.hub_rows.specs.declared.records.Token.{Token}
+use Rattle.hub_rows.specs.declared.records.User.{User}
 use Rattle.hub_tables.specs.Changes.{with_row}
 use Rattle.hub_tables.specs.Hashes.{row_with}
 use Rattle.hub_tables.specs.Lookups.{next_of}
@@ -41,9 +42,23 @@ is_free t (Row.Token k) = are_free (λ row. row.hash) t.tokens k.id k.hash
 is_free t (Row.ShareCode c) = are_free (λ row. row.hash) t.codes c.id c.hash
 is_free t _ = true
 
--- a row that isn't found by a hash is put
+abbrev pub is_user : Row → Bool
+is_user (Row.User u) = true
+is_user _ = false
+
+-- a user is put where its name isn't kept
+abbrev pub with_user : Row → FinMap name_cmp User → FinMap name_cmp User
+with_user (Row.User u) users = if contains_key users u.name then users else insert users u.name u
+with_user _ users = users
+
+-- from the last row on
+abbrev pub users_back : List Row → FinMap name_cmp User → FinMap name_cmp User
+users_back [] users = users
+users_back (row ∷ rows) users = with_user row (users_back rows users)
+
+-- a row is put that is no user and isn't found by a hash
 abbrev pub with_other : Row → State → State
-with_other row t = if is_hashed row then t else with_row row t
+with_other row t = if is_user row || is_hashed row then t else with_row row t
 
 -- and one that is found by a hash
 abbrev pub with_hashed : Row → State → State
@@ -59,8 +74,9 @@ pub record AreHeld (t : State) (rows : List Row) : Type 0 where
   pub tokens : Holds (λ (row : Token). row.hash) token_id token_hash t.tokens rows
   pub codes : Holds (λ (row : ShareCode). row.hash) code_id code_hash t.codes rows
 
--- no row is found by a hash yet
+-- no row is found by a hash yet, and there are no users
 pub record IsBare (t : State) : Type 0 where
+  pub users : t.users ≡ empty
   pub tokens : t.tokens ≡ empty
   pub codes : t.codes ≡ empty
 

@@ -4,7 +4,7 @@ ghost use Rattle.hub_tables.specs.Changes.{FitsKey};
 ghost use Rattle.row_rules.specs.Judged.{AreOthersPut, IsBare, IsLedger, IsTaken, IsWeighed};
 
 use crate::kept::TakenError;
-use crate::put::{is_free, put_hashed, put_others};
+use crate::put::{is_free, put_hashed, put_others, put_users};
 use crate::seen::Seen;
 use crate::standing::{Ledger, stands};
 use hub_rows::rows::Row;
@@ -14,9 +14,11 @@ use std::alloc::{AllocError, Global};
 /// Puts the rows that aren't found by a hash, which no rule keeps out, since all others stand on them; and gives what is asked of them
 /// again and again.
 fn lay(alloc: Global, tables: &mut Tables, rows: &[Row]) -> Result<Ledger, AllocError>
+    requires { IsBare tables.old }
     ensures put { OnOk result (AreOthersPut tables.old rows.now tables.new) }
     ensures ledger { IfOk result (λ ledger. IsLedger tables.new ledger) }
 {
+    put_users(tables, rows)?;
     put_others(alloc, tables, rows)?;
     Ledger::of(alloc, tables)
 }

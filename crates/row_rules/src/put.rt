@@ -4,7 +4,7 @@ ghost use Rattle.hub_rows.specs.declared.records.ShareCode.{ShareCode};
 ghost use Rattle.hub_tables.specs.Changes.{with_row, FitsKey};
 ghost use Rattle.hub_tables.specs.Hashes.{FitsCode};
 ghost use Rattle.row_rules.specs.Judged as spec;
-ghost use Rattle.row_rules.specs.Judged.{with_other, with_hashed};
+ghost use Rattle.row_rules.specs.Judged.{with_other, with_hashed, with_user, users_back};
 
 use hub_kit::text::Text;
 use hub_rows::changes::RowChange;
@@ -13,7 +13,36 @@ use hub_tables::tables::Tables;
 use std::alloc::{AllocError, Global};
 use table_changes::change;
 
-/// Puts the rows that aren't found by a hash.
+/// Puts the users, from the last one on, and of those of one name the last. Where users come in the order of names, each finds its place
+/// before the first key of a node; from the first one on it would be compared with all keys there.
+pub(crate) fn put_users(tables: &mut Tables, rows: &[Row]) -> Result<(), AllocError>
+    ensures { OnOk result (tables.new ≡ record tables.old { users = users_back rows.now tables.old.users }) }
+{
+    let mut left = rows.len();
+    'users: while left > 0 {
+        left -= 1;
+        put_user(tables, &rows[left])?;
+    }
+    Ok(())
+}
+
+/// Puts a user whose name isn't kept.
+fn put_user(tables: &mut Tables, row: &Row) -> Result<(), AllocError>
+    ensures { OnOk result (tables.new ≡ record tables.old { users = with_user row.now tables.old.users }) }
+{
+    let Row::User(user) = row else {
+        return Ok(());
+    };
+    if tables.user(&user.name).is_some() {
+        return Ok(());
+    }
+    match tables.put_user(*user, None) {
+        Ok(()) => Ok(()),
+        Err(_) => Err(AllocError),
+    }
+}
+
+/// Puts the rows that are no users and aren't found by a hash.
 pub(crate) fn put_others(alloc: Global, tables: &mut Tables, rows: &[Row]) -> Result<(), AllocError>
     ensures { OnOk result (tables.new ≡ fold (λ t row. with_other row t) tables.old rows.now) }
 {
@@ -26,7 +55,7 @@ pub(crate) fn put_others(alloc: Global, tables: &mut Tables, rows: &[Row]) -> Re
 fn put_other(alloc: Global, tables: &mut Tables, row: &Row) -> Result<(), AllocError>
     ensures { OnOk result (tables.new ≡ with_other row.now tables.old) }
 {
-    if is_hashed(row) {
+    if is_user(row) || is_hashed(row) {
         return Ok(());
     }
     put_copy(alloc, tables, row)
@@ -49,6 +78,12 @@ pub(crate) fn put_hashed(tables: &mut Tables, row: Row) -> Result<(), AllocError
     }
     drop(row);
     Ok(())
+}
+
+fn is_user(row: &Row) -> bool
+    ensures { result ≡ spec.is_user row.now }
+{
+    matches!(row, Row::User(_))
 }
 
 /// Whether a row is found by a hash.

@@ -8,4 +8,4 @@ on_ok (Ok x) P p = p
 on_ok (Err e) P p = tt
 
 pub returns-clause-put : goal.returns-clause-put
-returns-clause-put c = on_ok c.of.result _ (others_put c.args.rows.now c.args.tables.now c.put_others.new.tables c.in_ok-put_others.ensures)
+returns-clause-put c = on_ok c.of.result _ (others_put c.args.rows.now c.args.tables.now c.put_users.new.tables c.put_others.new.tables c.requires.users c.in_ok-put_users.ensures c.in_ok-put_others.ensures)
