@@ -11,8 +11,8 @@ use hub_rows::rows::Row;
 use hub_tables::tables::Tables;
 use std::alloc::{AllocError, Global};
 
-/// Puts the rows that aren't found by a hash, which no rule keeps out, since all others stand on them; and gives what is asked of them
-/// again and again.
+/// Puts the rows that aren't found by a hash, whatever the rules say of them, since all rows are judged by these; and gives what is asked of
+/// them again and again.
 fn lay(alloc: Global, tables: &mut Tables, rows: &[Row]) -> Result<Ledger, AllocError>
     requires { IsBare tables.old }
     ensures put { OnOk result (AreOthersPut tables.old rows.now tables.new) }
