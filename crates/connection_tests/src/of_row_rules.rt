@@ -278,18 +278,20 @@ fn refused(
 ) -> usize {
     let rows = rows_with(rt, alloc, at, other);
     let scopes = ScopeTable::new(alloc, &[]).expect(rt, "there is memory");
-    let place = match kept_tables(alloc, LIMITS, scopes, &rows) {
+    let count = rows.len();
+    match kept_tables(alloc, LIMITS, scopes, rows) {
         Ok(tables) => {
             check(rt, tables.count_of_tokens() == 2, "two tokens");
             check(rt, tables.count_of_users() == 2, "two users");
             drop(tables);
-            rows.len()
+            count
         }
-        Err(RowsError::Broken(place)) => place,
+        Err(RowsError::Broken { place, row }) => {
+            drop(row);
+            place
+        }
         Err(RowsError::Memory) => 100,
-    };
-    drop(rows);
-    place
+    }
 }
 
 #[test]

@@ -16,7 +16,7 @@ use keeper::keeper::{Item, Keeper, KeeperError, Row as KeptRow};
 use kept_rows::reading::read_rows;
 use record_texts::item::item_of;
 use record_texts::record::RowError;
-use row_rules::kept::{TakenError, taken_tables};
+use row_rules::kept::{RowsError, kept_tables};
 use scope_names::table::{ScopeTable, TableError};
 use std::alloc::{AllocError, Global};
 
@@ -76,10 +76,10 @@ fn sound_tables(alloc: Global, rows: Vec<Row>, config: &HubConfig) -> Result<Tab
     let Ok(scopes) = scope_table(alloc, config) else {
         return Err(OpenError::Memory);
     };
-    match taken_tables(alloc, config.limits, scopes, rows) {
+    match kept_tables(alloc, config.limits, scopes, rows) {
         Ok(tables) => Ok(tables),
-        Err(TakenError::Broken { row, .. }) => Err(bad_row(alloc, &row)),
-        Err(TakenError::Memory) => Err(OpenError::Memory),
+        Err(RowsError::Broken { row, .. }) => Err(bad_row(alloc, &row)),
+        Err(RowsError::Memory) => Err(OpenError::Memory),
     }
 }
 

@@ -3,4 +3,3 @@ pub mod Hashed
 pub mod Users
 pub mod Built
 pub mod Way
-pub mod Taken

@@ -1,6 +1,6 @@
 -- The rules across rows. Rows come in the order of kind and key. Each has to stand on the tables of all rows, and must not have what an
 -- earlier row has, where no two rows may have it in common.
-use Rattle.std.specs.Prelude.{◌≡◌, ℕ, ◌+◌, ◌^◌, ◌<◌, Bool, true, false, not, ◌&&◌, ◌||◌, nat_lt, nat_le, List, [], ◌∷◌, ◌++◌, length, fold}
+use Rattle.std.specs.Prelude.{◌≡◌, ℕ, ◌+◌, ◌^◌, Bool, true, false, not, ◌&&◌, ◌||◌, nat_lt, nat_le, List, [], ◌∷◌, ◌++◌, length, fold}
 use Rattle.std.specs.Prelude.{codes, bytes_eq, slice_get, Option, Some, None, Result, Ok, Err, if◌then◌else◌}
 use Rattle.std.specs.declared.cmp.Ordering.{Ordering}
 use Rattle.std.specs.List.{list_any}
@@ -25,8 +25,6 @@ use Rattle.hub_tables.specs.Lookups.{next_of, has_server}
 use Rattle.hub_tables.specs.State.{State}
 use Rattle.row_rules.specs.declared.kept.RowsError.{RowsError}
 use Rattle.row_rules.specs.declared.kept.RowsError.TheVariants.{Broken, Memory}
-use Rattle.row_rules.specs.declared.kept.TakenError.{TakenError}
-use Rattle.row_rules.specs.declared.kept.TakenError.TheVariants.{Broken as BrokenBy, Memory as Wanting}
 
 -- ---- the tables of rows
 
@@ -201,17 +199,8 @@ sound_rows all rows = passing (keeps_rules all) [] rows
 -- the tables of all rows where each keeps the rules, else the place of the first that doesn't
 abbrev pub IsAnswerOf : (all : State) → List Row → Result State RowsError → Type 0
 IsAnswerOf all rows (Ok tables) = (tables ≡ all) × (sound_rows all rows ≡ length rows)
-IsAnswerOf all rows (Err (Broken place)) = (sound_rows all rows ≡ place) × (place < length rows)
+IsAnswerOf all rows (Err (Broken place row)) = (sound_rows all rows ≡ place) × (slice_get rows place ≡ Some row)
 IsAnswerOf all rows (Err Memory) = Unit {0}
 
 abbrev pub IsAnswer : Limits → List CustomRow → List Row → Result State RowsError → Type 0
 IsAnswer limits scopes rows answer = IsAnswerOf (kept_tables limits scopes rows) rows answer
-
--- the same where the rows were handed over: the first that breaks a rule comes back with its place
-abbrev pub IsTakenAnswerOf : (all : State) → List Row → Result State TakenError → Type 0
-IsTakenAnswerOf all rows (Ok tables) = (tables ≡ all) × (sound_rows all rows ≡ length rows)
-IsTakenAnswerOf all rows (Err (BrokenBy place row)) = (sound_rows all rows ≡ place) × (slice_get rows place ≡ Some row)
-IsTakenAnswerOf all rows (Err Wanting) = Unit {0}
-
-abbrev pub IsTakenAnswer : Limits → List CustomRow → List Row → Result State TakenError → Type 0
-IsTakenAnswer limits scopes rows answer = IsTakenAnswerOf (kept_tables limits scopes rows) rows answer

@@ -19,8 +19,8 @@ use Rattle.hub_tables.specs.Lookups.{next_of}
 use Rattle.hub_tables.specs.State.{State}
 use Rattle.row_rules.specs.Across.{rows_put, is_leased, stands, has, token_id, token_hash, code_id, code_hash}
 use Rattle.row_rules.specs.Across.{leased_server, leased_generation, started_server, sound_rows}
-use Rattle.row_rules.specs.declared.kept.TakenError.{TakenError}
-use Rattle.row_rules.specs.declared.kept.TakenError.TheVariants.{Broken, Memory}
+use Rattle.row_rules.specs.declared.kept.RowsError.{RowsError}
+use Rattle.row_rules.specs.declared.kept.RowsError.TheVariants.{Broken, Memory}
 use Rattle.row_rules.specs.declared.standing.Ledger.{Ledger}
 use Rattle.row_rules.specs.declared.seen.Seen.{Seen}
 
@@ -141,7 +141,7 @@ pub record IsWeighed (t : State) (seen : Seen) (row : Row) (keeps : Bool) (after
 -- ---- both
 
 -- all rows were put, or the first that breaks a rule was found
-abbrev pub IsTaken : State → List Row → Result (Unit {0}) TakenError → State → Type 0
+abbrev pub IsTaken : State → List Row → Result (Unit {0}) RowsError → State → Type 0
 IsTaken t rows (Ok _) after = (after ≡ rows_put rows t) × (sound_rows (rows_put rows t) rows ≡ length rows)
 IsTaken t rows (Err (Broken place row)) after = (sound_rows (rows_put rows t) rows ≡ place) × (slice_get rows place ≡ Some row)
 IsTaken t rows (Err Memory) after = Unit {0}

@@ -3,7 +3,7 @@ ghost use Rattle.std.specs.Prelude.{◌≡◌, ◌<◌, ◌+◌, IsTrue, IfOk, O
 ghost use Rattle.hub_tables.specs.Changes.{FitsKey};
 ghost use Rattle.row_rules.specs.Judged.{AreOthersPut, IsBare, IsLedger, IsTaken, IsWeighed};
 
-use crate::kept::TakenError;
+use crate::kept::RowsError;
 use crate::put::{is_free, put_hashed, put_others, put_users};
 use crate::seen::Seen;
 use crate::standing::{Ledger, stands};
@@ -51,25 +51,25 @@ pub(crate) fn put_judged(
     alloc: Global,
     tables: &mut Tables,
     rows: Vec<Row>,
-) -> Result<(), TakenError>
+) -> Result<(), RowsError>
     requires { IsBare tables.old }
     ensures { IsTaken tables.old rows.items result tables.new }
 {
     let Ok(ledger) = lay(alloc, tables, rows.as_slice()) else {
-        return Err(TakenError::Memory);
+        return Err(RowsError::Memory);
     };
     let count = rows.len();
     let mut seen = Seen::new(alloc);
     let mut place = 0;
     for row in rows {
         let Ok(keeps) = keeps_rules(tables, &ledger, &mut seen, &row) else {
-            return Err(TakenError::Memory);
+            return Err(RowsError::Memory);
         };
         if !keeps {
-            return Err(TakenError::Broken { place, row });
+            return Err(RowsError::Broken { place, row });
         }
         let Ok(()) = put_hashed(tables, row) else {
-            return Err(TakenError::Memory);
+            return Err(RowsError::Memory);
         };
         place = next(place, count);
     }
