@@ -11,24 +11,25 @@ import sys
 from repository import TOP, files
 
 TABLE = f"{TOP}/tools/proof-seconds"
-# what a crate takes that the table doesn't have, as most of those do that it has
-SECONDS_AT_LEAST, SECONDS_OF_A_LINE = 10, 0.15
 
 
 def seconds(names):
-    """The seconds of a processor that the proof of each of these crates takes from nothing."""
+    """The seconds of a processor that the proof of each of these crates takes from nothing; of one that the table lacks, by its lines."""
     with open(TABLE, encoding="utf-8") as file:
-        table = dict(line.split() for line in file if not line.startswith("#") and line.strip())
-    return {it: float(table[it]) if it in table else by_lines(it) for it in names}
+        table = {name: float(took) for name, took in (line.split() for line in file if line[0] not in "#\n")}
+    known = [it for it in names if it in table]
+    of_a_line = sum(table[it] for it in known) / max(1, sum(map(lines_of, known)))
+    return {it: table[it] if it in table else of_a_line * lines_of(it) for it in names}
 
 
-def by_lines(name):
-    lines = 0
+def lines_of(name):
+    """How many lines of Rattle a crate has."""
+    count = 0
     for path in files(name):
         if path.endswith(".rt"):
             with open(path, encoding="utf-8") as file:
-                lines += sum(1 for _ in file)
-    return SECONDS_AT_LEAST + SECONDS_OF_A_LINE * lines
+                count += sum(1 for _ in file)
+    return count
 
 
 def left(stands_on, costs, done, lanes):
