@@ -2,11 +2,14 @@
 no rights: who started the box looks at them twice a second, and ends the program that has most."""
 import asyncio, os, resource, signal, sys, time, tomllib
 
-# MiB of memory of all programs, and of files in memory in /tmp and /dev/shm each; how many programs; how many processors; MiB and files of
-# the home; which other folders are seen; and whether the box's user is called root in it
-DEFAULTS = {"memory": 1024, "scratch": 128, "processes": 128, "processors": 2, "disk": 2048, "files": 100000, "see": [], "root": False}
-NICE, FIRST_TO_GO, DESCRIPTORS = 10, 500, 1024
+# MiB of memory of all programs, and of files in memory in /tmp and /dev/shm each; how many programs; how many processors, and how much
+# they give way to others; MiB and files of the home; which other folders are seen; and whether the box's user is called root in it
+DEFAULTS = {"memory": 1024, "scratch": 128, "processes": 128, "processors": 2, "nice": 5, "disk": 2048, "files": 100000, "see": [],
+            "root": False}
+FIRST_TO_GO, DESCRIPTORS = 500, 1024
 EVERY, EVERY_DISK = 0.5, 5
+# a home with so much of its bound has no server: whoever looks after the site makes room
+TOO_MUCH = 1.25
 
 
 def read(file):
@@ -36,7 +39,7 @@ def set_for_each(bound, seat):
         hard = resource.getrlimit(which)[1]
         most = most if hard == resource.RLIM_INFINITY else min(most, hard)
         resource.setrlimit(which, (most, most))
-    os.nice(NICE)
+    os.nice(bound["nice"])
     with open("/proc/self/oom_score_adj", "w") as file:
         file.write(str(FIRST_TO_GO))
     there = sorted(os.sched_getaffinity(0))
@@ -104,15 +107,21 @@ def see_memory(first, bound, say):
         send(most, signal.SIGKILL)
 
 
+def share_of(home, bound):
+    """How much of its bound a home has, and that in words."""
+    mebi, files = used(home)
+    return (max(mebi / bound["disk"], files / bound["files"]),
+            f"the home holds {mebi:.0f} MiB of {bound['disk']}, and {files} files of {bound['files']}")
+
+
 def see_disk(first, bound, home, say):
     """Ends all but the first program where the home holds too much, and that too where it holds a quarter more."""
-    mebi, files = used(home)
-    share = max(mebi / bound["disk"], files / bound["files"])
+    share, told = share_of(home, bound)
     if share <= 1:
         return
     program = children(first)
-    ended = below(first) if share > 1.25 else [it for it in below(first) if it not in program]
-    say(f"the home holds {mebi:.0f} MiB of {bound['disk']} in {files} files of {bound['files']}: {len(ended)} programs are ended")
+    ended = below(first) if share > TOO_MUCH else [it for it in below(first) if it not in program]
+    say(f"{told}: {len(ended)} programs are ended")
     for number in ended:
         send(number, signal.SIGKILL)
 

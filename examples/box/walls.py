@@ -1,7 +1,7 @@
 """The walls of a box: a network of its own, and by bubblewrap files, processes and system calls of its own."""
 import ctypes, errno, fcntl, os, shutil, socket, struct, tempfile
 
-CLONE_NEWUSER, CLONE_NEWNET, PR_SET_NO_NEW_PRIVS = 0x10000000, 0x40000000, 38
+CLONE_NEWUSER, CLONE_NEWNET, PR_SET_CHILD_SUBREAPER, PR_SET_NO_NEW_PRIVS = 0x10000000, 0x40000000, 36, 38
 SIOCSIFFLAGS, IFF_UP = 0x8914, 1
 libc = ctypes.CDLL(None, use_errno=True)
 
@@ -68,8 +68,9 @@ def enter_network():
     put("/proc/self/gid_map", f"{group} {group} 1")
     with socket.socket(socket.AF_INET, socket.SOCK_DGRAM) as any_socket:
         fcntl.ioctl(any_socket, SIOCSIFFLAGS, struct.pack("16sh14x", b"lo", IFF_UP))
-    if libc.prctl(PR_SET_NO_NEW_PRIVS, 1, 0, 0, 0):
-        raise OSError(ctypes.get_errno(), "prctl")
+    for what in (PR_SET_NO_NEW_PRIVS, PR_SET_CHILD_SUBREAPER):
+        if libc.prctl(what, 1, 0, 0, 0):
+            raise OSError(ctypes.get_errno(), "prctl")
 
 
 def filter_file():
