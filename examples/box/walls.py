@@ -15,7 +15,7 @@ REFUSED = """acct add_key bpf chroot clock_adjtime clock_settime delete_module f
 get_mempolicy init_module io_uring_enter io_uring_register io_uring_setup ioperm iopl kcmp kexec_file_load kexec_load keyctl lookup_dcookie
 mbind memfd_create memfd_secret migrate_pages mount mount_setattr move_mount move_pages name_to_handle_at nfsservctl open_by_handle_at
 open_tree perf_event_open personality pivot_root process_madvise process_vm_readv process_vm_writev ptrace quotactl quotactl_fd reboot
-request_key sched_setaffinity sched_setattr sched_setparam sched_setscheduler set_mempolicy setdomainname sethostname setns settimeofday
+request_key sched_setaffinity set_mempolicy setdomainname sethostname setns settimeofday
 shmget swapoff swapon sysfs syslog umount umount2 unshare uselib userfaultfd ustat vhangup vm86 vm86old""".split()
 
 # clone may make processes and threads, and none of these: NEWNS, NEWCGROUP, NEWUTS, NEWIPC, NEWUSER, NEWPID, NEWNET
