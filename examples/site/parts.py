@@ -30,8 +30,10 @@ def settings():
         return {}
     except ValueError as fault:
         stop_here(f"{SITE}/site.toml: {fault}")
-    if unknown := set(told) - {"public", "servers", "listen", "port"}:
+    if unknown := set(told) - {"public", "servers", "listen", "port", "box"}:
         stop_here(f"{SITE}/site.toml: no key is {', '.join(sorted(unknown))}: examples/house/chem.toml has the keys")
+    if not isinstance(told.get("box", True), bool):
+        stop_here(f"{SITE}/site.toml: box is true or false")
     names = [told[key] for key in ("public", "servers") if key in told]
     if not all(re.fullmatch(r"https?://(127\.0\.0\.1|[a-z0-9.-]*[a-z][a-z0-9.-]*)(:[0-9]+)?", str(name)) for name in names):
         stop_here(f"{SITE}/site.toml: public and servers are as https://chem.example.org, a name, and no path behind it")
