@@ -40,8 +40,9 @@ def set_for_each(bound, seat):
         most = most if hard == resource.RLIM_INFINITY else min(most, hard)
         resource.setrlimit(which, (most, most))
     os.nice(bound["nice"])
-    with open("/proc/self/oom_score_adj", "w") as file:
-        file.write(str(FIRST_TO_GO))
+    with open("/proc/self/oom_score_adj", "r+") as file:
+        if int(file.read()) < FIRST_TO_GO:
+            file.write(str(FIRST_TO_GO))
     there = sorted(os.sched_getaffinity(0))
     os.sched_setaffinity(0, {there[(seat + it) % len(there)] for it in range(min(bound["processors"], len(there)))})
 
