@@ -80,7 +80,7 @@ fn ready_back<U: Upstream>(up: &mut U, window: &mut Window) -> Result<(), BackEn
     requires { IsOpen (U.told up.old) }
     ensures got { (got : List ℕ) × (window.old ++ got ≡ window.new) × Moves (U.told up.old) [] got (U.told up.new) }
     ensures ok { OnOk result (0 < length window.new) }
-    ensures err { IfErr result (λ e. (window.new ≡ []) × StopsSized (U.told up.new) e) }
+    ensures err { IfErr result (StopsSized (U.told up.new) window.new) }
     ensures counted { U.faults up.old ≤ U.faults up.new }
     ensures cause { result ≡ Err BackEnd.ReceiveFault → Rises (U.faults up.old) (U.faults up.new) }
     ensures other { result ≢ Err BackEnd.WriteFault }
@@ -107,7 +107,7 @@ fn back_length<U: Upstream, O: Sink>(
         × Moves (U.told up.old) [] got (U.told up.new) × Appends (O.held output.old) body (O.held output.new)) }
     ensures err { IfErr result (λ e. (body got tail : List ℕ) × (length body ≤ count) × (window.old ++ got ≡ body ++ tail)
         × Moves (U.told up.old) [] got (U.told up.new) × Appends (O.held output.old) body (O.held output.new)
-        × StopsSized (U.told up.new) e × (e ≡ BackEnd.Spent → tail ≡ [])) }
+        × StopsSized (U.told up.new) tail e) }
     ensures receives { U.faults up.old ≤ U.faults up.new }
     ensures writes { O.faults output.old ≤ O.faults output.new }
     ensures receive_fault { result ≡ Err BackEnd.ReceiveFault → Rises (U.faults up.old) (U.faults up.new) }
@@ -234,8 +234,9 @@ fn back_bytes<U: Upstream, O: Sink>(up: &mut U, window: &mut Window, output: &mu
     }
 }
 
-/// Passes back what is left of a reply's body, whose next bytes the window holds, or a part of it: all of it, unless the upstream
-/// ended early, a count of faults rose, or 2^63 - 1 bytes of the body went back. Bytes that are no chunk count as the upstream's early end.
+/// Passes back what is left of a reply's body, whose next bytes the window holds. Where the upstream ends early or fails, all that came
+/// goes back, in chunks but for the beginning of a part; bytes that are no chunk count as its early end. Nothing more goes where the sink
+/// fails or 2^63 - 1 bytes of the body went back.
 pub fn back_body<U: Upstream, O: Sink>(
     left: Remainder,
     up: &mut U,
