@@ -17,14 +17,14 @@ use Rattle.hub_api.specs.Refusals.{wire_refusal}
 use Rattle.hub_core.specs.declared.start.Start.{Start}
 use Rattle.hub_machine.specs.Replies.{Reply}
 use Rattle.hub_run.specs.Complete.{IsOf}
-use Rattle.hub_run.specs.Connections.{ConnectionEnds, Ran, IsOpenTurn, IsLast}
+use Rattle.hub_run.specs.Connections.{ConnectionEnds, Ran, StreamTold, IsOpenTurn, IsLast}
 use Rattle.hub_run.specs.Turns.{Turn, View, Turns, TurnAt, IsRight, Moves, closes, turn_text, refusal_text, request_bytes, visited, worked, declined, undrawn, refused, unsaid, unfinished, wanting, routed, unrouted}
 use Rattle.hub_run.specs.declared.served.Served.{Served}
 use Rattle.hub_run.specs.declared.served.Served.TheVariants.{Ended, Cut, Closed}
 use Rattle.reply_texts.specs.ReplyText.{no_memory}
 use Rattle.access_laws.specs.Asks.{OnlyReads}
 use Rattle.direct_link.specs.Answered.{IsTurnOf, IsUnread, IsRefused}
-use Rattle.direct_link.specs.Direct.{Direct, Connects}
+use Rattle.direct_link.specs.Direct.{asking, replied, Direct, Connects}
 
 -- ---- what was taken and said
 
@@ -182,18 +182,18 @@ module _ (start : Start) (x y : View) (q : Request) (request bytes : List ℕ) (
       last_turn start x y one.0 q request bytes ahead rest more left last only front here.took at.0 one.1 one.2
       (is ∙ said_of said (turn_text last true) here.wrote) (λ e. kept (sym is ∙ e))
 
-  ended : (left : Option (List ℕ)) (said : List ℕ) (served : Served) → bytes ≡ said → said ≢ no_memory
-      → ConnectionEnds start x (Some request) (Some []) y left (Some said) (Ok served) → Comes start x y q request bytes
-  ended left said (Ended n) is kept (turns, after, ran, moved, end) = unturned left said turns [] wire.Ended tt (inl (omega arith, (refl, end))) is ran
-  ended left said (Cut n) is kept (turns, part, after, ran, moved, why) = unturned left said turns part wire.Cut tt why is ran
-  ended left said (Closed n) is kept (turns, last, ahead, rest, count, most, ran, moved, at, closed) =
-      turned left said turns last ahead rest is kept ran moved at
+  ended : (left : StreamTold) (said : List ℕ) (failed : ℕ) (served : Served) → bytes ≡ said → said ≢ no_memory
+      → ConnectionEnds start (asking x request) (replied y left said failed) (Ok served) → Comes start x y q request bytes
+  ended left said failed (Ended n) is kept (turns, after, ran, moved, end) = unturned left.bytes said turns [] wire.Ended tt (inl (omega arith, (refl, end))) is ran
+  ended left said failed (Cut n) is kept (turns, part, after, ran, moved, why) = unturned left.bytes said turns part wire.Cut tt why is ran
+  ended left said failed (Closed n) is kept (turns, last, ahead, rest, count, most, ran, moved, at, closed) =
+      turned left.bytes said turns last ahead rest is kept ran moved at
 
   connected : Connects start x request (Ok bytes) y → Comes start x y q request bytes
   connected c =
       let (served, how, is, kept, short) = c.replies in
-      ended c.left c.said served is kept
-      (subst (λ (e : Result Served SessionFault). ConnectionEnds start x (Some request) (Some []) y c.left (Some c.said) e) how c.ends)
+      ended c.left c.said c.failed served is kept
+      (subst (λ (e : Result Served SessionFault). ConnectionEnds start (asking x request) (replied y c.left c.said c.failed) e) how c.ends)
 
 pub turn_comes : (start : Start) (x y : View) (request bytes : List ℕ) (q : Request) → x.pass.base ≡ Some start → OnlyReads request q
     → q.close ≡ true → Direct x request (Ok bytes) y → Comes start x y q request bytes

@@ -9,6 +9,7 @@ use Rattle.hub_core.specs.declared.start.Start.{Start}
 use Rattle.hub_opening.specs.declared.config.HubConfig.{HubConfig}
 use Rattle.hub_opening.specs.declared.open_error.OpenError.{OpenError}
 use Rattle.hub_opening.specs.declared.open_error.OpenError.TheVariants as opening
+use Rattle.hub_run.specs.Connections.{ConnectionEnds, Known}
 use Rattle.hub_run.specs.Turns.{View}
 use Rattle.hub_run.specs.declared.served.Served.{Served}
 use Rattle.hub_run.specs.declared.served.Served.TheVariants.{Ended, Cut, Closed}
@@ -17,7 +18,7 @@ use Rattle.hub_main.specs.Told.{FilesTold, Sides}
 use Rattle.hub_main.specs.Ends.{End, cause_status, open_status, served_status, status_of}
 use Rattle.hub_main.specs.Configured.{IsConfig, IsUnfound}
 use Rattle.hub_main.specs.Opened.{IsNotOpened, IsUnchosen, IsUnknown, IsUnopened}
-use Rattle.hub_main.specs.Served.{SessionEndsOver, IsFaultCounted, PassEnds}
+use Rattle.hub_main.specs.Served.{SessionEndsOver, PassEnds, known_at}
 use Rattle.hub_main.specs.Sessions.{EndsChosen, EndsConfigured, EndsUnchosen, EndsUnconfigured, EndsUnopened, RunEnds, SessionEnds}
 use Rattle.hub_main.specs.Known.{are_known, unknown_name}
 use Rattle.hub_main.specs.Good.{Fits, IsGood, IsGoodStatus, NoneRose, Stands}
@@ -35,17 +36,17 @@ seven = inr (inr refl)
 
 -- ---- the connection
 
-served_good : (s s' : Sides) (end : Result Served SessionFault) → Stands s.input.faults s'.input.faults → Stands s.output.faults s'.output.faults
-    → IsFaultCounted s s' end → IsGoodStatus (served_status end)
-served_good s s' (Ok (Ended n)) input output fault = inl refl
-served_good s s' (Ok (Closed n)) input output fault = inl refl
-served_good s s' (Ok (Cut n)) input output fault = inr (inl refl)
-served_good s s' (Err (ReadFault n)) input output fault = absurd (never s.input.faults s'.input.faults input fault)
-served_good s s' (Err (WriteFault n)) input output fault = absurd (never s.output.faults s'.output.faults output fault)
+served_good : (start : Start) (x y : Known) (end : Result Served SessionFault) → Stands x.input.faults y.input.faults → Stands x.output.faults y.output.faults
+    → ConnectionEnds start x y end → IsGoodStatus (served_status end)
+served_good start x y (Ok (Ended n)) input output ends = inl refl
+served_good start x y (Ok (Closed n)) input output ends = inl refl
+served_good start x y (Ok (Cut n)) input output ends = inr (inl refl)
+served_good start x y (Err (ReadFault n)) input output ends = absurd (never x.input.faults y.input.faults input ends.6)
+served_good start x y (Err (WriteFault n)) input output ends = absurd (never x.output.faults y.output.faults output ends.11)
 
 pass_good : (start : Start) (x y : View) (s s' : Sides) (end : End) → Stands s.input.faults s'.input.faults → Stands s.output.faults s'.output.faults
     → PassEnds start x y s s' end → IsGoodStatus (status_of end)
-pass_good start x y s s' (Ok end) input output ends = served_good s s' end input output ends.fault
+pass_good start x y s s' (Ok end) input output ends = served_good start (known_at ends.ready s) (known_at y s') end input output ends.connection
 pass_good start x y s s' (Err Memory) input output ends = seven
 pass_good start x y s s' (Err Words) input output ends = absurd ends
 pass_good start x y s s' (Err NoFile) input output ends = absurd ends

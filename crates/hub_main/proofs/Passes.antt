@@ -3,43 +3,32 @@ use Rattle.std.proofs.Common.{◌≡◌, ◌≤◌, ◌∙◌, inl, inr, ℕ, tr
 use Rattle.atomic_table.specs.Seated.{TableId}
 use Rattle.desk.specs.Passes.{PassState, opening}
 use Rattle.http_wire.specs.declared.error.SessionFault.{SessionFault}
-use Rattle.http_wire.specs.declared.error.SessionFault.TheVariants.{ReadFault, WriteFault}
-use Rattle.hub_devices.specs.Faults.{Rises}
 use Rattle.keeper.specs.Rows.{Rows}
 use Rattle.server_work.specs.declared.adopt.Adopted.{Adopted}
 use Rattle.hub_core.specs.Visits.{Entry, Reached, Standing, entries_of}
 use Rattle.hub_core.specs.declared.start.Start.{Start}
 use Rattle.hub_machine.specs.KeptRows.{Keeps}
-use Rattle.hub_run.specs.Connections.{ConnectionEnds}
+use Rattle.hub_run.specs.Connections.{ConnectionEnds, Known}
 use Rattle.hub_run.specs.Turns.{View}
 use Rattle.hub_run.specs.declared.served.Served.{Served}
 use Rattle.hub_run.proofs.CountLemmas.{ends_grow}
 use Rattle.hub_adopt.specs.Adopting.{TakesBack}
 use Rattle.hub_main.specs.Told.{Sides, IsQuiet}
 use Rattle.hub_main.specs.Ends.{End}
-use Rattle.hub_main.specs.Served.{SessionEndsBy, SessionEndsOver, IsFaultCounted, IsServed, PassEnds, kit_in, view_with}
+use Rattle.hub_main.specs.Served.{SessionEndsBy, SessionEndsOver, IsServed, PassEnds, kit_in, known_at, view_with}
 use Rattle.hub_main.specs.declared.cause.Cause.TheVariants.{Memory}
 use Rattle.hub_main.proofs.Commands.{still}
 
-fault_of : (s s' : Sides) (end : Result Served SessionFault)
-    → ((n : ℕ) → end ≡ Err (ReadFault n) → Rises s.input.faults s'.input.faults)
-    → ((n : ℕ) → end ≡ Err (WriteFault n) → Rises s.output.faults s'.output.faults) → IsFaultCounted s s' end
-fault_of s s' (Ok served) read write = tt
-fault_of s s' (Err (ReadFault n)) read write = read n refl
-fault_of s s' (Err (WriteFault n)) read write = write n refl
-
 pub served : (start : Start) (x ready y : View) (told : Adopted) (s s' : Sides) (end : Result Served SessionFault) → TakesBack start x told ready
-    → ConnectionEnds start ready s.input.bytes s.output.bytes y s'.input.bytes s'.output.bytes end
-    → ((n : ℕ) → end ≡ Err (ReadFault n) → Rises s.input.faults s'.input.faults)
-    → ((n : ℕ) → end ≡ Err (WriteFault n) → Rises s.output.faults s'.output.faults) → s'.kit ≡ kit_in y → IsServed start x y s s' end
-served start x ready y told s s' end takes connection read write kit =
-    record { told = told; ready = ready; takes = takes; connection = connection; fault = fault_of s s' end read write; kit = kit }
+    → ConnectionEnds start (known_at ready s) (known_at y s') end → s'.kit ≡ kit_in y → IsServed start x y s s' end
+served start x ready y told s s' end takes connection kit =
+    record { told = told; ready = ready; takes = takes; connection = connection; kit = kit }
 
 -- what a pass knows of faults doesn't fall, neither before nor in its connection
-pub pass_grows : (start : Start) (before : ℕ) (x y : View) (left held left' held' : Option (List ℕ)) (end : Result Served SessionFault)
-    → before ≤ x.pass.faults → ConnectionEnds start x left held y left' held' end → before ≤ y.pass.faults
-pass_grows start before x y left held left' held' end less ends =
-    let grown = ends_grow start x y left held left' held' end ends in omega (arith, less, grown)
+pub pass_grows : (start : Start) (before : ℕ) (x y : Known) (end : Result Served SessionFault)
+    → before ≤ x.view.pass.faults → ConnectionEnds start x y end → before ≤ y.view.pass.faults
+pass_grows start before x y end less ends =
+    let grown = ends_grow start x y end ends in omega (arith, less, grown)
 
 same_start : (base : Option Start) (found start : Start) → base ≡ Some found → base ≡ Some start → found ≡ start
 same_start base found start first second = cc

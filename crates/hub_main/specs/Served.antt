@@ -1,17 +1,15 @@
 -- What is done over an opened book: running servers are taken back, and one connection is served.
-use Rattle.std.specs.Prelude.{◌≡◌, ◌⊎◌, ℕ, List, [], Some, Result, Ok, Err, ⊤}
+use Rattle.std.specs.Prelude.{◌≡◌, ◌⊎◌, ℕ, List, [], Some, Result, Ok, Err}
 use Rattle.atomic_table.specs.Seated.{TableId}
 use Rattle.desk.specs.Passes.{PassState, opening}
 use Rattle.http_wire.specs.declared.error.SessionFault.{SessionFault}
-use Rattle.http_wire.specs.declared.error.SessionFault.TheVariants.{ReadFault, WriteFault}
-use Rattle.hub_devices.specs.Faults.{Rises}
 use Rattle.keeper.specs.Rows.{Rows}
 use Rattle.server_work.specs.declared.adopt.Adopted.{Adopted}
 use Rattle.hub_machine.specs.KeptRows.{Keeps}
 use Rattle.hub_machine.specs.State.{Hub}
 use Rattle.hub_core.specs.Visits.{Entry, Reached}
 use Rattle.hub_core.specs.declared.start.Start.{Start}
-use Rattle.hub_run.specs.Connections.{ConnectionEnds}
+use Rattle.hub_run.specs.Connections.{ConnectionEnds, Known}
 use Rattle.hub_run.specs.Turns.{View}
 use Rattle.hub_run.specs.declared.served.Served.{Served}
 use Rattle.hub_adopt.specs.Adopting.{TakesBack}
@@ -28,12 +26,9 @@ view_with pass now kit =
 abbrev pub kit_in : View → KitTold
 kit_in y = record { draws = y.draws; spawner = y.spawner; routes = y.routes; faults = y.faults }
 
--- Where the connection ended with a fault of the input or the output, the count of faults of that one rose; s is what is outside before the
--- connection, and s' after it
-abbrev pub IsFaultCounted : Sides → Sides → Result Served SessionFault → Type 0
-IsFaultCounted s s' (Ok served) = ⊤
-IsFaultCounted s s' (Err (ReadFault n)) = Rises s.input.faults s'.input.faults
-IsFaultCounted s s' (Err (WriteFault n)) = Rises s.output.faults s'.output.faults
+-- what a connection knows in this view, of these sides
+abbrev pub known_at : View → Sides → Known
+known_at x s = record { view = x; input = s.input; output = s.output }
 
 -- ---- one pass
 
@@ -43,8 +38,7 @@ pub record IsServed (start : Start) (x y : View) (s s' : Sides) (end : Result Se
   pub told : Adopted
   pub ready : View
   pub takes : TakesBack start x told ready
-  pub connection : ConnectionEnds start ready s.input.bytes s.output.bytes y s'.input.bytes s'.output.bytes end
-  pub fault : IsFaultCounted s s' end
+  pub connection : ConnectionEnds start (known_at ready s) (known_at y s') end
   pub kit : s'.kit ≡ kit_in y
 
 -- Memory was wanting before the first call and the first byte, so that what is outside stays as it was; the pass has seen nothing more

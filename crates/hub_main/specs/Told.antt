@@ -3,13 +3,9 @@ use Rattle.std.specs.Prelude.{◌≡◌, ℕ, List, Option}
 use Rattle.hub_devices.specs.declared.calls.Spawning.{Spawning}
 use Rattle.hub_devices.specs.declared.calls.Routing.{Routing}
 use Rattle.hub_devices.specs.declared.calls.Told.{Told}
+pub use Rattle.hub_run.specs.Connections.{StreamTold}
 use Rattle.hub_run.specs.Turns.{Faults}
 use Rattle.hub_core.specs.declared.kit.HubKit.{HubKit}
-
--- the bytes that a source has left, or that a sink holds, and its faults
-pub record StreamTold : Type 0 where
-  pub bytes : Option (List ℕ)
-  pub faults : ℕ
 
 -- the files, each with its name and its bytes, and the faults of reading them
 pub record FilesTold : Type 0 where

@@ -10,7 +10,7 @@ use Rattle.hub_core.specs.Visits.{Entry}
 use Rattle.hub_core.specs.declared.start.Start.{Start}
 use Rattle.hub_devices.specs.Faults.{Rises}
 use Rattle.hub_machine.specs.Replies.{Reply}
-use Rattle.hub_run.specs.Connections.{ConnectionEnds}
+use Rattle.hub_run.specs.Connections.{ConnectionEnds, Known}
 use Rattle.server_work.proofs.Gaining.{chain_gains}
 use Rattle.hub_run.specs.Routed.{Asking}
 use Rattle.hub_run.specs.Turns.{AsksLink, routed, unrouted, Turn, View, Visit, Errand, Visits, Drives, IsUndrawn, at_chain, visited, worked, declined, undrawn, refused, unsaid, unfinished, wanting, Moves, Turns}
@@ -96,10 +96,9 @@ never_risen x y text q v r at same below rises =
     absurd (omega (arith, le, up))
 
 -- the count of faults that a connection's pass knows doesn't fall
-pub ends_grow : (start : Start) (x y : View) (left held left' held' : Option (List ℕ)) (end : Result Served SessionFault)
-    → ConnectionEnds start x left held y left' held' end → x.pass.faults ≤ y.pass.faults
-ends_grow start x y left held left' held' (Ok (Ended n)) e = (turns_grow x y e.0 e.3).faults
-ends_grow start x y left held left' held' (Ok (Cut n)) e = (turns_grow x y e.0 e.4).faults
-ends_grow start x y left held left' held' (Ok (Closed n)) e = (turns_grow x y (e.0 ++ e.1 ∷ []) e.7).faults
-ends_grow start x y left held left' held' (Err (ReadFault n)) e = (turns_grow x y e.0 e.4).faults
-ends_grow start x y left held left' held' (Err (WriteFault n)) e = (turns_grow x y (e.0 ++ e.1 ∷ []) e.8).faults
+pub ends_grow : (start : Start) (x y : Known) (end : Result Served SessionFault) → ConnectionEnds start x y end → x.view.pass.faults ≤ y.view.pass.faults
+ends_grow start x y (Ok (Ended n)) e = (turns_grow x.view y.view e.0 e.3).faults
+ends_grow start x y (Ok (Cut n)) e = (turns_grow x.view y.view e.0 e.4).faults
+ends_grow start x y (Ok (Closed n)) e = (turns_grow x.view y.view (e.0 ++ e.1 ∷ []) e.7).faults
+ends_grow start x y (Err (ReadFault n)) e = (turns_grow x.view y.view e.0 e.4).faults
+ends_grow start x y (Err (WriteFault n)) e = (turns_grow x.view y.view (e.0 ++ e.1 ∷ []) e.8).faults

@@ -1,9 +1,7 @@
 //! One connection from its first request to its end.
-ghost use Rattle.std.specs.Prelude.{◌≡◌, ◌≤◌, ℕ, [], Some, Ok, Err};
+ghost use Rattle.std.specs.Prelude.{◌≡◌, ℕ, [], Some, Ok, Err};
 ghost use Rattle.hub_core.specs.declared.start.Start.{Start};
-ghost use Rattle.hub_devices.specs.Faults.{Rises};
-ghost use Rattle.hub_run.specs.Connections.{ConnectionEnds};
-ghost use Rattle.hub_run.specs.Turns.{view_of};
+ghost use Rattle.hub_run.specs.Connections.{ConnectionEnds, Goes, known_of};
 
 use crate::served::{Served, TurnEnd};
 use crate::turn::turn;
@@ -53,15 +51,11 @@ pub fn serve_connection<
     ensures of { pass.new.of ≡ pass.old.of }
     ensures base { pass.new.base ≡ pass.old.base }
     ensures alone { pass.new.alone ≡ pass.old.alone }
-    ensures ends { (start : Start) → pass.old.base ≡ Some start
-        → ConnectionEnds start
-        (view_of C.to_come R.left S.calls P.calls R.faults S.faults P.faults pass.old kit.old) (I.left input.old) (O.held output.old)
-        (view_of C.to_come R.left S.calls P.calls R.faults S.faults P.faults pass.new kit.new) (I.left input.new) (O.held output.new)
-        result }
-    ensures reads { I.faults input.old ≤ I.faults input.new }
-    ensures writes { O.faults output.old ≤ O.faults output.new }
-    ensures read_fault { (n : ℕ) → result ≡ Err (SessionFault.ReadFault n) → Rises (I.faults input.old) (I.faults input.new) }
-    ensures write_fault { (n : ℕ) → result ≡ Err (SessionFault.WriteFault n) → Rises (O.faults output.old) (O.faults output.new) }
+    ensures ends { let known = known_of S.Spawner P.RouteLink C.Clock R.Random I.Source O.Sink in (start : Start)
+        → pass.old.base ≡ Some start
+        → ConnectionEnds start (known pass.old kit.old input.old output.old) (known pass.new kit.new input.new output.new) result }
+    ensures goes { let known = known_of S.Spawner P.RouteLink C.Clock R.Random I.Source O.Sink in
+        Goes (known pass.old kit.old input.old output.old) (known pass.new kit.new input.new output.new) }
 {
     let mut kept = WireBuffer::new(alloc);
     let served = serve_turns(rt, alloc, desk, pass, input, output, &mut kept, kit);
@@ -95,15 +89,11 @@ fn serve_turns<
     ensures of { pass.new.of ≡ pass.old.of }
     ensures base { pass.new.base ≡ pass.old.base }
     ensures alone { pass.new.alone ≡ pass.old.alone }
-    ensures ends { (start : Start) → pass.old.base ≡ Some start
-        → ConnectionEnds start
-        (view_of C.to_come R.left S.calls P.calls R.faults S.faults P.faults pass.old kit.old) (I.left input.old) (O.held output.old)
-        (view_of C.to_come R.left S.calls P.calls R.faults S.faults P.faults pass.new kit.new) (I.left input.new) (O.held output.new)
-        result }
-    ensures reads { I.faults input.old ≤ I.faults input.new }
-    ensures writes { O.faults output.old ≤ O.faults output.new }
-    ensures read_fault { (n : ℕ) → result ≡ Err (SessionFault.ReadFault n) → Rises (I.faults input.old) (I.faults input.new) }
-    ensures write_fault { (n : ℕ) → result ≡ Err (SessionFault.WriteFault n) → Rises (O.faults output.old) (O.faults output.new) }
+    ensures ends { let known = known_of S.Spawner P.RouteLink C.Clock R.Random I.Source O.Sink in (start : Start)
+        → pass.old.base ≡ Some start
+        → ConnectionEnds start (known pass.old kit.old input.old output.old) (known pass.new kit.new input.new output.new) result }
+    ensures goes { let known = known_of S.Spawner P.RouteLink C.Clock R.Random I.Source O.Sink in
+        Goes (known pass.old kit.old input.old output.old) (known pass.new kit.new input.new output.new) }
 {
     let mut count = 0;
     'turns: loop {

@@ -14,13 +14,13 @@ use Rattle.hub_core.specs.Visits.{Entry}
 use Rattle.hub_core.specs.declared.kit.HubKit.{HubKit}
 use Rattle.hub_core.specs.declared.start.Start.{Start}
 use Rattle.hub_run.proofs.GainLemmas.{turns_gain}
-use Rattle.hub_run.specs.Connections.{ConnectionEnds}
+use Rattle.hub_run.specs.Connections.{ConnectionEnds, Known, StreamTold}
 use Rattle.hub_run.specs.Gained.{turn_gain}
 use Rattle.hub_run.specs.declared.served.Served.{Served}
 use Rattle.hub_run.specs.declared.served.Served.TheVariants.{Ended, Cut, Closed}
 use Rattle.server_work.specs.Gains.{Gain, Gains, sum_of}
 use Rattle.hub_serve.specs.Sessions.{AreServed, IsConnectionOver, EndsAsConnection, Session, gained, session_of, sessions_of, with_gains}
-use Rattle.hub_serve.specs.Sessions as told
+use Rattle.hub_serve.specs.Sessions as sessions
 use Rattle.hub_serve.specs.Shifts.{IsServed, IsWhole, all_own, count_of, own_of, shifts_of, split_from}
 use Rattle.hub_serve.specs.Shifts as shift
 use Rattle.hub_serve.specs.declared.tally.Connection.{Connection}
@@ -35,28 +35,27 @@ rest_of (x ∷ xs) zs = rest_of xs zs
 abbrev GainsSome : View → View → Type 0
 GainsSome x y = (t : Gain Entry) × Gains (at_chain x) t (at_chain y)
 
-ends_gain : (start : Start) (x : View) (left held : Option (List ℕ)) (y : View) (left' held' : Option (List ℕ)) (r : Result Served SessionFault)
-    → ConnectionEnds start x left held y left' held' r → GainsSome x y
-ends_gain start x left held y left' held' (Ok (Ended n)) h = (sum_of (map turn_gain h.0), turns_gain x y h.0 h.3)
-ends_gain start x left held y left' held' (Ok (Cut n)) h = (sum_of (map turn_gain h.0), turns_gain x y h.0 h.4)
-ends_gain start x left held y left' held' (Ok (Closed n)) h = (sum_of (map turn_gain (h.0 ++ h.1 ∷ [])), turns_gain x y (h.0 ++ h.1 ∷ []) h.7)
-ends_gain start x left held y left' held' (Err (ReadFault n)) h = (sum_of (map turn_gain h.0), turns_gain x y h.0 h.4)
-ends_gain start x left held y left' held' (Err (WriteFault n)) h = (sum_of (map turn_gain (h.0 ++ h.1 ∷ [])), turns_gain x y (h.0 ++ h.1 ∷ []) h.8)
+ends_gain : (start : Start) (x y : Known) (r : Result Served SessionFault) → ConnectionEnds start x y r → GainsSome x.view y.view
+ends_gain start x y (Ok (Ended n)) h = (sum_of (map turn_gain h.0), turns_gain x.view y.view h.0 h.3)
+ends_gain start x y (Ok (Cut n)) h = (sum_of (map turn_gain h.0), turns_gain x.view y.view h.0 h.4)
+ends_gain start x y (Ok (Closed n)) h = (sum_of (map turn_gain (h.0 ++ h.1 ∷ [])), turns_gain x.view y.view (h.0 ++ h.1 ∷ []) h.7)
+ends_gain start x y (Err (ReadFault n)) h = (sum_of (map turn_gain h.0), turns_gain x.view y.view h.0 h.4)
+ends_gain start x y (Err (WriteFault n)) h = (sum_of (map turn_gain (h.0 ++ h.1 ∷ [])), turns_gain x.view y.view (h.0 ++ h.1 ∷ []) h.8)
 
 -- the base stays, and the own entries grow
 session_gains : (start : Start) (s : Session) → IsConnectionOver start s
-    → (s.after.pass.base ≡ s.before.pass.base) × (s.after.pass.mine ≡ s.before.pass.mine ++ gained s)
+    → (s.after.view.pass.base ≡ s.before.view.pass.base) × (s.after.view.pass.mine ≡ s.before.view.pass.mine ++ gained s)
 session_gains start s h =
-    let gain = ends_gain start s.before s.left s.held s.after s.left_after s.held_after s.ended h in
-    let mine : s.after.pass.mine ≡ s.before.pass.mine ++ gain.0.entries = gain.1.mine in
-    let more : gained s ≡ gain.0.entries = ap (drop (length s.before.pass.mine)) mine ∙ rest_of s.before.pass.mine gain.0.entries in
-    (gain.1.same.1, mine ∙ ap (λ l. s.before.pass.mine ++ l) (sym more))
+    let gain = ends_gain start s.before s.after s.ended h.0 in
+    let mine : s.after.view.pass.mine ≡ s.before.view.pass.mine ++ gain.0.entries = gain.1.mine in
+    let more : gained s ≡ gain.0.entries = ap (drop (length s.before.view.pass.mine)) mine ∙ rest_of s.before.view.pass.mine gain.0.entries in
+    (gain.1.same.1, mine ∙ ap (λ l. s.before.view.pass.mine ++ l) (sym more))
 
 -- ---- what a worker gains
 
 module _ {S P C R I O : Type 0} (to_come : C → Option (ℕ → ℕ)) (draws : R → Option (List (List ℕ))) (spawned : S → Option (List (Spawning × Told)))
     (linked : P → Option (List (Routing × Told))) (draw_faults : R → ℕ) (spawn_faults : S → ℕ) (route_faults : P → ℕ)
-    (are_sides : I → O → Type 0) (left : I → Option (List ℕ)) (held : O → Option (List ℕ)) where
+    (are_sides : I → O → Type 0) (told : I → StreamTold) (wrote : O → StreamTold) where
   abbrev Conn : Type 0
   Conn = Connection (PassState Entry Start) (HubKit S P C R) I O
 
@@ -64,13 +63,13 @@ module _ {S P C R I O : Type 0} (to_come : C → Option (ℕ → ℕ)) (draws : 
   view = view_of to_come draws spawned linked draw_faults spawn_faults route_faults
 
   abbrev session : Conn → Session
-  session = session_of to_come draws spawned linked draw_faults spawn_faults route_faults left held
+  session = session_of to_come draws spawned linked draw_faults spawn_faults route_faults told wrote
 
   abbrev IsDone : Conn → Type 0
-  IsDone = IsServed are_sides (EndsAsConnection to_come draws spawned linked draw_faults spawn_faults route_faults) left held
+  IsDone = IsServed are_sides (EndsAsConnection to_come draws spawned linked draw_faults spawn_faults route_faults) told wrote
 
   abbrev IsAll : PassState Entry Start → List Conn → Type 0
-  IsAll = IsWhole are_sides (EndsAsConnection to_come draws spawned linked draw_faults spawn_faults route_faults) left held
+  IsAll = IsWhole are_sides (EndsAsConnection to_come draws spawned linked draw_faults spawn_faults route_faults) told wrote
 
   on_from : (c : Conn) (cs : List Conn) → shift.GoOn c cs → shift.GoFrom c.after.pass.value cs
   on_from c [] h = tt
@@ -81,7 +80,8 @@ module _ {S P C R I O : Type 0} (to_come : C → Option (ℕ → ℕ)) (draws : 
   line start p [] base h done = (All-nil (IsConnectionOver start), sym (append-nil p.mine))
   line start p (c ∷ cs) base h done =
       let first : c.before.pass.value.base ≡ Some start = ap (λ q. q.base) (sym h.0) ∙ base in
-      let ended : IsConnectionOver start (session c) = (All-head IsDone c cs done).1 start first in
+      let done_first = (All-head IsDone c cs done).1 in
+      let ended : IsConnectionOver start (session c) = (done_first.0 start first, done_first.1) in
       let gains = session_gains start (session c) ended in
       let rest = line start c.after.pass.value cs (gains.0 ∙ first) (on_from c cs h.1) (All-tail IsDone c cs done) in
       let more = flat_map gained (map session cs) in (
@@ -90,11 +90,11 @@ module _ {S P C R I O : Type 0} (to_come : C → Option (ℕ → ℕ)) (draws : 
             ∙ ap (λ q. q.mine ++ (gained (session c) ++ more)) (sym h.0),
       )
 
-  goes_on : (c : Conn) (cs : List Conn) → shift.GoOn c cs → told.GoOn (session c) (map session cs)
+  goes_on : (c : Conn) (cs : List Conn) → shift.GoOn c cs → sessions.GoOn (session c) (map session cs)
   goes_on c [] h = tt
   goes_on c (d ∷ ds) h = (ap (λ p. view p d.before.kit.value) (sym h.0) ∙ ap (view c.after.pass.value) (sym h.1), goes_on d ds h.2)
 
-  goes_from : (p : PassState Entry Start) (cs : List Conn) → shift.GoFrom (split_from p) cs → told.GoFrom p (map session cs)
+  goes_from : (p : PassState Entry Start) (cs : List Conn) → shift.GoFrom (split_from p) cs → sessions.GoFrom p (map session cs)
   goes_from p [] h = tt
   goes_from p (c ∷ cs) h = (sym h.0, goes_on c cs h.1)
 
@@ -119,15 +119,15 @@ module _ {S P C R I O : Type 0} (to_come : C → Option (ℕ → ℕ)) (draws : 
   pub are_served : (start : Start) (p q : PassState Entry Start) (entries : List Entry) (number : ℕ) (tally : Tally (PassState Entry Start) (HubKit S P C R) I O)
       → p.base ≡ Some start → All (IsAll (split_from p)) (shifts_of tally) → q.mine ≡ all_own (split_from p) p.mine (shifts_of tally)
       → count_of (shifts_of tally) ≡ number → entries ≡ q.seen → q.mine ≡ placed 0 q.seen
-      → AreServed start p entries number (sessions_of to_come draws spawned linked draw_faults spawn_faults route_faults left held tally)
+      → AreServed start p entries number (sessions_of to_come draws spawned linked draw_faults spawn_faults route_faults told wrote tally)
   are_served start p q entries number tally base all mine count seen own =
       let css = shifts_of tally in
       record {
         count = counts css ∙ count;
         each = All-map (λ ss. All (IsConnectionOver start) ss) (λ cs. map session cs) css
             (All-weaker (IsAll (split_from p)) (λ cs. All (IsConnectionOver start) (map session cs)) (λ cs w. (line start (split_from p) cs base w.0 w.1).0) css all);
-        follow = All-map (told.GoFrom p) (λ cs. map session cs) css
-            (All-weaker (IsAll (split_from p)) (λ cs. told.GoFrom p (map session cs)) (λ cs w. goes_from p cs w.0) css all);
+        follow = All-map (sessions.GoFrom p) (λ cs. map session cs) css
+            (All-weaker (IsAll (split_from p)) (λ cs. sessions.GoFrom p (map session cs)) (λ cs w. goes_from p cs w.0) css all);
         whole = ap (placed 0) seen ∙ sym own ∙ mine ∙ owns start p p.mine css base all;
       }
 
@@ -140,7 +140,7 @@ module _ {S P C R I O : Type 0} (to_come : C → Option (ℕ → ℕ)) (draws : 
   -- where there was none
   pub none_served : (start : Start) (p : PassState Entry Start) (entries : List Entry) (number : ℕ) (tally : Tally (PassState Entry Start) (HubKit S P C R) I O)
       → p.base ≡ Some start → shifts_of tally ≡ [] → number ≡ 0 → entries ≡ p.seen → p.mine ≡ placed 0 p.seen
-      → AreServed start p entries number (sessions_of to_come draws spawned linked draw_faults spawn_faults route_faults left held tally)
+      → AreServed start p entries number (sessions_of to_come draws spawned linked draw_faults spawn_faults route_faults told wrote tally)
   none_served start p entries number tally base none zero seen own =
       are_served start p p entries number tally base (subst (All (IsAll (split_from p))) (sym none) (All-nil (IsAll (split_from p))))
       (ap (all_own (split_from p) p.mine) (sym none)) (ap count_of none ∙ sym zero) seen own

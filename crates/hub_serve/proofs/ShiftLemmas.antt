@@ -8,7 +8,8 @@ use Rattle.desk.specs.OwnEntries.{merged}
 use Rattle.desk.specs.Seats.{one_more, one_less, only}
 use Rattle.http_wire.specs.declared.error.SessionFault.{SessionFault}
 use Rattle.hub_run.specs.declared.served.Served.{Served}
-use Rattle.hub_serve.specs.Shifts.{count_of, Spans, AreOf, pass_before, pass_after, kit_before, kit_after, GoOn, GoFrom, IsServed, IsShift, IsWhole, own_of, all_own}
+use Rattle.hub_run.specs.Connections.{StreamTold}
+use Rattle.hub_serve.specs.Shifts.{Ends, count_of, Spans, AreOf, pass_before, pass_after, kit_before, kit_after, GoOn, GoFrom, IsServed, IsShift, IsWhole, own_of, all_own}
 use Rattle.hub_serve.specs.declared.tally.Connection.{Connection}
 
 pub map_push : {X Y : Type 0} (f : X → Y) (xs : List X) (x : X) → map f (xs ++ x ∷ []) ≡ map f xs ++ f x ∷ []
@@ -104,23 +105,22 @@ module _ {P Q I O : Type 0} where
   goes_from p j (c ∷ cs) q k passes kits = (passes.0, goes_on c cs q k passes.1 kits.1)
 
   module _ (are_sides : I → O → Type 0)
-      (ends : P → Q → Option (List ℕ) → Option (List ℕ) → P → Q → Option (List ℕ) → Option (List ℕ) → Result Served SessionFault → Type 0)
-      (left : I → Option (List ℕ)) (held : O → Option (List ℕ)) where
+      (ends : Ends P Q) (told : I → StreamTold) (wrote : O → StreamTold) where
     pub shift_push : (p : P) (j : Q) (cs : List (Connection P Q I O)) (q : P) (k : Q) (d : Connection P Q I O) (q' : P) (k' : Q)
-        → IsShift are_sides ends left held p j cs q k → q ≡ d.before.pass.value → k ≡ d.before.kit.value → d.after.pass.value ≡ q' → d.after.kit.value ≡ k'
-        → IsServed are_sides ends left held d → (cs' : List (Connection P Q I O)) → cs' ≡ cs ++ d ∷ [] → IsShift are_sides ends left held p j cs' q' k'
-    shift_push p j cs q k d q' k' h a b e f s cs' is = subst (λ l. IsShift are_sides ends left held p j l q' k') (sym is) (
+        → IsShift are_sides ends told wrote p j cs q k → q ≡ d.before.pass.value → k ≡ d.before.kit.value → d.after.pass.value ≡ q' → d.after.kit.value ≡ k'
+        → IsServed are_sides ends told wrote d → (cs' : List (Connection P Q I O)) → cs' ≡ cs ++ d ∷ [] → IsShift are_sides ends told wrote p j cs' q' k'
+    shift_push p j cs q k d q' k' h a b e f s cs' is = subst (λ l. IsShift are_sides ends told wrote p j l q' k') (sym is) (
       spans_push pass_before pass_after p cs q d q' h.0 a e,
       spans_push kit_before kit_after j cs k d k' h.1 b f,
-      All-push (IsServed are_sides ends left held) cs d h.2 s,
+      All-push (IsServed are_sides ends told wrote) cs d h.2 s,
     )
 
     -- one that hasn't served yet
-    pub shift_none : (p : P) (j : Q) (cs : List (Connection P Q I O)) (q : P) (k : Q) → q ≡ p → k ≡ j → cs ≡ [] → IsShift are_sides ends left held p j cs q k
-    shift_none p j cs q k same lent none = subst (λ l. IsShift are_sides ends left held p j l q k) (sym none)
-        (sym same, sym lent, All-nil (IsServed are_sides ends left held))
+    pub shift_none : (p : P) (j : Q) (cs : List (Connection P Q I O)) (q : P) (k : Q) → q ≡ p → k ≡ j → cs ≡ [] → IsShift are_sides ends told wrote p j cs q k
+    shift_none p j cs q k same lent none = subst (λ l. IsShift are_sides ends told wrote p j l q k) (sym none)
+        (sym same, sym lent, All-nil (IsServed are_sides ends told wrote))
 
-    pub shift_whole : (p : P) (j : Q) (cs : List (Connection P Q I O)) (q : P) (k : Q) → IsShift are_sides ends left held p j cs q k → IsWhole are_sides ends left held p cs
+    pub shift_whole : (p : P) (j : Q) (cs : List (Connection P Q I O)) (q : P) (k : Q) → IsShift are_sides ends told wrote p j cs q k → IsWhole are_sides ends told wrote p cs
     shift_whole p j cs q k h = (goes_from p j cs q k h.0 h.1, h.2)
 
 module _ {E A Q I O : Type 0} where

@@ -10,26 +10,21 @@ use Rattle.hub_core.specs.Visits.{Entry}
 use Rattle.hub_core.specs.Views.{Faults, View, view_of}
 use Rattle.hub_core.specs.declared.kit.HubKit.{HubKit}
 use Rattle.hub_core.specs.declared.start.Start.{Start}
-use Rattle.hub_run.specs.Connections.{ConnectionEnds}
+use Rattle.hub_run.specs.Connections.{ConnectionEnds, Goes, Known, StreamTold}
 use Rattle.hub_run.specs.declared.served.Served.{Served}
-use Rattle.hub_serve.specs.Shifts.{count_of, split_from, shifts_of}
+use Rattle.hub_serve.specs.Shifts.{Ends, count_of, split_from, shifts_of}
 use Rattle.hub_serve.specs.declared.tally.Connection.{Connection}
 use Rattle.hub_serve.specs.declared.tally.Tally.{Tally}
 
--- a connection that was served: what its worker's pass and devices told, the bytes to come from its source and those that its sink held,
--- each before and after it; and how it ended
+-- a connection that was served: what its worker's pass, its devices and its two streams told before it and after it; and how it ended
 pub record Session : Type 0 where
-  pub before : View
-  pub left : Option (List ℕ)
-  pub held : Option (List ℕ)
-  pub after : View
-  pub left_after : Option (List ℕ)
-  pub held_after : Option (List ℕ)
+  pub before : Known
+  pub after : Known
   pub ended : Result Served SessionFault
 
--- The connection ended as connections do for a book that began with `start`
+-- The connection ended as connections do for a book that began with `start`, and no count of its streams' faults fell
 abbrev pub IsConnectionOver : Start → Session → Type 0
-IsConnectionOver start s = ConnectionEnds start s.before s.left s.held s.after s.left_after s.held_after s.ended
+IsConnectionOver start s = ConnectionEnds start s.before s.after s.ended × Goes s.before s.after
 
 -- what the devices of a worker tell: the moments and the draws to come, the calls of the spawner and of the route link, and the faults
 pub record DevicesTold : Type 0 where
@@ -45,25 +40,25 @@ devices_in x = record { clock = x.clock; draws = x.draws; spawner = x.spawner; r
 
 -- What the devices of its worker told before it
 abbrev pub devices_before : Session → DevicesTold
-devices_before s = devices_in s.before
+devices_before s = devices_in s.before.view
 
 -- What the devices of its worker told after it
 abbrev pub devices_after : Session → DevicesTold
-devices_after s = devices_in s.after
+devices_after s = devices_in s.after.view
 
 -- What the own entries of its worker's pass grew by in it, each with its place
 abbrev pub gained : Session → List (ℕ × Entry)
-gained s = drop (length s.before.pass.mine) s.after.pass.mine
+gained s = drop (length s.before.view.pass.mine) s.after.view.pass.mine
 
 -- These connections came behind that one, each where the one before it had left the pass and the devices
 abbrev pub GoOn : Session → List Session → Type 0
 GoOn s [] = Unit {0}
-GoOn s (t ∷ ts) = (t.before ≡ s.after) × GoOn t ts
+GoOn s (t ∷ ts) = (t.before.view ≡ s.after.view) × GoOn t ts
 
 -- These are all connections of a worker, whose pass was split off the pass p
 abbrev pub GoFrom : PassState Entry Start → List Session → Type 0
 GoFrom p [] = Unit {0}
-GoFrom p (s ∷ ss) = (s.before.pass ≡ split_from p) × GoOn s ss
+GoFrom p (s ∷ ss) = (s.before.view.pass ≡ split_from p) × GoOn s ss
 
 -- Own entries, with all that the connections of these workers gained, in the order of their places
 abbrev pub with_gains : List (ℕ × Entry) → List (List Session) → List (ℕ × Entry)
@@ -92,33 +87,32 @@ devices_of to_come draws spawned linked draw_faults spawn_faults route_faults ki
   faults = record { random = draw_faults kit.random; spawner = spawn_faults kit.spawner; routes = route_faults kit.routes };
 }
 
--- One connection ended so, which began with the pass p, the kit k and the bytes left to read and held, and left those with a prime and q.
--- The first seven arguments say what the devices of a kit tell; they stand in front since a kit's types are the caller's
+-- What is known of a pass and a kit, with what both streams tell
+abbrev pub known_with : View → StreamTold → StreamTold → Known
+known_with view input output = record { view = view; input = input; output = output }
+
+-- One connection ended so, which began with the pass p, the kit k and streams that told i and o, and left those with a prime and q. The
+-- first seven arguments say what the devices of a kit tell; they stand in front since a kit's types are the caller's
 abbrev pub EndsAsConnection : {S P C R : Type 0} → (C → Option (ℕ → ℕ)) → (R → Option (List (List ℕ)))
     → (S → Option (List (Spawning × Told))) → (P → Option (List (Routing × Told)))
-    → (R → ℕ) → (S → ℕ) → (P → ℕ) → PassState Entry Start → HubKit S P C R → Option (List ℕ) → Option (List ℕ)
-    → PassState Entry Start → HubKit S P C R → Option (List ℕ) → Option (List ℕ) → Result Served SessionFault → Type 0
-EndsAsConnection to_come draws spawned linked draw_faults spawn_faults route_faults p k left held q k' left' held' ended = (start : Start)
-    → p.base ≡ Some start
-    → ConnectionEnds start (view_of to_come draws spawned linked draw_faults spawn_faults route_faults p k) left held
-    (view_of to_come draws spawned linked draw_faults spawn_faults route_faults q k') left' held' ended
+    → (R → ℕ) → (S → ℕ) → (P → ℕ) → Ends (PassState Entry Start) (HubKit S P C R)
+EndsAsConnection to_come draws spawned linked draw_faults spawn_faults route_faults p k i o q k' i' o' ended =
+    let view = view_of to_come draws spawned linked draw_faults spawn_faults route_faults in
+    ((start : Start) → p.base ≡ Some start → ConnectionEnds start (known_with (view p k) i o) (known_with (view q k') i' o') ended)
+    × Goes (known_with (view p k) i o) (known_with (view q k') i' o')
 
 module _ {S P C R I O : Type 0} (to_come : C → Option (ℕ → ℕ)) (draws : R → Option (List (List ℕ)))
     (spawned : S → Option (List (Spawning × Told)))
     (linked : P → Option (List (Routing × Told))) (draw_faults : R → ℕ) (spawn_faults : S → ℕ) (route_faults : P → ℕ)
-    (left : I → Option (List ℕ)) (held : O → Option (List ℕ)) where
+    (told : I → StreamTold) (wrote : O → StreamTold) where
   abbrev view : PassState Entry Start → HubKit S P C R → View
   view = view_of to_come draws spawned linked draw_faults spawn_faults route_faults
 
   -- A connection of the tally, as what its parts tell
   abbrev pub session_of : Connection (PassState Entry Start) (HubKit S P C R) I O → Session
   session_of c = record {
-    before = view c.before.pass.value c.before.kit.value;
-    left = left c.before.input.value;
-    held = held c.before.output.value;
-    after = view c.after.pass.value c.after.kit.value;
-    left_after = left c.after.input.value;
-    held_after = held c.after.output.value;
+    before = known_with (view c.before.pass.value c.before.kit.value) (told c.before.input.value) (wrote c.before.output.value);
+    after = known_with (view c.after.pass.value c.after.kit.value) (told c.after.input.value) (wrote c.after.output.value);
     ended = c.ended;
   }
 

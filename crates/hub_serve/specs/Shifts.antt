@@ -1,10 +1,11 @@
 -- The connections that a worker serves one after the other, by a pass and a kit of its own.
-use Rattle.std.specs.Prelude.{◌≡◌, ℕ, ◌+◌, List, [], ◌∷◌, map, length, All, Option, Result}
+use Rattle.std.specs.Prelude.{◌≡◌, ℕ, ◌+◌, List, [], ◌∷◌, map, length, All, Result}
 use Rattle.desk.specs.Passes.{PassState, fresh}
 use Rattle.desk.specs.OwnEntries.{merged}
 use Rattle.http_wire.specs.declared.error.SessionFault.{SessionFault}
 use Rattle.keeper.specs.Pasts.{entries_of}
 use Rattle.keeper.specs.declared.past.Past.{Past}
+use Rattle.hub_run.specs.Connections.{StreamTold}
 use Rattle.hub_run.specs.declared.served.Served.{Served}
 use Rattle.hub_serve.specs.declared.tally.Connection.{Connection}
 use Rattle.hub_serve.specs.declared.tally.Seen.{Seen}
@@ -30,6 +31,10 @@ AreOf before after (k ∷ ks) (xs ∷ xss) (k' ∷ ks') = Spans before after k x
 -- The pass that is split off this one
 abbrev pub split_from : {E A : Type 0} → PassState E A → PassState E A
 split_from p = fresh p.of p.base p.seen p.faults
+
+-- How a connection ends: a fact of the pass, of what serves and of what both streams tell, before and after it
+abbrev pub Ends : Type 0 → Type 0 → Type 1
+Ends P Q = P → Q → StreamTold → StreamTold → P → Q → StreamTold → StreamTold → Result Served SessionFault → Type 0
 
 module _ {P Q I O : Type 0} where
   -- for each worker the connections that it served
@@ -62,27 +67,20 @@ module _ {P Q I O : Type 0} where
   GoFrom p [] = Unit {0}
   GoFrom p (c ∷ cs) = (p ≡ c.before.pass.value) × GoOn c cs
 
-  -- The two sides of the connection are those of one (`are_sides`), and it ended so (`ends`). How it ends is a fact of the pass, the kit
-  -- and what both sides tell, before and after; left and held say what they tell
-  abbrev pub IsServed : (I → O → Type 0)
-      → (P → Q → Option (List ℕ) → Option (List ℕ) → P → Q → Option (List ℕ) → Option (List ℕ) → Result Served SessionFault → Type 0)
-      → (I → Option (List ℕ)) → (O → Option (List ℕ)) → Connection P Q I O → Type 0
-  IsServed are_sides ends left held c = are_sides c.before.input.value c.before.output.value
-      × ends c.before.pass.value c.before.kit.value (left c.before.input.value) (held c.before.output.value)
-      c.after.pass.value c.after.kit.value (left c.after.input.value) (held c.after.output.value) c.ended
+  -- The two sides of the connection are those of one (`are_sides`), and it ended so (`ends`), where the sides tell `told` and `wrote`
+  abbrev pub IsServed : (I → O → Type 0) → Ends P Q → (I → StreamTold) → (O → StreamTold) → Connection P Q I O → Type 0
+  IsServed are_sides ends told wrote c = are_sides c.before.input.value c.before.output.value
+      × ends c.before.pass.value c.before.kit.value (told c.before.input.value) (wrote c.before.output.value)
+      c.after.pass.value c.after.kit.value (told c.after.input.value) (wrote c.after.output.value) c.ended
 
   -- A worker that began with the pass p and the kit j served these connections, and has the pass q and the kit k in the end
-  abbrev pub IsShift : (I → O → Type 0)
-      → (P → Q → Option (List ℕ) → Option (List ℕ) → P → Q → Option (List ℕ) → Option (List ℕ) → Result Served SessionFault → Type 0)
-      → (I → Option (List ℕ)) → (O → Option (List ℕ)) → P → Q → List (Connection P Q I O) → P → Q → Type 0
-  IsShift are_sides ends left held p j cs q k =
-      Spans pass_before pass_after p cs q × Spans kit_before kit_after j cs k × All (IsServed are_sides ends left held) cs
+  abbrev pub IsShift : (I → O → Type 0) → Ends P Q → (I → StreamTold) → (O → StreamTold) → P → Q → List (Connection P Q I O) → P → Q → Type 0
+  IsShift are_sides ends told wrote p j cs q k =
+      Spans pass_before pass_after p cs q × Spans kit_before kit_after j cs k × All (IsServed are_sides ends told wrote) cs
 
   -- These are all connections of a worker that began with the pass p, each with its own two sides and its right end
-  abbrev pub IsWhole : (I → O → Type 0)
-      → (P → Q → Option (List ℕ) → Option (List ℕ) → P → Q → Option (List ℕ) → Option (List ℕ) → Result Served SessionFault → Type 0)
-      → (I → Option (List ℕ)) → (O → Option (List ℕ)) → P → List (Connection P Q I O) → Type 0
-  IsWhole are_sides ends left held p cs = GoFrom p cs × All (IsServed are_sides ends left held) cs
+  abbrev pub IsWhole : (I → O → Type 0) → Ends P Q → (I → StreamTold) → (O → StreamTold) → P → List (Connection P Q I O) → Type 0
+  IsWhole are_sides ends told wrote p cs = GoFrom p cs × All (IsServed are_sides ends told wrote) cs
 
 -- What the pass of a worker that began with p has made in the end
 abbrev pub own_of : {E A Q I O : Type 0} → PassState E A → List (Connection (PassState E A) Q I O) → List (ℕ × E)

@@ -1,6 +1,7 @@
 //! One call of `serve`, over any book and by anything that serves: the workers are hired, run and joined.
 ghost use Rattle.std.specs.Prelude.{◌≡◌, ◌==◌, ◌≤◌, ◌<◌, true, [], All, Some, length, is_ok, Err, IfErr};
 ghost use mathlib.Core.List.{IsPrefix};
+ghost use Rattle.hub_run.specs.Connections.{sink_told, source_told};
 ghost use Rattle.hub_serve.specs.Ends.{IsFault};
 ghost use Rattle.hub_serve.specs.Given.{GaveMore};
 ghost use Rattle.hub_serve.specs.Shifts.{AreOf, IsWhole, all_own, count_of, kit_after, kit_before, shifts_of, split_from};
@@ -51,7 +52,7 @@ pub(crate) fn serve_as<
     ensures pass { (pass.new.of ≡ pass.old.of) × (pass.new.base ≡ pass.old.base) }
     ensures alone { pass.new.alone ≡ true }
     ensures mine { pass.new.mine ≡ all_own (split_from pass.old) pass.old.mine (shifts_of tally.new) }
-    ensures shifts { All (λ cs. IsWhole L.are_sides Q.ends L.In.left L.Out.held (split_from pass.old) cs) (shifts_of tally.new) }
+    ensures shifts { All (λ cs. IsWhole L.are_sides Q.ends (source_told L.In.Source) (sink_told L.Out.Sink) (split_from pass.old) cs) (shifts_of tally.new) }
     ensures total { count_of (shifts_of tally.new) ≡ tally.new.count }
     ensures kits { AreOf kit_before kit_after kits.old.items (shifts_of tally.new) kits.new.items }
     ensures begins { IsPrefix pass.old.seen pass.new.seen }

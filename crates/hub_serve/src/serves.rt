@@ -1,5 +1,6 @@
 //! A kit serves connections.
 ghost use Rattle.std.specs.Prelude.{◌≡◌};
+ghost use Rattle.hub_run.specs.Connections.{sink_told, source_told};
 ghost use Rattle.hub_serve.specs.Sessions.{EndsAsConnection};
 ghost use Rattle.hub_serve.specs.Shifts.{IsServed};
 
@@ -39,7 +40,7 @@ impl<K: Keeper, T: Trail<Entry = Change>, S: Spawner, P: RouteLink, C: Clock, R:
         ensures before { (pass.old ≡ result.before.pass.value) × (self.old ≡ result.before.kit.value) }
         ensures after { (result.after.pass.value ≡ pass.new) × (result.after.kit.value ≡ self.new) }
         ensures served { IsServed L.are_sides (EndsAsConnection C.to_come R.left S.calls P.calls R.faults S.faults P.faults)
-            L.In.left L.Out.held result }
+            (source_told L.In.Source) (sink_told L.Out.Sink) result }
     {
         let mut input = input;
         let mut output = output;

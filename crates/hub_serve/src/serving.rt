@@ -2,6 +2,7 @@
 ghost use Rattle.std.specs.Prelude.{◌≡◌, ◌==◌, ◌≤◌, ◌<◌, true, All, Some, length, is_ok, Err, IfErr};
 ghost use mathlib.Core.List.{IsPrefix};
 ghost use Rattle.hub_core.specs.Visits.{entries_of};
+ghost use Rattle.hub_run.specs.Connections.{sink_told, source_told};
 ghost use Rattle.hub_serve.specs.Ends.{IsFault};
 ghost use Rattle.hub_serve.specs.Given.{GaveMore};
 ghost use Rattle.hub_serve.specs.Sessions.{AreServed, sessions_of};
@@ -75,7 +76,7 @@ pub fn serve<
     ensures fault { IfErr result.2 (IsFault result.1.count (L.faults doors.old) (L.faults doors.new)) }
     ensures untouched { result.2 ≡ Err ServeFault.Memory → doors.new ≡ doors.old }
     ensures served { AreServed result.0.start pass (entries_of result.0) result.1.count
-        (sessions_of C.to_come R.left S.calls P.calls R.faults S.faults P.faults L.In.left L.Out.held result.1) }
+        (sessions_of C.to_come R.left S.calls P.calls R.faults S.faults P.faults (source_told L.In.Source) (sink_told L.Out.Sink) result.1) }
     ensures kits { AreOf kit_before kit_after kits.old.items (shifts_of result.1) kits.new.items }
     ensures sides { All (λ cs. All (λ c. L.are_sides c.before.input.value c.before.output.value) cs) (shifts_of result.1) }
 {

@@ -7,6 +7,7 @@ ghost use mathlib.Core.List.{IsPrefix};
 ghost use Rattle.desk.specs.Passes.{PassState};
 ghost use Rattle.desk.specs.Seats.{only};
 ghost use Rattle.http_wire.specs.declared.error.SessionFault.{SessionFault};
+ghost use Rattle.hub_run.specs.Connections.{StreamTold, sink_told, source_told};
 ghost use Rattle.hub_run.specs.declared.served.Served.{Served};
 ghost use Rattle.keeper.specs.Pasts.{entries_of};
 ghost use Rattle.hub_serve.specs.Shifts.{AreOf, IsServed, IsShift, IsWhole, all_own, count_of};
@@ -25,10 +26,9 @@ use std::thread::{Threads, for_each_mut};
 
 /// What serves connections over a desk of such books.
 pub(crate) trait Serves<B: Booked> {
-    /// Of the pass, of what serves, of the bytes to come and of those that were written, before a connection and after it, and of how
-    /// it ended.
-    ghost ends: { PassState B.Entry B.Base → Self → Option (List ℕ) → Option (List ℕ)
-        → PassState B.Entry B.Base → Self → Option (List ℕ) → Option (List ℕ) → Result Served SessionFault → Type 0 };
+    /// Of the pass, of what serves and of what both streams tell, before a connection and after it, and of how it ended.
+    ghost ends: { PassState B.Entry B.Base → Self → StreamTold → StreamTold
+        → PassState B.Entry B.Base → Self → StreamTold → StreamTold → Result Served SessionFault → Type 0 };
 
     /// Serves a connection on its own two sides, and tells of it.
     fn serve<L: Listener, W: Wait>(
@@ -45,7 +45,7 @@ pub(crate) trait Serves<B: Booked> {
         ensures of { pass.new.of ≡ pass.old.of }
         ensures before { (pass.old ≡ result.before.pass.value) × (self.old ≡ result.before.kit.value) }
         ensures after { (result.after.pass.value ≡ pass.new) × (result.after.kit.value ≡ self.new) }
-        ensures served { IsServed L.are_sides ends L.In.left L.Out.held result };
+        ensures served { IsServed L.are_sides ends (source_told L.In.Source) (sink_told L.Out.Sink) result };
 }
 
 /// What a worker has. Its share of the connections given is what it has served.
@@ -136,11 +136,11 @@ pub(crate) fn run<
     count: usize,
 ) -> Doors<'a, L, N>
     requires of { All (λ w. w.pass.of ≡ desk.now) workers.old }
-    requires shift { All (λ w. IsShift L.are_sides Q.ends L.In.left L.Out.held
+    requires shift { All (λ w. IsShift L.are_sides Q.ends (source_told L.In.Source) (sink_told L.Out.Sink)
         (split_from first.now.value) w.lent.value (entries_of w.shift) w.pass w.kit) workers.old }
     requires threads { 0 < count }
     ensures of { All (λ w. w.pass.of ≡ desk.now) workers.new }
-    ensures shift { All (λ w. IsShift L.are_sides Q.ends L.In.left L.Out.held
+    ensures shift { All (λ w. IsShift L.are_sides Q.ends (source_told L.In.Source) (sink_told L.Out.Sink)
         (split_from first.now.value) w.lent.value (entries_of w.shift) w.pass w.kit) workers.new }
     ensures lent { map (λ w. w.lent.value) workers.new ≡ map (λ w. w.lent.value) workers.old }
     ensures over { (result.left ≡ 0) ⊎ (result.failed ≡ true) }
@@ -174,11 +174,11 @@ fn run_all<
     count: usize,
 )
     requires of { All (λ w. w.pass.of ≡ desk.now) workers.old }
-    requires shift { All (λ w. IsShift L.are_sides Q.ends L.In.left L.Out.held
+    requires shift { All (λ w. IsShift L.are_sides Q.ends (source_told L.In.Source) (sink_told L.Out.Sink)
         (split_from first.now.value) w.lent.value (entries_of w.shift) w.pass w.kit) workers.old }
     requires threads { 0 < count }
     ensures of { All (λ w. w.pass.of ≡ desk.now) workers.new }
-    ensures shift { All (λ w. IsShift L.are_sides Q.ends L.In.left L.Out.held
+    ensures shift { All (λ w. IsShift L.are_sides Q.ends (source_told L.In.Source) (sink_told L.Out.Sink)
         (split_from first.now.value) w.lent.value (entries_of w.shift) w.pass w.kit) workers.new }
     ensures lent { map (λ w. w.lent.value) workers.new ≡ map (λ w. w.lent.value) workers.old }
 {
@@ -187,10 +187,10 @@ fn run_all<
         workers,
         count,
         &|_, worker: &mut Worker<B, L, Q, N>|
-            requires { (worker.old.pass.of ≡ desk.now) × IsShift L.are_sides Q.ends L.In.left L.Out.held
+            requires { (worker.old.pass.of ≡ desk.now) × IsShift L.are_sides Q.ends (source_told L.In.Source) (sink_told L.Out.Sink)
                 (split_from first.now.value) worker.old.lent.value (entries_of worker.old.shift) worker.old.pass worker.old.kit }
             ensures { (worker.new.pass.of ≡ desk.entry.now) × (worker.new.lent.value ≡ worker.old.lent.value)
-                × IsShift L.are_sides Q.ends L.In.left L.Out.held
+                × IsShift L.are_sides Q.ends (source_told L.In.Source) (sink_told L.Out.Sink)
                 (split_from first.entry.now.value) worker.new.lent.value (entries_of worker.new.shift) worker.new.pass worker.new.kit }
         { work(rt, alloc, desk, first, doors, worker) },
     );
@@ -206,10 +206,10 @@ fn work<B: Booked, L: Listener, Q: Serves<B>, N: Doorway, W: Wait>(
     worker: &mut Worker<B, L, Q, N>,
 )
     requires of { worker.old.pass.of ≡ desk.now }
-    requires shift { IsShift L.are_sides Q.ends L.In.left L.Out.held
+    requires shift { IsShift L.are_sides Q.ends (source_told L.In.Source) (sink_told L.Out.Sink)
         (split_from first.now.value) worker.old.lent.value (entries_of worker.old.shift) worker.old.pass worker.old.kit }
     ensures of { worker.new.pass.of ≡ desk.now }
-    ensures shift { IsShift L.are_sides Q.ends L.In.left L.Out.held
+    ensures shift { IsShift L.are_sides Q.ends (source_told L.In.Source) (sink_told L.Out.Sink)
         (split_from first.now.value) worker.new.lent.value (entries_of worker.new.shift) worker.new.pass worker.new.kit }
     ensures lent { worker.new.lent.value ≡ worker.old.lent.value }
 {
@@ -230,10 +230,10 @@ fn turn<B: Booked, L: Listener, Q: Serves<B>, N: Doorway, W: Wait>(
     worker: &mut Worker<B, L, Q, N>,
 ) -> bool
     requires of { worker.old.pass.of ≡ desk.now }
-    requires shift { IsShift L.are_sides Q.ends L.In.left L.Out.held
+    requires shift { IsShift L.are_sides Q.ends (source_told L.In.Source) (sink_told L.Out.Sink)
         (split_from first.now.value) worker.old.lent.value (entries_of worker.old.shift) worker.old.pass worker.old.kit }
     ensures of { worker.new.pass.of ≡ desk.now }
-    ensures shift { IsShift L.are_sides Q.ends L.In.left L.Out.held
+    ensures shift { IsShift L.are_sides Q.ends (source_told L.In.Source) (sink_told L.Out.Sink)
         (split_from first.now.value) worker.new.lent.value (entries_of worker.new.shift) worker.new.pass worker.new.kit }
     ensures lent { worker.new.lent.value ≡ worker.old.lent.value }
 {
@@ -270,7 +270,7 @@ pub(crate) fn join_all<L: Listener, B: Booked, Q: Serves<B>, N: Doorway>(
     requires of { pass.old.of ≡ desk.now }
     requires others { (pass.old.others ≡ Some (length workers.items)) × (pass.old.alone ≡ only pass.old.others) }
     requires workers { All (λ w. w.pass.of ≡ desk.now) workers.items }
-    requires shift { All (λ w. IsShift L.are_sides Q.ends L.In.left L.Out.held
+    requires shift { All (λ w. IsShift L.are_sides Q.ends (source_told L.In.Source) (sink_told L.Out.Sink)
         (split_from first.now.value) w.lent.value (entries_of w.shift) w.pass w.kit) workers.items }
     requires out { kits.old.items ≡ [] }
     requires room { length workers.items ≤ vec_capacity kits.old }
@@ -282,7 +282,7 @@ pub(crate) fn join_all<L: Listener, B: Booked, Q: Serves<B>, N: Doorway>(
     ensures counted { pass.old.faults ≤ pass.new.faults }
     ensures alone { pass.new.alone ≡ true }
     ensures mine { pass.new.mine ≡ all_own (split_from first.now.value) pass.old.mine (shifts_of result) }
-    ensures shifts { All (λ cs. IsWhole L.are_sides Q.ends L.In.left L.Out.held (split_from first.now.value) cs) (shifts_of result) }
+    ensures shifts { All (λ cs. IsWhole L.are_sides Q.ends (source_told L.In.Source) (sink_told L.Out.Sink) (split_from first.now.value) cs) (shifts_of result) }
     ensures total { (result.count ≡ taken.old.total) × (count_of (shifts_of result) ≡ result.count) }
     ensures kits { AreOf kit_before kit_after (reverse (map (λ w. w.lent.value) workers.items)) (shifts_of result) kits.new.items }
 {

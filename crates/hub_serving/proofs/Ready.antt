@@ -17,6 +17,7 @@ use Rattle.hub_core.specs.Visits.{Entry, Reached, Standing, entries_of}
 use Rattle.hub_core.specs.declared.kit.HubKit.{HubKit}
 use Rattle.hub_core.specs.declared.start.Start.{Start}
 use Rattle.hub_machine.specs.KeptRows.{Keeps}
+use Rattle.hub_run.specs.Connections.{StreamTold}
 use Rattle.hub_run.specs.Turns.{Faults, View}
 use Rattle.hub_adopt.specs.Adopting.{Looks, TakesBack}
 use Rattle.hub_serve.specs.Ends.{IsFault}
@@ -137,15 +138,15 @@ module _ {O D : Type 0} (held : O → Option (List ℕ)) (write_faults : O → �
 
 module _ {S P C R I O : Type 0} (to_come : C → Option (ℕ → ℕ)) (draws : R → Option (List (List ℕ))) (spawned : S → Option (List (Spawning × Told)))
     (linked : P → Option (List (Routing × Told))) (draw_faults : R → ℕ) (spawn_faults : S → ℕ) (route_faults : P → ℕ)
-    (left : I → Option (List ℕ)) (held : O → Option (List ℕ)) (are_sides : I → O → Type 0) where
+    (told : I → StreamTold) (wrote : O → StreamTold) (are_sides : I → O → Type 0) where
   abbrev Served : Type 0
   Served = Connection (PassState Entry Start) (HubKit S P C R) I O
 
   abbrev session : Served → Session
-  session = session_of to_come draws spawned linked draw_faults spawn_faults route_faults left held
+  session = session_of to_come draws spawned linked draw_faults spawn_faults route_faults told wrote
 
   abbrev IsGiven : Session → Type 0
-  IsGiven s = SidesTell are_sides left held s.left s.held
+  IsGiven s = SidesTell are_sides (λ i. (told i).bytes) (λ o. (wrote o).bytes) s.before.input.bytes s.before.output.bytes
 
   abbrev IsSided : Served → Type 0
   IsSided c = are_sides c.before.input.value c.before.output.value
@@ -156,7 +157,7 @@ module _ {S P C R I O : Type 0} (to_come : C → Option (ℕ → ℕ)) (draws : 
 
   -- what `serve` says of the two sides of each connection, by what they tell
   pub given_sides : (tally : Tally (PassState Entry Start) (HubKit S P C R) I O) → All (λ cs. All IsSided cs) (shifts_of tally)
-      → AreGiven (SidesTell are_sides left held) (sessions_of to_come draws spawned linked draw_faults spawn_faults route_faults left held tally)
+      → AreGiven (SidesTell are_sides (λ i. (told i).bytes) (λ o. (wrote o).bytes)) (sessions_of to_come draws spawned linked draw_faults spawn_faults route_faults told wrote tally)
   given_sides tally each = All-map (λ ss. All IsGiven ss) (λ cs. map session cs) (shifts_of tally)
       (All-weaker (λ cs. All IsSided cs) (λ cs. All IsGiven (map session cs)) of_shift (shifts_of tally) each)
 
@@ -181,15 +182,15 @@ module _ {X K Y L : Type 0} (before after : X → K) (first last : Y → L) (tel
 
 module _ {S P C R I O : Type 0} (to_come : C → Option (ℕ → ℕ)) (draws : R → Option (List (List ℕ))) (spawned : S → Option (List (Spawning × Told)))
     (linked : P → Option (List (Routing × Told))) (draw_faults : R → ℕ) (spawn_faults : S → ℕ) (route_faults : P → ℕ)
-    (left : I → Option (List ℕ)) (held : O → Option (List ℕ)) where
+    (told : I → StreamTold) (wrote : O → StreamTold) where
   pub given_devices : (tally : Tally (PassState Entry Start) (HubKit S P C R) I O) (kits kits' : List (HubKit S P C R))
       → AreOf kit_before kit_after kits (shifts_of tally) kits'
       → AreOf devices_before devices_after (map (devices_of to_come draws spawned linked draw_faults spawn_faults route_faults) kits)
-      (sessions_of to_come draws spawned linked draw_faults spawn_faults route_faults left held tally)
+      (sessions_of to_come draws spawned linked draw_faults spawn_faults route_faults told wrote tally)
       (map (devices_of to_come draws spawned linked draw_faults spawn_faults route_faults) kits')
   given_devices tally kits kits' are = tell_kits kit_before kit_after devices_before devices_after
       (devices_of to_come draws spawned linked draw_faults spawn_faults route_faults)
-      (session_of to_come draws spawned linked draw_faults spawn_faults route_faults left held) (λ c. refl) (λ c. refl) kits (shifts_of tally) kits' are
+      (session_of to_come draws spawned linked draw_faults spawn_faults route_faults told wrote) (λ c. refl) (λ c. refl) kits (shifts_of tally) kits' are
 
 -- ---- no session
 
@@ -205,7 +206,7 @@ none_served Sides start pass entries alone whole own kits = (
     follow = All-nil (GoFrom pass);
     whole = ap (λ (e : List Entry). placed 0 e) (whole alone) ∙ sym (own alone);
   },
-  All-nil (λ (ss : List Session). All (λ s. Sides s.left s.held) ss),
+  All-nil (λ (ss : List Session). All (λ s. Sides s.before.input.bytes s.before.output.bytes) ss),
   refl,
 )
 

@@ -77,7 +77,7 @@ Attends managed h h' end =
 
 -- Each of these connections began with what the two sides of a connection tell when the listener gives it
 abbrev pub AreGiven : (Option (List ℕ) → Option (List ℕ) → Type 0) → List (List Session) → Type 0
-AreGiven Sides workers = All (λ ss. All (λ s. Sides s.left s.held) ss) workers
+AreGiven Sides workers = All (λ ss. All (λ s. Sides s.before.input.bytes s.before.output.bytes) ss) workers
 
 -- So many connections were served over a book that began with `start`, each on its own two sides, by workers who had the first of these
 -- devices and left the second. The pass had made its entries before, and `entries` is the history then

@@ -1,5 +1,6 @@
-use Rattle.std.proofs.Common.{◌+◌, ◌++◌, ◌∷◌, ◌∙◌, [], sym, ap, refl, arith}
+use Rattle.std.proofs.Common.{◌+◌, ◌++◌, ◌∷◌, ◌∙◌, [], Err, sym, ap, refl, arith}
 use Rattle.std.proofs.lemmas.List.{length_push}
+use Rattle.hub_devices.proofs.CallLemmas.{Rises_earlier}
 use Rattle.hub_run.specs.Turns.{turn_text}
 use Rattle.hub_run.proofs.RanLemmas.{Ran_empty, Ran_reply, Ran_turn, Ran_last, below_limit}
 use Rattle.hub_run.proofs.TurnsLemmas.{turns_more}
@@ -57,5 +58,19 @@ pub returns-in-Err-clause-ends : goal.returns-in-Err-clause-ends
 returns-in-Err-clause-ends g c = λ start base.
     let before = c.turns.invariant.ran start base in
     let found = c.in-Err.ensures.err start (c.turns.invariant.base ∙ base) in
-    stopped start _ _ _ _ _ _ _ _ _ _ c.in-Err.end c.turns.count c.ended.result before.0 found.0 before.1 c.turns.invariant.below before.2 before.3 found.1 found.2
+    stopped start _ _ _ _ _ _ c.in-Err.end c.turns.count c.ended.result before.0 found.0 before.1 c.turns.invariant.below before.2 before.3 found.1 found.2
+    (λ is. Rises_earlier _ _ _ c.turns.invariant.reads (c.in-Err.ensures.read_fault (ap Err is)) c.in-Err.ensures.reads)
+    (λ is. Rises_earlier _ _ _ c.turns.invariant.writes (c.in-Err.ensures.write_fault (ap Err is)) c.in-Err.ensures.writes)
     c.ended.ensures.ended c.ended.ensures.cut c.ended.ensures.read_fault c.ended.ensures.write_fault
+
+pub returns-then-close-clause-goes : goal.returns-then-close-clause-goes
+returns-then-close-clause-goes g c = record {
+  reads = omega (arith, c.turns.invariant.reads, c.in-Ok.ensures.reads);
+  writes = omega (arith, c.turns.invariant.writes, c.in-Ok.ensures.writes);
+}
+
+pub returns-in-Err-clause-goes : goal.returns-in-Err-clause-goes
+returns-in-Err-clause-goes g c = record {
+  reads = omega (arith, c.turns.invariant.reads, c.in-Err.ensures.reads);
+  writes = omega (arith, c.turns.invariant.writes, c.in-Err.ensures.writes);
+}

@@ -3,6 +3,7 @@ use Rattle.std.proofs.Math.Seq.{take-append_seam}
 use Rattle.std.proofs.lemmas.List.Elements.{All-nil, All-weaker}
 use Rattle.desk.specs.Seats.{only}
 use Rattle.keeper.specs.Pasts.{entries_of}
+use Rattle.hub_run.specs.Connections.{sink_told, source_told}
 use Rattle.hub_serve.specs.Shifts.{AreOf, IsShift, IsWhole, all_own, kit_after, kit_before, shifts_of, split_from}
 use Rattle.hub_serve.proofs.ShiftLemmas.{shift_none}
 use Rattle.hub_serve.proofs.crew.serve_as.Goals as goal
@@ -15,11 +16,11 @@ run-doors-requires-clause-of g c κs within =
 
 pub run-doors-requires-clause-shift : goal.run-doors-requires-clause-shift
 run-doors-requires-clause-shift g c κs within =
-    subst (λ l. All (λ w. IsShift g.L.Listener.are_sides g.Q.Serves.ends g.L.In.Source.left g.L.Out.Sink.held (split_from c.of-first.result.value) w.lent.value (entries_of w.shift) w.pass w.kit) l)
+    subst (λ l. All (λ w. IsShift g.L.Listener.are_sides g.Q.Serves.ends (source_told g.L.In.Source) (sink_told g.L.Out.Sink) (split_from c.of-first.result.value) w.lent.value (entries_of w.shift) w.pass w.kit) l)
     (sym c.as_mut_slice.ensures.value)
     (All-weaker (λ w. (w.pass ≡ split_from c.args.pass.now) × (entries_of w.shift ≡ []) × (w.kit ≡ w.lent.value))
-    (λ w. IsShift g.L.Listener.are_sides g.Q.Serves.ends g.L.In.Source.left g.L.Out.Sink.held (split_from c.of-first.result.value) w.lent.value (entries_of w.shift) w.pass w.kit)
-    (λ w idle. shift_none g.L.Listener.are_sides g.Q.Serves.ends g.L.In.Source.left g.L.Out.Sink.held (split_from c.of-first.result.value) w.lent.value (entries_of w.shift) w.pass w.kit
+    (λ w. IsShift g.L.Listener.are_sides g.Q.Serves.ends (source_told g.L.In.Source) (sink_told g.L.Out.Sink) (split_from c.of-first.result.value) w.lent.value (entries_of w.shift) w.pass w.kit)
+    (λ w idle. shift_none g.L.Listener.are_sides g.Q.Serves.ends (source_told g.L.In.Source) (sink_told g.L.Out.Sink) (split_from c.of-first.result.value) w.lent.value (entries_of w.shift) w.pass w.kit
     (idle.0 ∙ ap split_from (sym c.of-first.ensures)) idle.2 idle.1)
     _ c.in-Ok.ensures.idle)
 
@@ -37,7 +38,7 @@ join_all-requires-clause-shift g c =
     let items = c.in-Ok.workers.items in
     let n = c.in-Ok.workers.len in
     let same : n ≡ length xs = search rules in
-    subst (λ l. All (λ w. IsShift g.L.Listener.are_sides g.Q.Serves.ends g.L.In.Source.left g.L.Out.Sink.held (split_from c.of-first.result.value) w.lent.value (entries_of w.shift) w.pass w.kit) l)
+    subst (λ l. All (λ w. IsShift g.L.Listener.are_sides g.Q.Serves.ends (source_told g.L.In.Source) (sink_told g.L.Out.Sink) (split_from c.of-first.result.value) w.lent.value (entries_of w.shift) w.pass w.kit) l)
     (sym (ap (λ k. take k (xs ++ drop (length xs) items)) same ∙ take-append_seam xs (drop (length xs) items))) c.run-doors.ensures.shift
 
 pub join_all-requires-clause-others : goal.join_all-requires-clause-others
@@ -60,7 +61,7 @@ returns-clause-mine g c =
 
 pub returns-clause-shifts : goal.returns-clause-shifts
 returns-clause-shifts g c =
-    subst (λ p. All (IsWhole g.L.Listener.are_sides g.Q.Serves.ends g.L.In.Source.left g.L.Out.Sink.held (split_from p)) (shifts_of c.join_all.result)) c.of-first.ensures c.join_all.ensures.shifts
+    subst (λ p. All (IsWhole g.L.Listener.are_sides g.Q.Serves.ends (source_told g.L.In.Source) (sink_told g.L.Out.Sink) (split_from p)) (shifts_of c.join_all.result)) c.of-first.ensures c.join_all.ensures.shifts
 
 pub returns-in-Err-clause-mine : goal.returns-in-Err-clause-mine
 returns-in-Err-clause-mine g c =
@@ -68,8 +69,8 @@ returns-in-Err-clause-mine g c =
 
 pub returns-in-Err-clause-shifts : goal.returns-in-Err-clause-shifts
 returns-in-Err-clause-shifts g c =
-    subst (All (IsWhole g.L.Listener.are_sides g.Q.Serves.ends g.L.In.Source.left g.L.Out.Sink.held (split_from c.args.pass.now))) (sym c.requires.none.1)
-    (All-nil (IsWhole g.L.Listener.are_sides g.Q.Serves.ends g.L.In.Source.left g.L.Out.Sink.held (split_from c.args.pass.now)))
+    subst (All (IsWhole g.L.Listener.are_sides g.Q.Serves.ends (source_told g.L.In.Source) (sink_told g.L.Out.Sink) (split_from c.args.pass.now))) (sym c.requires.none.1)
+    (All-nil (IsWhole g.L.Listener.are_sides g.Q.Serves.ends (source_told g.L.In.Source) (sink_told g.L.Out.Sink) (split_from c.args.pass.now)))
 
 pub returns-clause-kits : goal.returns-clause-kits
 returns-clause-kits g c =

@@ -5,6 +5,7 @@ use Rattle.std.specs.Option.{option_to_list}
 use Rattle.desk.proofs.Prefixes.{prefix_trans}
 use Rattle.desk.specs.Seats.{only}
 use Rattle.keeper.specs.Pasts.{entries_of}
+use Rattle.hub_run.specs.Connections.{sink_told, source_told}
 use Rattle.hub_serve.specs.Shifts.{IsShift, IsWhole, count_of, kit_after, kit_before, shifts_of, split_from}
 use Rattle.hub_serve.proofs.ShiftLemmas.{all_own_joined, count_push, of_all, of_joined, one_back, shift_whole}
 use Rattle.hub_serve.proofs.workers.join_all.Goals as goal
@@ -14,10 +15,10 @@ loop-worker-preserved g c =
     let loop = c.loop-worker in
     let worker = c.in-Some.worker in
     let both = c.join.ensures.both in
-    let shifts = All-pop (λ w. IsShift g.L.Listener.are_sides g.Q.Serves.ends g.L.In.Source.left g.L.Out.Sink.held (split_from c.args.first.now.value) w.lent.value (entries_of w.shift) w.pass w.kit)
+    let shifts = All-pop (λ w. IsShift g.L.Listener.are_sides g.Q.Serves.ends (source_told g.L.In.Source) (sink_told g.L.Out.Sink) (split_from c.args.first.now.value) w.lent.value (entries_of w.shift) w.pass w.kit)
     _ _ _ c.pop.ensures.items loop.invariant.10 in
-    let shift : IsShift g.L.Listener.are_sides g.Q.Serves.ends g.L.In.Source.left g.L.Out.Sink.held (split_from c.args.first.now.value) worker.lent.value (entries_of worker.shift) worker.pass worker.kit =
-    subst (λ r. IfSome r (λ w. IsShift g.L.Listener.are_sides g.Q.Serves.ends g.L.In.Source.left g.L.Out.Sink.held (split_from c.args.first.now.value) w.lent.value (entries_of w.shift) w.pass w.kit))
+    let shift : IsShift g.L.Listener.are_sides g.Q.Serves.ends (source_told g.L.In.Source) (sink_told g.L.Out.Sink) (split_from c.args.first.now.value) worker.lent.value (entries_of worker.shift) worker.pass worker.kit =
+    subst (λ r. IfSome r (λ w. IsShift g.L.Listener.are_sides g.Q.Serves.ends (source_told g.L.In.Source) (sink_told g.L.Out.Sink) (split_from c.args.first.now.value) w.lent.value (entries_of w.shift) w.pass w.kit))
     c.in-Some.is shifts.1 in
     let less : vec_len loop.workers ≡ vec_len c.pop.new.self + 1 = search rules in
     let popped : loop.workers.items ≡ c.pop.new.self.items ++ worker ∷ [] =
@@ -37,9 +38,9 @@ loop-worker-preserved g c =
       one_back loop.pass.others c.join.new.pass.others (vec_len loop.workers) (vec_len c.pop.new.self) loop.invariant.8 less (ap (λ p. p.others) both),
       ap (λ p. p.alone) both ∙ ap only (sym (ap (λ p. p.others) both)),
       shifts.0,
-      subst (All (IsWhole g.L.Listener.are_sides g.Q.Serves.ends g.L.In.Source.left g.L.Out.Sink.held (split_from c.args.first.now.value))) (sym c.add.ensures.shifts)
-          (All-push (IsWhole g.L.Listener.are_sides g.Q.Serves.ends g.L.In.Source.left g.L.Out.Sink.held (split_from c.args.first.now.value)) _ _ loop.invariant.11
-          (shift_whole g.L.Listener.are_sides g.Q.Serves.ends g.L.In.Source.left g.L.Out.Sink.held (split_from c.args.first.now.value) worker.lent.value (entries_of worker.shift) worker.pass worker.kit shift)),
+      subst (All (IsWhole g.L.Listener.are_sides g.Q.Serves.ends (source_told g.L.In.Source) (sink_told g.L.Out.Sink) (split_from c.args.first.now.value))) (sym c.add.ensures.shifts)
+          (All-push (IsWhole g.L.Listener.are_sides g.Q.Serves.ends (source_told g.L.In.Source) (sink_told g.L.Out.Sink) (split_from c.args.first.now.value)) _ _ loop.invariant.11
+          (shift_whole g.L.Listener.are_sides g.Q.Serves.ends (source_told g.L.In.Source) (sink_told g.L.Out.Sink) (split_from c.args.first.now.value) worker.lent.value (entries_of worker.shift) worker.pass worker.kit shift)),
       all_own_joined (split_from c.args.first.now.value) c.args.pass.now.mine (shifts_of loop.tally) (shifts_of c.add.new.self) (entries_of worker.shift) loop.pass.mine
           c.join.new.pass.mine worker.pass loop.invariant.12 shift.0 (ap (λ p. p.mine) both) c.add.ensures.shifts,
       sum,
