@@ -15,6 +15,7 @@ mod line;
 pub mod listener;
 mod marked;
 pub mod output;
+pub mod pending;
 mod processes;
 pub mod programs;
 pub mod random;

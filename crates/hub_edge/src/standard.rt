@@ -6,7 +6,9 @@ use hub_devices::source::Source;
 use hub_devices::streams::{ReaderSource, WriterSink};
 use hub_kit::text::Text;
 use std::env;
+use std::fs::OpenOptions;
 use std::io::{self, ErrorKind, Input, Printer, StdinLock};
+use std::os::fd::{AsRawFd, IntoRawFd};
 
 /// Why the words of the command line can't be had.
 #[derive(Clone, Copy, Debug, PartialEq, Eq)]
@@ -44,4 +46,21 @@ pub fn output(rt: &HostRuntime) -> WriterSink<Printer<'_, HostRuntime>>
     ensures { ⟦<WriterSink<Printer<'static, HostRuntime>> as Sink>⟧.faults result ≡ 0 }
 {
     WriterSink::new(io::writer(rt))
+}
+
+/// Opens /dev/null at each of the numbers 0, 1 and 2 that nothing has. Else a file or a connection would get the number, and what is meant
+/// for a standard stream would be written into it. So it is called before anything is opened.
+pub fn keep_standard(rt: &HostRuntime) -> io::Result<()> {
+    for _ in 0..4 {
+        let file = OpenOptions::new()
+            .read(true)
+            .write(true)
+            .open(rt, "/dev/null")?;
+        if file.as_raw_fd() > 2 {
+            break;
+        }
+        // it stays open
+        let _ = file.into_raw_fd();
+    }
+    Ok(())
 }
