@@ -148,4 +148,4 @@ def words(given, bound, info):
         told += ["--setenv", name, value]
     told += ["--seccomp", files[0], "--info-fd", info]
     files.append(file_of("\0".join(map(str, told)).encode()))
-    return ["bwrap", "--args", str(files[-1]), "--", *given.program], files
+    return [*bound["before"], "bwrap", "--args", str(files[-1]), "--", *given.program], files
