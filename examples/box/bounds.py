@@ -95,9 +95,20 @@ def used(folder):
                     blocks += entry.stat(follow_symlinks=False).st_blocks
                     if entry.is_dir(follow_symlinks=False):
                         left.append(entry.path)
-        except OSError:
+        except (FileNotFoundError, NotADirectoryError):
+            # it was taken away meanwhile
             continue
     return blocks / 2048, files
+
+
+def share_of(home, bound):
+    """How much of its bound a home has, and that in words. One that can't be counted has too much, as where its folders are too deep."""
+    try:
+        mebi, files = used(home)
+    except OSError as fault:
+        return float("inf"), f"the home can't be counted: {fault.strerror}"
+    return (max(mebi / bound["disk"], files / bound["files"]),
+            f"the home holds {mebi:.0f} MiB of {bound['disk']}, and {files} files of {bound['files']}")
 
 
 def see_memory(first, bound, say):
@@ -107,13 +118,6 @@ def see_memory(first, bound, say):
         most = max(has, key=has.get)
         say(f"{sum(has.values()):.0f} MiB of memory, of {bound['memory']}: a program with {has[most]:.0f} MiB is ended")
         send(most, signal.SIGKILL)
-
-
-def share_of(home, bound):
-    """How much of its bound a home has, and that in words."""
-    mebi, files = used(home)
-    return (max(mebi / bound["disk"], files / bound["files"]),
-            f"the home holds {mebi:.0f} MiB of {bound['disk']}, and {files} files of {bound['files']}")
 
 
 def see_disk(first, bound, home, say):
