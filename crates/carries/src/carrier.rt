@@ -1,6 +1,8 @@
 //! An upstream that carries requests itself, over threads that it has.
 ghost use Rattle.std.specs.Prelude.{◌≡◌, ◌≢◌, ◌≤◌, ◌++◌, ℕ, List};
-ghost use Rattle.carries.specs.Carries.{CarryOn, going};
+ghost use Rattle.carries.specs.Carries.{CarriesOn, going};
+ghost use Rattle.proxy_core.specs.Telling.{place_of};
+ghost use Rattle.carries.specs.Telling.{sides_of};
 
 use crate::carried::Carried;
 use http_wire::error::SessionFault;
@@ -28,35 +30,10 @@ pub trait Carrier<I: Source, O: Shuts>: Tunnelled {
     ) -> Result<Carried<Self::Reads, Self::Writes>, SessionFault>
         requires minor { head.now.minor ≤ 1 }
         requires sized { framing ≢ Framing.ToEnd }
-        ensures ends { (rest : List ℕ)
-            × CarryOn
-            (λ reads writes. record {
-              left = Self.Reads.left reads;
-              held = Self.Writes.held writes;
-              reads = Self.Reads.faults reads;
-              writes = Self.Writes.faults writes;
-              upper_shut = Self.Writes.closed writes;
-              lower_shut = O.closed output.new;
-            })
-            (going head.now framing) target.now
-            (record {
-              left = I.left input.old;
-              kept = rooms.old.kept;
-              held = O.held output.old;
-              told = Self.told self.old;
-              reads = I.faults input.old;
-              links = Self.faults self.old;
-              writes = O.faults output.old;
-            })
-            (record {
-              left = I.left input.new;
-              kept = rest ++ rooms.new.kept;
-              held = O.held output.new;
-              told = Self.told self.new;
-              reads = I.faults input.new;
-              links = Self.faults self.new;
-              writes = O.faults output.new;
-            }) result }
+        ensures ends { let place = place_of I.Source O.Sink Self.Upstream in
+            let sides = sides_of Self.Reads.Source Self.Writes.Sink (O.closed output.new) in
+            CarriesOn sides (going head.now framing) target.now (place input.old rooms.old.kept output.old self.old)
+            (place input.new rooms.new.kept output.new self.new) result }
         ensures reads { I.faults input.old ≤ I.faults input.new }
         ensures links { Self.faults self.old ≤ Self.faults self.new }
         ensures writes { O.faults output.old ≤ O.faults output.new };

@@ -1,6 +1,8 @@
 //! One request that is carried.
 ghost use Rattle.std.specs.Prelude.{◌≡◌, ◌≢◌, ◌≤◌, ◌++◌, ℕ, List, []};
-ghost use Rattle.carries.specs.Carries.{CarryOn, CarryEnds, going};
+ghost use Rattle.carries.specs.Carries.{CarriesOn, CarryEnds, going};
+ghost use Rattle.proxy_core.specs.Telling.{place_of};
+ghost use Rattle.carries.specs.Telling.{sides_of};
 
 use crate::carried::{Carried, one_of};
 use crate::carrier::Carrier;
@@ -39,35 +41,10 @@ pub fn carry_head<R: Threads, I: Source + Send, O: Shuts, U: Tunnelled<Writes: S
 ) -> Result<Carried<U::Reads, U::Writes>, SessionFault>
     requires minor { head.now.minor ≤ 1 }
     requires sized { framing ≢ Framing.ToEnd }
-    ensures ends { (rest : List ℕ)
-        × CarryOn
-        (λ reads writes. record {
-          left = U.Reads.left reads;
-          held = U.Writes.held writes;
-          reads = U.Reads.faults reads;
-          writes = U.Writes.faults writes;
-          upper_shut = U.Writes.closed writes;
-          lower_shut = O.closed output.new;
-        })
-        (going head.now framing) target.now
-        (record {
-          left = I.left input.old;
-          kept = rooms.old.kept;
-          held = O.held output.old;
-          told = U.told up.old;
-          reads = I.faults input.old;
-          links = U.faults up.old;
-          writes = O.faults output.old;
-        })
-        (record {
-          left = I.left input.new;
-          kept = rest ++ rooms.new.kept;
-          held = O.held output.new;
-          told = U.told up.new;
-          reads = I.faults input.new;
-          links = U.faults up.new;
-          writes = O.faults output.new;
-        }) result }
+    ensures ends { let place = place_of I.Source O.Sink U.Upstream in
+        let sides = sides_of U.Reads.Source U.Writes.Sink (O.closed output.new) in
+        CarriesOn sides (going head.now framing) target.now (place input.old rooms.old.kept output.old up.old)
+        (place input.new rooms.new.kept output.new up.new) result }
     ensures reads { I.faults input.old ≤ I.faults input.new }
     ensures links { U.faults up.old ≤ U.faults up.new }
     ensures writes { O.faults output.old ≤ O.faults output.new }
@@ -89,34 +66,10 @@ fn carry_kept<L: Lookup, I: Source, O: Shuts, U: Carrier<I, O>>(
     up: &mut U,
 ) -> Result<Carried<U::Reads, U::Writes>, SessionFault>
     requires { rooms.old.kept ≡ [] }
-    ensures ends { (kept : List ℕ) × CarryEnds L.found
-        (λ reads writes. record {
-          left = U.Reads.left reads;
-          held = U.Writes.held writes;
-          reads = U.Reads.faults reads;
-          writes = U.Writes.faults writes;
-          upper_shut = U.Writes.closed writes;
-          lower_shut = O.closed output.new;
-        }) now
-        (record {
-          left = I.left input.old;
-          kept = [];
-          held = O.held output.old;
-          told = U.told up.old;
-          reads = I.faults input.old;
-          links = U.faults up.old;
-          writes = O.faults output.old;
-        })
-        (record {
-          left = I.left input.new;
-          kept = kept;
-          held = O.held output.new;
-          told = U.told up.new;
-          reads = I.faults input.new;
-          links = U.faults up.new;
-          writes = O.faults output.new;
-        })
-        routes.old routes.new result }
+    ensures ends { let place = place_of I.Source O.Sink U.Upstream in
+        let sides = sides_of U.Reads.Source U.Writes.Sink (O.closed output.new) in
+        (kept : List ℕ) × CarryEnds L.found sides now (place input.old [] output.old up.old)
+        (place input.new kept output.new up.new) routes.old routes.new result }
     ensures reads { I.faults input.old ≤ I.faults input.new }
     ensures links { U.faults up.old ≤ U.faults up.new }
     ensures writes { O.faults output.old ≤ O.faults output.new }
@@ -151,34 +104,10 @@ pub fn carry_one<L: Lookup, I: Source, O: Shuts, U: Carrier<I, O>>(
     output: &mut O,
     up: &mut U,
 ) -> Result<Carried<U::Reads, U::Writes>, SessionFault>
-    ensures ends { (kept : List ℕ) × CarryEnds L.found
-        (λ reads writes. record {
-          left = U.Reads.left reads;
-          held = U.Writes.held writes;
-          reads = U.Reads.faults reads;
-          writes = U.Writes.faults writes;
-          upper_shut = U.Writes.closed writes;
-          lower_shut = O.closed output.new;
-        }) now
-        (record {
-          left = I.left input.old;
-          kept = [];
-          held = O.held output.old;
-          told = U.told up.old;
-          reads = I.faults input.old;
-          links = U.faults up.old;
-          writes = O.faults output.old;
-        })
-        (record {
-          left = I.left input.new;
-          kept = kept;
-          held = O.held output.new;
-          told = U.told up.new;
-          reads = I.faults input.new;
-          links = U.faults up.new;
-          writes = O.faults output.new;
-        })
-        routes.old routes.new result }
+    ensures ends { let place = place_of I.Source O.Sink U.Upstream in
+        let sides = sides_of U.Reads.Source U.Writes.Sink (O.closed output.new) in
+        (kept : List ℕ) × CarryEnds L.found sides now (place input.old [] output.old up.old)
+        (place input.new kept output.new up.new) routes.old routes.new result }
     ensures reads { I.faults input.old ≤ I.faults input.new }
     ensures links { U.faults up.old ≤ U.faults up.new }
     ensures writes { O.faults output.old ≤ O.faults output.new }

@@ -2,6 +2,8 @@
 ghost use Rattle.std.specs.Prelude.{◌≡◌, ◌≤◌, ◌++◌, [], true};
 ghost use Rattle.upstreams.specs.Upstream.{IsOpen};
 ghost use Rattle.carries.specs.Carries.{LinkEnds, upgrade_of};
+ghost use Rattle.proxy_core.specs.Telling.{place_of};
+ghost use Rattle.carries.specs.Telling.{sides_of};
 
 use crate::asking::ask_switch;
 use crate::carried::{Carried, one_of};
@@ -30,34 +32,10 @@ pub(crate) fn carry_linked<R: Threads, I: Source + Send, O: Shuts, U: Tunnelled<
     up: &mut U,
 ) -> Result<Carried<U::Reads, U::Writes>, SessionFault>
     requires open { IsOpen (U.told up.old) }
-    ensures ends { LinkEnds
-        (λ reads writes. record {
-          left = U.Reads.left reads;
-          held = U.Writes.held writes;
-          reads = U.Reads.faults reads;
-          writes = U.Writes.faults writes;
-          upper_shut = U.Writes.closed writes;
-          lower_shut = O.closed output.new;
-        })
-        (upgrade_of method.now text.now)
-        (record {
-          left = I.left input.old;
-          kept = first.now;
-          held = O.held output.old;
-          told = U.told up.old;
-          reads = I.faults input.old;
-          links = U.faults up.old;
-          writes = O.faults output.old;
-        })
-        (record {
-          left = I.left input.new;
-          kept = first.now;
-          held = O.held output.new;
-          told = U.told up.new;
-          reads = I.faults input.new;
-          links = U.faults up.new;
-          writes = O.faults output.new;
-        }) result }
+    ensures ends { let place = place_of I.Source O.Sink U.Upstream in
+        let sides = sides_of U.Reads.Source U.Writes.Sink (O.closed output.new) in
+        LinkEnds sides (upgrade_of method.now text.now) (place input.old first.now output.old up.old)
+        (place input.new first.now output.new up.new) result }
     ensures reads { I.faults input.old ≤ I.faults input.new }
     ensures links { U.faults up.old ≤ U.faults up.new }
     ensures writes { O.faults output.old ≤ O.faults output.new }

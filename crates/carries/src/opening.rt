@@ -2,6 +2,8 @@
 ghost use Rattle.std.specs.Prelude.{◌≡◌, ◌≤◌};
 ghost use Rattle.upstreams.specs.Upstream.{IsOpen};
 ghost use Rattle.carries.specs.Carries.{OpenEnds};
+ghost use Rattle.proxy_core.specs.Telling.{place_of};
+ghost use Rattle.carries.specs.Telling.{sides_of};
 
 use crate::carried::{Carried, one_of};
 use http_wire::error::SessionFault;
@@ -27,33 +29,10 @@ pub(crate) fn open<R: Threads, I: Source + Send, O: Shuts, U: Tunnelled<Writes: 
     up: &mut U,
 ) -> Result<Carried<U::Reads, U::Writes>, SessionFault>
     requires open { IsOpen (U.told up.old) }
-    ensures ends { OpenEnds
-        (λ reads writes. record {
-          left = U.Reads.left reads;
-          held = U.Writes.held writes;
-          reads = U.Reads.faults reads;
-          writes = U.Writes.faults writes;
-          upper_shut = U.Writes.closed writes;
-          lower_shut = O.closed output.new;
-        })
-        (record {
-          left = I.left input.old;
-          kept = first.now;
-          held = O.held output.old;
-          told = U.told up.old;
-          reads = I.faults input.old;
-          links = U.faults up.old;
-          writes = O.faults output.old;
-        })
-        (record {
-          left = I.left input.new;
-          kept = first.now;
-          held = O.held output.new;
-          told = U.told up.new;
-          reads = I.faults input.new;
-          links = U.faults up.new;
-          writes = O.faults output.new;
-        }) first.now text.now behind.now result }
+    ensures ends { let place = place_of I.Source O.Sink U.Upstream in
+        let sides = sides_of U.Reads.Source U.Writes.Sink (O.closed output.new) in
+        OpenEnds sides (place input.old first.now output.old up.old)
+        (place input.new first.now output.new up.new) first.now text.now behind.now result }
     ensures told { U.told up.new ≡ U.told up.old }
     ensures reads { I.faults input.old ≤ I.faults input.new }
     ensures links { U.faults up.old ≤ U.faults up.new }

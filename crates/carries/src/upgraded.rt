@@ -1,7 +1,8 @@
 //! An upgrade whose head was read.
 ghost use Rattle.std.specs.Prelude.{◌≡◌, ◌≤◌, ◌++◌, ℕ, List, true};
-ghost use Rattle.proxy_wire.specs.Heads as heads;
-ghost use Rattle.carries.specs.Carries.{CarryOn, upgrade_of};
+ghost use Rattle.carries.specs.Carries.{CarriesOn, upgrading};
+ghost use Rattle.proxy_core.specs.Telling.{place_of};
+ghost use Rattle.carries.specs.Telling.{sides_of};
 
 use crate::carried::{Carried, one_of};
 use crate::early::take_kept;
@@ -31,35 +32,10 @@ pub(crate) fn carry_upgrade<R: Threads, I: Source + Send, O: Shuts, U: Tunnelled
     up: &mut U,
 ) -> Result<Carried<U::Reads, U::Writes>, SessionFault>
     requires minor { head.now.minor ≤ 1 }
-    ensures ends { (rest : List ℕ)
-        × CarryOn
-        (λ reads writes. record {
-          left = U.Reads.left reads;
-          held = U.Writes.held writes;
-          reads = U.Reads.faults reads;
-          writes = U.Writes.faults writes;
-          upper_shut = U.Writes.closed writes;
-          lower_shut = O.closed output.new;
-        })
-        (upgrade_of head.now.method (heads.request_text true head.now)) target.now
-        (record {
-          left = I.left input.old;
-          kept = rooms.old.kept;
-          held = O.held output.old;
-          told = U.told up.old;
-          reads = I.faults input.old;
-          links = U.faults up.old;
-          writes = O.faults output.old;
-        })
-        (record {
-          left = I.left input.new;
-          kept = rest ++ rooms.new.kept;
-          held = O.held output.new;
-          told = U.told up.new;
-          reads = I.faults input.new;
-          links = U.faults up.new;
-          writes = O.faults output.new;
-        }) result }
+    ensures ends { let place = place_of I.Source O.Sink U.Upstream in
+        let sides = sides_of U.Reads.Source U.Writes.Sink (O.closed output.new) in
+        CarriesOn sides (upgrading head.now) target.now (place input.old rooms.old.kept output.old up.old)
+        (place input.new rooms.new.kept output.new up.new) result }
     ensures reads { I.faults input.old ≤ I.faults input.new }
     ensures links { U.faults up.old ≤ U.faults up.new }
     ensures writes { O.faults output.old ≤ O.faults output.new }

@@ -1,9 +1,9 @@
 use Rattle.std.proofs.Common.{◌++◌, Err, refl, ap, subst, inl, inr}
 use Rattle.http_wire.specs.declared.head.Head.{Head}
 use Rattle.proxy_core.specs.Forward.{IsUnchosen}
-use Rattle.proxy_core.specs.Passes.{Place}
 use Rattle.proxy_core.proofs.ForwardLemmas.{took_from, chosen_of}
-use Rattle.carries.specs.Carries.{Sides}
+use Rattle.proxy_core.specs.Telling.{place_of}
+use Rattle.carries.specs.Telling.{sides_of}
 use Rattle.carries.proofs.CarryLemmas.{carried_of}
 use Rattle.carries.proofs.carrying.carry_kept.Goals as goal
 
@@ -50,32 +50,9 @@ returns-clause-ends g c =
     let read = c.in-Ok.ensures.ok in
     let carried = c.carry.ensures.ends in
     let chosen = c.in-Ok-choose.ensures.ok in
-    let sides : g.row.U-Reads.Denot → g.row.U-Writes.Denot → Sides = λ reads writes. record {
-      left = g.U.Reads.Source.left reads;
-      held = g.U.Writes.Sink.held writes;
-      reads = g.U.Reads.Source.faults reads;
-      writes = g.U.Writes.Sink.faults writes;
-      upper_shut = g.U.Writes.Sink.closed writes;
-      lower_shut = g.O.Sink.closed c.carry.new.output;
-    } in
-    let old : Place = record {
-      left = g.I.Source.left c.read_head.new.input;
-      kept = c.read_head.new.kept;
-      held = g.O.Sink.held c.args.output.now;
-      told = g.U.Upstream.told c.args.up.now;
-      reads = g.I.Source.faults c.read_head.new.input;
-      links = g.U.Upstream.faults c.args.up.now;
-      writes = g.O.Sink.faults c.args.output.now;
-    } in
-    let new : Place = record {
-      left = g.I.Source.left c.carry.new.input;
-      kept = carried.0 ++ c.carry.new.rooms.kept;
-      held = g.O.Sink.held c.carry.new.output;
-      told = g.U.Upstream.told c.carry.new.self;
-      reads = g.I.Source.faults c.carry.new.input;
-      links = g.U.Upstream.faults c.carry.new.self;
-      writes = g.O.Sink.faults c.carry.new.output;
-    } in (
+    let sides = sides_of g.U.Reads.Source g.U.Writes.Sink (g.O.Sink.closed c.carry.new.output) in
+    let old = place_of g.I.Source g.O.Sink g.U.Upstream c.read_head.new.input c.read_head.new.kept c.args.output.now c.args.up.now in
+    let new = place_of g.I.Source g.O.Sink g.U.Upstream c.carry.new.input (carried.0 ++ c.carry.new.rooms.kept) c.carry.new.output c.carry.new.self in (
       carried.0 ++ c.carry.new.rooms.kept,
       inr (record {
         head = read.0;

@@ -1,7 +1,8 @@
 use Rattle.std.proofs.Common.{List, ℕ, refl, sym, ◌∙◌, subst, inl, inr}
 use Rattle.upstreams.proofs.MoveLemmas.{Moves_open}
-use Rattle.proxy_core.specs.Passes.{Place, BackEnds}
-use Rattle.carries.specs.Carries.{Sides}
+use Rattle.proxy_core.specs.Passes.{BackEnds}
+use Rattle.proxy_core.specs.Telling.{place_of}
+use Rattle.carries.specs.Telling.{sides_of}
 use Rattle.carries.proofs.CarryLemmas.{link_refused, link_back, link_switched}
 use Rattle.carries.proofs.linked.carry_linked.Goals as goal
 
@@ -12,56 +13,17 @@ returns-in-Err-clause-ends g c =
       c.refuse.result,
       c.one_of.ensures,
       link_refused c.args.method.now c.args.text.now e.0 e.1
-          (record {
-            left = g.I.Source.left c.args.input.now;
-            kept = c.args.first.now;
-            held = g.O.Sink.held c.args.output.now;
-            told = g.U.Upstream.told c.args.up.now;
-            reads = g.I.Source.faults c.args.input.now;
-            links = g.U.Upstream.faults c.args.up.now;
-            writes = g.O.Sink.faults c.args.output.now;
-          })
-          (record {
-            left = g.I.Source.left c.args.input.now;
-            kept = c.args.first.now;
-            held = g.O.Sink.held c.refuse.new.output;
-            told = g.U.Upstream.told c.ask_switch.new.up;
-            reads = g.I.Source.faults c.args.input.now;
-            links = g.U.Upstream.faults c.ask_switch.new.up;
-            writes = g.O.Sink.faults c.refuse.new.output;
-          })
+          (place_of g.I.Source g.O.Sink g.U.Upstream c.args.input.now c.args.first.now c.args.output.now c.args.up.now)
+          (place_of g.I.Source g.O.Sink g.U.Upstream c.args.input.now c.args.first.now c.refuse.new.output c.ask_switch.new.up)
           c.in-Err.refusal c.refuse.result e.3 c.refuse.ensures.written refl refl e.2,
     )
 
 pub returns-then-reply-clause-ends : goal.returns-then-reply-clause-ends
 returns-then-reply-clause-ends g c =
     let x = c.in-Ok.ensures.ok in
-    let sides : g.row.U-Reads.Denot → g.row.U-Writes.Denot → Sides = λ reads writes. record {
-      left = g.U.Reads.Source.left reads;
-      held = g.U.Writes.Sink.held writes;
-      reads = g.U.Reads.Source.faults reads;
-      writes = g.U.Writes.Sink.faults writes;
-      upper_shut = g.U.Writes.Sink.closed writes;
-      lower_shut = g.O.Sink.closed c.open.new.output;
-    } in
-    let old : Place = record {
-      left = g.I.Source.left c.args.input.now;
-      kept = c.args.first.now;
-      held = g.O.Sink.held c.args.output.now;
-      told = g.U.Upstream.told c.args.up.now;
-      reads = g.I.Source.faults c.args.input.now;
-      links = g.U.Upstream.faults c.args.up.now;
-      writes = g.O.Sink.faults c.args.output.now;
-    } in
-    let new : Place = record {
-      left = g.I.Source.left c.open.new.input;
-      kept = c.args.first.now;
-      held = g.O.Sink.held c.open.new.output;
-      told = g.U.Upstream.told c.open.new.up;
-      reads = g.I.Source.faults c.open.new.input;
-      links = g.U.Upstream.faults c.open.new.up;
-      writes = g.O.Sink.faults c.open.new.output;
-    } in
+    let sides = sides_of g.U.Reads.Source g.U.Writes.Sink (g.O.Sink.closed c.open.new.output) in
+    let old = place_of g.I.Source g.O.Sink g.U.Upstream c.args.input.now c.args.first.now c.args.output.now c.args.up.now in
+    let new = place_of g.I.Source g.O.Sink g.U.Upstream c.open.new.input c.args.first.now c.open.new.output c.open.new.up in
     link_switched sides c.args.method.now c.args.text.now x.0 c.ask_switch.new.back c.as_slice-then-reply.result.now c.as_slice.result.now old new
     (g.U.Upstream.told c.ask_switch.new.up) (g.U.Upstream.faults c.ask_switch.new.up) x.1 c.in-Ok.reply.framing c.open.result
     x.2 x.5 (sym x.4 ∙ c.if-reply.true) refl c.ask_switch.ensures.counted c.open.ensures.links (sym c.open.ensures.told)
@@ -70,33 +32,9 @@ returns-then-reply-clause-ends g c =
 pub returns-clause-ends : goal.returns-clause-ends
 returns-clause-ends g c =
     let x = c.in-Ok.ensures.ok in
-    let old : Place = record {
-      left = g.I.Source.left c.args.input.now;
-      kept = c.args.first.now;
-      held = g.O.Sink.held c.args.output.now;
-      told = g.U.Upstream.told c.args.up.now;
-      reads = g.I.Source.faults c.args.input.now;
-      links = g.U.Upstream.faults c.args.up.now;
-      writes = g.O.Sink.faults c.args.output.now;
-    } in
-    let mid : Place = record {
-      left = g.I.Source.left c.args.input.now;
-      kept = c.args.first.now;
-      held = g.O.Sink.held c.args.output.now;
-      told = g.U.Upstream.told c.ask_switch.new.up;
-      reads = g.I.Source.faults c.args.input.now;
-      links = g.U.Upstream.faults c.ask_switch.new.up;
-      writes = g.O.Sink.faults c.args.output.now;
-    } in
-    let new : Place = record {
-      left = g.I.Source.left c.args.input.now;
-      kept = c.args.first.now;
-      held = g.O.Sink.held c.give_back.new.output;
-      told = g.U.Upstream.told c.give_back.new.up;
-      reads = g.I.Source.faults c.args.input.now;
-      links = g.U.Upstream.faults c.give_back.new.up;
-      writes = g.O.Sink.faults c.give_back.new.output;
-    } in
+    let old = place_of g.I.Source g.O.Sink g.U.Upstream c.args.input.now c.args.first.now c.args.output.now c.args.up.now in
+    let mid = place_of g.I.Source g.O.Sink g.U.Upstream c.args.input.now c.args.first.now c.args.output.now c.ask_switch.new.up in
+    let new = place_of g.I.Source g.O.Sink g.U.Upstream c.args.input.now c.args.first.now c.give_back.new.output c.give_back.new.up in
     inl (
       c.give_back.result,
       c.one_of-2.ensures,

@@ -1,9 +1,10 @@
 use Rattle.std.proofs.Common.{[], ◌++◌, ◌∙◌, true, refl, sym, inl, inr}
 use Rattle.upstreams.proofs.MoveLemmas.{Connects_open}
 use Rattle.proxy_core.specs.declared.refusals.Refusal.TheVariants.{Memory, Link}
-use Rattle.proxy_core.specs.Passes.{Place}
 use Rattle.proxy_wire.specs.Heads.{request_text}
-use Rattle.carries.specs.Carries.{Sides, upgrade_of}
+use Rattle.carries.specs.Carries.{upgrade_of}
+use Rattle.proxy_core.specs.Telling.{place_of}
+use Rattle.carries.specs.Telling.{sides_of}
 use Rattle.carries.proofs.CarryLemmas.{all_taken, link_as, carried_through}
 use Rattle.carries.proofs.upgraded.carry_upgrade.Goals as goal
 
@@ -49,32 +50,9 @@ pub returns-clause-ends : goal.returns-clause-ends
 returns-clause-ends g c =
     let all = c.in-Ok-take_kept.ensures.ok in
     let first = c.in-Ok-take_kept.first in
-    let sides : g.row.U-Reads.Denot → g.row.U-Writes.Denot → Sides = λ reads writes. record {
-      left = g.U.Reads.Source.left reads;
-      held = g.U.Writes.Sink.held writes;
-      reads = g.U.Reads.Source.faults reads;
-      writes = g.U.Writes.Sink.faults writes;
-      upper_shut = g.U.Writes.Sink.closed writes;
-      lower_shut = g.O.Sink.closed c.carry_linked-outcome.new.output;
-    } in
-    let old : Place = record {
-      left = g.I.Source.left c.args.input.now;
-      kept = c.args.rooms.now.kept;
-      held = g.O.Sink.held c.args.output.now;
-      told = g.U.Upstream.told c.args.up.now;
-      reads = g.I.Source.faults c.args.input.now;
-      links = g.U.Upstream.faults c.args.up.now;
-      writes = g.O.Sink.faults c.args.output.now;
-    } in
-    let new : Place = record {
-      left = g.I.Source.left c.carry_linked-outcome.new.input;
-      kept = first ++ c.take_kept.new.kept;
-      held = g.O.Sink.held c.carry_linked-outcome.new.output;
-      told = g.U.Upstream.told c.finish.new.self;
-      reads = g.I.Source.faults c.carry_linked-outcome.new.input;
-      links = g.U.Upstream.faults c.finish.new.self;
-      writes = g.O.Sink.faults c.carry_linked-outcome.new.output;
-    } in
+    let sides = sides_of g.U.Reads.Source g.U.Writes.Sink (g.O.Sink.closed c.carry_linked-outcome.new.output) in
+    let old = place_of g.I.Source g.O.Sink g.U.Upstream c.args.input.now c.args.rooms.now.kept c.args.output.now c.args.up.now in
+    let new = place_of g.I.Source g.O.Sink g.U.Upstream c.carry_linked-outcome.new.input (first ++ c.take_kept.new.kept) c.carry_linked-outcome.new.output c.finish.new.self in
     let linked = g.U.Upstream.told c.connect.new.self in
     let moved = g.U.Upstream.told c.carry_linked-outcome.new.up in
     let links = g.U.Upstream.faults c.connect.new.self in (
