@@ -21,13 +21,13 @@ positional_rule id = record (new_rule id) { required = true }
 abbrev pub flag_rule : Text → Rule
 flag_rule id = record (new_rule id) { long = Some id; action = Some SetTrue }
 
--- [--id VALUE]
+-- [--id VALUE], where help has a name for the value
 abbrev pub choice_rule : Text → Rule
-choice_rule id = record (new_rule id) { long = Some id }
+choice_rule id = record (new_rule id) { long = Some id; value_names = 1 }
 
 -- --id VALUE
 abbrev pub needed_choice_rule : Text → Rule
-needed_choice_rule id = record (new_rule id) { long = Some id; required = true }
+needed_choice_rule id = record (new_rule id) { long = Some id; value_names = 1; required = true }
 
 -- a flag that is given has the value `true`
 abbrev pub is_true : Option Text → Bool

@@ -1,4 +1,5 @@
-//! A command and its matches, as `clap` has them: what the words of all commands have in common.
+//! A command and its matches, as `clap` has them: what the words of all commands have in common. An argument has a text for people, which
+//! changes nothing of what is read: contracts speak of rules, which have none.
 ghost use Rattle.std.specs.Prelude.{◌≡◌, ◌≢◌, true, false, [], map, IfOk, IfErr, OnOk, option_map};
 ghost use Rattle.clap.specs.Faults.{fault_of, is_simple_and_free};
 ghost use Rattle.clap.specs.Matches.{found_of};
@@ -34,11 +35,15 @@ pub(crate) fn texts_of<'a>(alloc: Global, words: &'a [Text]) -> Result<Vec<&'a s
     Ok(texts)
 }
 
-/// A command without arguments.
-pub(crate) fn begun<'a>(alloc: Global, name: &'a str) -> Result<Command<'a>, AllocError>
+/// A command without arguments, and what it is for.
+pub(crate) fn begun<'a>(
+    alloc: Global,
+    name: &'a str,
+    about: &'a str,
+) -> Result<Command<'a>, AllocError>
     ensures { Makes (new_app name.entry.now) result }
 {
-    Ok(Command::new(alloc, name))
+    Ok(Command::new(alloc, name).about(about))
 }
 
 /// Adds an argument to a command.
@@ -68,10 +73,11 @@ pub(crate) fn positional<'a>(
     alloc: Global,
     command: Result<Command<'a>, AllocError>,
     id: &'a str,
+    text: &'a str,
 ) -> Result<Command<'a>, AllocError>
     ensures { (app : App) → Makes app command.entry → Makes (with_rule app (spec.positional_rule id.entry.now)) result }
 {
-    add(command, Arg::new(alloc, id).required(true))
+    add(command, Arg::new(alloc, id).help(text).required(true))
 }
 
 /// Adds an option without a value.
@@ -79,24 +85,33 @@ pub(crate) fn flag<'a>(
     alloc: Global,
     command: Result<Command<'a>, AllocError>,
     id: &'a str,
+    text: &'a str,
 ) -> Result<Command<'a>, AllocError>
     ensures { (app : App) → Makes app command.entry → Makes (with_rule app (spec.flag_rule id.entry.now)) result }
 {
     add(
         command,
-        Arg::new(alloc, id).long(id).action(ArgAction::SetTrue),
+        Arg::new(alloc, id)
+            .help(text)
+            .long(id)
+            .action(ArgAction::SetTrue),
     )
 }
 
-/// Adds an option with a value, which may lack.
+/// Adds an option with a value, which may lack. `value` is what people call the value.
 pub(crate) fn choice<'a>(
     alloc: Global,
     command: Result<Command<'a>, AllocError>,
     id: &'a str,
+    value: &'a str,
+    text: &'a str,
 ) -> Result<Command<'a>, AllocError>
     ensures { (app : App) → Makes app command.entry → Makes (with_rule app (spec.choice_rule id.entry.now)) result }
 {
-    add(command, Arg::new(alloc, id).long(id))
+    add(
+        command,
+        Arg::new(alloc, id).help(text).value_name(value).long(id),
+    )
 }
 
 /// Adds an option with a value, which has to be there.
@@ -104,10 +119,19 @@ pub(crate) fn needed_choice<'a>(
     alloc: Global,
     command: Result<Command<'a>, AllocError>,
     id: &'a str,
+    value: &'a str,
+    text: &'a str,
 ) -> Result<Command<'a>, AllocError>
     ensures { (app : App) → Makes app command.entry → Makes (with_rule app (spec.needed_choice_rule id.entry.now)) result }
 {
-    add(command, Arg::new(alloc, id).long(id).required(true))
+    add(
+        command,
+        Arg::new(alloc, id)
+            .help(text)
+            .value_name(value)
+            .long(id)
+            .required(true),
+    )
 }
 
 /// The matches of the words, the first of which `clap` takes for the program's name.

@@ -14,6 +14,25 @@ use hub_kit::target::Target;
 use hub_kit::text::Text;
 use std::alloc::{AllocError, Global};
 
+/// What people are told of the command and of its words.
+const ABOUT: &str = "Stops servers that nobody uses, in rounds";
+
+const HUB: &str = "Where the hub is, as http://HOST:PORT";
+
+const TOKEN_FILE: &str = "The file with the token for the hub";
+
+const TIMEOUT: &str = "How many seconds a server may be idle [default: 600]";
+
+const MAX_AGE: &str = "How many seconds old a server may be; 0 is any age [default: 0]";
+
+const CULL_USERS: &str = "Deletes users too who are idle, no admins, and have no server";
+
+const REMOVE_NAMED_SERVERS: &str = "Removes a named server once it is stopped";
+
+const CULL_EVERY: &str = "Seconds between two rounds [default: half of --timeout]";
+
+const ROUNDS: &str = "Ends after so many rounds [default: no end]";
+
 /// What the words of `cull` say. Times are numbers of seconds.
 #[derive(Drop)]
 pub struct CullWords {
@@ -55,15 +74,15 @@ impl CommandWords for CullWords {
     ghost says = { spec.cull_of };
 
     fn command<'a>(alloc: Global) -> Result<Command<'a>, AllocError> {
-        let command = begun(alloc, "cull");
-        let command = needed_choice(alloc, command, "hub");
-        let command = needed_choice(alloc, command, "token-file");
-        let command = choice(alloc, command, "timeout");
-        let command = choice(alloc, command, "max-age");
-        let command = flag(alloc, command, "cull-users");
-        let command = flag(alloc, command, "remove-named-servers");
-        let command = choice(alloc, command, "cull-every");
-        choice(alloc, command, "rounds")
+        let command = begun(alloc, "cull", ABOUT);
+        let command = needed_choice(alloc, command, "hub", "URL", HUB);
+        let command = needed_choice(alloc, command, "token-file", "FILE", TOKEN_FILE);
+        let command = choice(alloc, command, "timeout", "S", TIMEOUT);
+        let command = choice(alloc, command, "max-age", "S", MAX_AGE);
+        let command = flag(alloc, command, "cull-users", CULL_USERS);
+        let command = flag(alloc, command, "remove-named-servers", REMOVE_NAMED_SERVERS);
+        let command = choice(alloc, command, "cull-every", "S", CULL_EVERY);
+        choice(alloc, command, "rounds", "N", ROUNDS)
     }
 
     fn of(alloc: Global, matches: &ArgMatches) -> Result<CullWords, WordError> {

@@ -16,6 +16,19 @@ use hub_kit::target::Target;
 use hub_kit::text::Text;
 use std::alloc::{AllocError, Global};
 
+/// What people are told of the command and of its words.
+const ABOUT: &str = "Stands before a server, and lets in whom the hub allows";
+
+const LISTEN: &str = "The address of the guard";
+
+const FOR: &str = "The server that it guards, as ann/ or ann/lab";
+
+const HUB: &str = "Where the hub is, as http://HOST:PORT";
+
+const TARGET: &str = "Where the server listens, as http://HOST:PORT";
+
+const SECRET_FILE: &str = "The file with the server's secret; with it browsers sign in";
+
 /// What the words of `guard` say: whose server is guarded, and where all stand.
 #[derive(Drop)]
 pub struct GuardWords {
@@ -47,12 +60,12 @@ impl CommandWords for GuardWords {
     ghost says = { spec.guard_of };
 
     fn command<'a>(alloc: Global) -> Result<Command<'a>, AllocError> {
-        let command = begun(alloc, "guard");
-        let command = needed_choice(alloc, command, "listen");
-        let command = needed_choice(alloc, command, "for");
-        let command = needed_choice(alloc, command, "hub");
-        let command = needed_choice(alloc, command, "target");
-        choice(alloc, command, "secret-file")
+        let command = begun(alloc, "guard", ABOUT);
+        let command = needed_choice(alloc, command, "listen", "HOST:PORT", LISTEN);
+        let command = needed_choice(alloc, command, "for", "USER/SERVER", FOR);
+        let command = needed_choice(alloc, command, "hub", "URL", HUB);
+        let command = needed_choice(alloc, command, "target", "URL", TARGET);
+        choice(alloc, command, "secret-file", "FILE", SECRET_FILE)
     }
 
     fn of(alloc: Global, matches: &ArgMatches) -> Result<GuardWords, WordError> {

@@ -14,6 +14,13 @@ use clap::{ArgMatches, Command};
 use hub_kit::text::Text;
 use std::alloc::{AllocError, Global};
 
+/// What people are told of the command and of its words.
+const ABOUT: &str = "Puts a hub in memory under a large load, to measure it";
+
+const SEED: &str = "Which user each one asks for, by lot: 0 to 65536";
+
+const N: &str = "How many users there are: 1 to 20000";
+
 /// What the words of `load` say.
 #[derive(Drop)]
 pub struct LoadWords {
@@ -40,9 +47,9 @@ impl CommandWords for LoadWords {
     ghost says = { spec.load_of };
 
     fn command<'a>(alloc: Global) -> Result<Command<'a>, AllocError> {
-        let command = begun(alloc, "load");
-        let command = positional(alloc, command, "SEED");
-        positional(alloc, command, "N")
+        let command = begun(alloc, "load", ABOUT);
+        let command = positional(alloc, command, "SEED", SEED);
+        positional(alloc, command, "N", N)
     }
 
     fn of(alloc: Global, matches: &ArgMatches) -> Result<LoadWords, WordError> {

@@ -14,6 +14,15 @@ use clap::{ArgMatches, Command};
 use hub_kit::text::Text;
 use std::alloc::{AllocError, Global};
 
+/// What people are told of the command and of its words.
+const ABOUT: &str = "Forwards browsers to the hub and to servers";
+
+const LISTEN: &str = "The address for browsers";
+
+const API: &str = "The address where the hub sets routes";
+
+const SECRET_FILE: &str = "The file with the secret for setting routes";
+
 /// What the words of `proxy` say.
 pub struct ProxyWords {
     /// The address of the browsers' side.
@@ -51,10 +60,10 @@ impl CommandWords for ProxyWords {
     ghost says = { spec.proxy_of };
 
     fn command<'a>(alloc: Global) -> Result<Command<'a>, AllocError> {
-        let command = begun(alloc, "proxy");
-        let command = needed_choice(alloc, command, "listen");
-        let command = needed_choice(alloc, command, "api");
-        needed_choice(alloc, command, "secret-file")
+        let command = begun(alloc, "proxy", ABOUT);
+        let command = needed_choice(alloc, command, "listen", "HOST:PORT", LISTEN);
+        let command = needed_choice(alloc, command, "api", "HOST:PORT", API);
+        needed_choice(alloc, command, "secret-file", "FILE", SECRET_FILE)
     }
 
     fn of(alloc: Global, matches: &ArgMatches) -> Result<ProxyWords, WordError> {

@@ -14,6 +14,19 @@ use clap::{ArgMatches, Command};
 use hub_kit::text::Text;
 use std::alloc::{AllocError, Global};
 
+/// What people are told of the command and of its words.
+const ABOUT: &str = "Runs a hub: answers its calls, starts servers and services";
+
+const CONFIG: &str = "The file of configuration";
+
+const DB: &str = "The SQLite file of the rows, made if need be [default: memory]";
+
+const NO_TRAIL: &str = "Keeps no history of changes, which grows until it is full";
+
+const WORKERS: &str = "How many connections are served at once: 1 to 16 [default: 4]";
+
+const CONNECTIONS: &str = "Ends after so many connections [default: no end]";
+
 /// What the words of `serve` say.
 #[derive(Drop)]
 pub struct ServeWords {
@@ -47,12 +60,12 @@ impl CommandWords for ServeWords {
     ghost says = { spec.serve_of };
 
     fn command<'a>(alloc: Global) -> Result<Command<'a>, AllocError> {
-        let command = begun(alloc, "serve");
-        let command = needed_choice(alloc, command, "config");
-        let command = choice(alloc, command, "db");
-        let command = flag(alloc, command, "no-trail");
-        let command = choice(alloc, command, "workers");
-        choice(alloc, command, "connections")
+        let command = begun(alloc, "serve", ABOUT);
+        let command = needed_choice(alloc, command, "config", "FILE", CONFIG);
+        let command = choice(alloc, command, "db", "FILE", DB);
+        let command = flag(alloc, command, "no-trail", NO_TRAIL);
+        let command = choice(alloc, command, "workers", "N", WORKERS);
+        choice(alloc, command, "connections", "N", CONNECTIONS)
     }
 
     fn of(alloc: Global, matches: &ArgMatches) -> Result<ServeWords, WordError> {

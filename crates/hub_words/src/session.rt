@@ -16,6 +16,23 @@ use hub_kit::names::UserName;
 use hub_kit::text::Text;
 use std::alloc::{AllocError, Global};
 
+/// What people are told of the command and of its words.
+const ABOUT: &str = "Serves one connection, on standard input and output";
+
+const NOW: &str = "The moment of its clock, in seconds since 1970";
+
+const USER: &str = "A user, who is made if need be";
+
+const TOKEN: &str = "A token of the user: 8 to 255 visible ASCII characters";
+
+const ADMIN: &str = "The user is an admin";
+
+const CONFIG: &str = "The file of configuration [default: none]";
+
+const DB: &str = "The SQLite file of the rows, made if need be [default: memory]";
+
+const NO_TRAIL: &str = "Keeps no history of changes, which grows until it is full";
+
 /// What the words of `session` say: the moment of the session's clock, a user, and a token of this user.
 pub struct SessionWords {
     pub now: Moment,
@@ -64,14 +81,14 @@ impl CommandWords for SessionWords {
     ghost says = { spec.session_of };
 
     fn command<'a>(alloc: Global) -> Result<Command<'a>, AllocError> {
-        let command = begun(alloc, "session");
-        let command = positional(alloc, command, "NOW");
-        let command = positional(alloc, command, "USER");
-        let command = positional(alloc, command, "TOKEN");
-        let command = flag(alloc, command, "admin");
-        let command = choice(alloc, command, "config");
-        let command = choice(alloc, command, "db");
-        flag(alloc, command, "no-trail")
+        let command = begun(alloc, "session", ABOUT);
+        let command = positional(alloc, command, "NOW", NOW);
+        let command = positional(alloc, command, "USER", USER);
+        let command = positional(alloc, command, "TOKEN", TOKEN);
+        let command = flag(alloc, command, "admin", ADMIN);
+        let command = choice(alloc, command, "config", "FILE", CONFIG);
+        let command = choice(alloc, command, "db", "FILE", DB);
+        flag(alloc, command, "no-trail", NO_TRAIL)
     }
 
     fn of(alloc: Global, matches: &ArgMatches) -> Result<SessionWords, WordError> {
