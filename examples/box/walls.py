@@ -1,7 +1,8 @@
 """The walls of a box: a network of its own, and by bubblewrap files, processes and system calls of its own."""
-import ctypes, errno, fcntl, os, shutil, socket, struct, tempfile
+import ctypes, errno, fcntl, os, shutil, signal, socket, struct, tempfile
 
-CLONE_NEWUSER, CLONE_NEWNET, PR_SET_CHILD_SUBREAPER, PR_SET_NO_NEW_PRIVS = 0x10000000, 0x40000000, 36, 38
+CLONE_NEWUSER, CLONE_NEWNET = 0x10000000, 0x40000000
+PR_SET_PDEATHSIG, PR_SET_CHILD_SUBREAPER, PR_SET_NO_NEW_PRIVS = 1, 36, 38
 SIOCSIFFLAGS, IFF_UP = 0x8914, 1
 libc = ctypes.CDLL(None, use_errno=True)
 
@@ -71,6 +72,13 @@ def enter_network():
     for what in (PR_SET_NO_NEW_PRIVS, PR_SET_CHILD_SUBREAPER):
         if libc.prctl(what, 1, 0, 0, 0):
             raise OSError(ctypes.get_errno(), "prctl")
+
+
+def end_with(parent):
+    """Runs in a new process: it is killed where its parent ends, also in the moment before bubblewrap says so itself."""
+    libc.prctl(PR_SET_PDEATHSIG, signal.SIGKILL, 0, 0, 0)
+    if os.getppid() != parent:
+        os._exit(1)
 
 
 def filter_file():
