@@ -1,0 +1,7 @@
+// Shows the page of this address. What it needs beside the frame is read with it.
+const pages = {
+  '/': () => import('./home.js'), '/home': () => import('./home.js'), '/share': () => import('./share.js'),
+  '/tokens': () => import('./tokens.js'), '/people': () => import('./people.js'), '/sign-in': () => import('./sign-in.js'),
+}
+const shown = await pages[location.pathname]()
+await shown.show()

@@ -1,0 +1,159 @@
+// The users whom the reader may see, fifty at a time, with their servers.
+import {ask, page, path, serverPath, start} from './hub.js'
+import {button, field, input, lines, make, moment, section, table} from './dom.js'
+import {carry, sure, tell, why} from './frame.js'
+import {say} from './texts.js'
+import {enters, holds, runs} from './rights.js'
+import site from './site.js'
+
+const SIZE = 50
+const faults = {'live servers': 'people.live', spawner: 'home.spawner', 'pending stop': 'home.parked'}
+const called = server => server || say('home.default')
+let me, rights = {}, offset = 0, shown
+
+const again = () => list(offset)
+
+function act(label, style, spoken, job) {
+  return button(label, style, event => carry(event.target, async () => {
+    const done = await job()
+    await again()
+    return done
+  }, faults), spoken)
+}
+
+function liveServer(user, server, its) {
+  const line = make('div', {class: 'buttons', 'data-server': user + '/' + server})
+  const state = its.pending ?? (its.ready ? 'ready' : 'spawn')
+  line.append(make('span', {}, called(server)), make('span', {class: 'badge state-' + state}, say('home.state.' + state)))
+  return line
+}
+
+function openLink(user, server, its) {
+  const spoken = say('home.open.of', {server: its.url})
+  return make('a', {href: site.servers + its.url, class: 'btn btn-primary', 'aria-label': spoken}, say('home.open'))
+}
+
+function stopButton(name, server) {
+  return act(say('home.stop'), 'btn-outline-danger', say('home.stop.of', {server: name + '/' + server}), async () => {
+    await ask('DELETE', serverPath(name, server))
+    return say('people.stopped', {name, server: called(server)})
+  })
+}
+
+function startButton(name) {
+  return act(say('home.start'), 'btn-primary', say('home.start.of', {server: name + '/'}), async () => {
+    await start(name, '', () => tell(say('working')))
+    return say('people.started', {name})
+  })
+}
+
+/** The buttons of a user's servers: they come once it is known that the reader may press them. */
+async function fillServers(cell, user) {
+  const servers = Object.entries(user.servers), may = await runs(me, user.name)
+  for (const [server, its] of servers) {
+    const line = cell.querySelector(`[data-server="${CSS.escape(user.name + '/' + server)}"]`)
+    if (its.ready && (me.admin || await enters(me, user.name, server))) line.append(openLink(user.name, server, its))
+    if (may) line.append(stopButton(user.name, server))
+  }
+  if (may && !user.servers['']) cell.append(startButton(user.name))
+}
+
+function adminButton(user) {
+  const name = user.name, spoken = `${say(user.admin ? 'people.admin.take' : 'people.admin.make')}: ${name}`
+  return button(say(user.admin ? 'people.admin.take' : 'people.admin.make'), 'btn-outline-secondary', async event => {
+    if (!user.admin && !await sure(say('people.admin.sure', {name}), say('people.admin.make'))) return
+    carry(event.target, async () => {
+      await ask('PATCH', path('users', name), {admin: !user.admin})
+      await again()
+      return say(user.admin ? 'people.admin.taken' : 'people.admin.made', {name})
+    })
+  }, spoken)
+}
+
+function deleteButton(name) {
+  return button(say('people.delete.user'), 'btn-outline-danger', async event => {
+    if (await sure(say('people.delete.sure', {name}), say('people.delete.user'))) carry(event.target, async () => {
+      await ask('DELETE', path('users', name))
+      await again()
+      return say('people.deleted', {name})
+    }, {'live servers': say('people.live', {name})})
+  }, `${say('people.delete.user')}: ${name}`)
+}
+
+function more(user) {
+  const does = [rights.change && user.name != me.name && adminButton(user), rights.remove && user.name != me.name && deleteButton(user.name)]
+  if (!does.some(it => it)) return ''
+  const opened = make('summary', {'aria-label': say('people.more', {name: user.name})}, say('people.more.short'))
+  return make('details', {}, opened, make('div', {class: 'buttons'}, ...does))
+}
+
+function userRow(user) {
+  const servers = make('td', {}, ...Object.entries(user.servers ?? {}).map(([server, its]) => liveServer(user.name, server, its)))
+  const name = make('th', {scope: 'row'}, user.name, user.admin && ' ', user.admin && make('span', {class: 'badge'}, say('people.admin')))
+  const cells = [(user.groups ?? []).join(', '), 'last_activity' in user ? moment(user.last_activity) : '']
+  const made = make('tr', {'data-user': user.name}, name, ...cells.map(cell => make('td', {}, cell)), servers, make('td', {}, more(user)))
+  if (user.servers) fillServers(servers, user).catch(fault => tell(why(fault), true))
+  return made
+}
+
+async function list(from) {
+  const {items, total} = await page('/users', from, SIZE)
+  if (!items.length && from) return list(Math.max(0, from - SIZE))
+  offset = from
+  const heads = ['name', 'groups', 'active', 'servers', 'do'].map(name => say('people.col.' + name))
+  const range = say('people.range', {from: total ? from + 1 : 0, to: from + items.length, total})
+  const before = button(say('people.before'), 'btn-outline-secondary', () => list(Math.max(0, from - SIZE)))
+  const after = button(say('people.after'), 'btn-outline-secondary', () => list(from + SIZE))
+  before.disabled = !from
+  after.disabled = from + items.length >= total
+  const pages = make('nav', {class: 'buttons', 'aria-label': say('people.pages')}, before, make('span', {role: 'status'}, range), after)
+  shown.replaceChildren(pages, table(say('people.users'), heads, items.map(userRow), 'people'))
+  performance.mark('users shown')
+}
+
+/** The place of the first name that isn't before this one: the list is in the order of names, so it is found by halves. */
+async function placeOf(wanted) {
+  let low = 0, high = (await page('/users', 0, 1)).total
+  while (low < high) {
+    const middle = (low + high) >> 1, {items} = await page('/users', middle, 1)
+    if (items.length && items[0].name < wanted) low = middle + 1
+    else high = middle
+  }
+  return low
+}
+
+function find() {
+  const name = input({name: 'find', type: 'search', autocapitalize: 'none', spellcheck: 'false'})
+  const press = make('button', {class: 'btn btn-outline-primary'}, say('people.find.do'))
+  const found = async () => {
+    const wanted = name.value.trim().toLowerCase()
+    await list(await placeOf(wanted))
+    return shown.querySelector('tbody th')?.textContent.startsWith(wanted) ? '' : say('people.find.none')
+  }
+  const sent = event => { event.preventDefault(); carry(press, found) }
+  return make('form', {class: 'line', role: 'search', onsubmit: sent}, field(say('people.find'), name), press)
+}
+
+function add() {
+  const names = make('textarea', {class: 'form-control', rows: 4, name: 'names', required: true, autocapitalize: 'none', spellcheck: 'false'})
+  const admin = make('input', {type: 'checkbox', class: 'form-check-input', id: 'as-admins'})
+  const press = make('button', {class: 'btn btn-primary'}, say('people.add.do'))
+  const done = async () => {
+    const made = await ask('POST', '/users', {usernames: [...new Set(lines(names))], admin: admin.checked})
+    names.value = ''
+    await again()
+    return say('people.added', {count: made.length, names: made.map(its => its.name).join(', ')})
+  }
+  const tick = make('div', {class: 'form-check'}, admin, make('label', {for: 'as-admins', class: 'form-check-label'}, say('people.add.admin')))
+  const sent = event => { event.preventDefault(); carry(press, done, {409: 'people.all'}) }
+  const form = make('form', {class: 'card narrow', onsubmit: sent}, field(say('people.add.names'), names, say('people.add.login')), tick, press)
+  return section(say('people.add'), form)
+}
+
+export async function fill(panel, reader) {
+  me = reader
+  shown = make('div', {})
+  rights = {change: await holds('admin:users', me), remove: await holds('delete:users', me)}
+  panel.replaceChildren(find(), shown, rights.change ? add() : '')
+  await list(0)
+}
