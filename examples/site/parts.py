@@ -47,8 +47,9 @@ PROXY = int(os.environ.get("SITE_PORT") or TOLD.get("port") or 8000)
 API, HOME, HUB, SERVERS, ROLL, FIRST = (PROXY + more for more in (1, 80, 81, 90, 95, 1001))
 # a server's guard listens at its target's port, and the notebook behind it so much higher
 BEHIND = 100
-# where the front listens, and where browsers find its page and its servers
-LISTEN, PUBLIC, PUBLIC_SERVERS = TOLD.get("listen", ADDRESS), TOLD.get("public", url(HOME)), TOLD.get("servers", url(SERVERS))
+# where the front listens, and where browsers find its pages and its servers: under two names, since a cookie is sent to all ports of one
+LISTEN, PUBLIC = TOLD.get("listen", ADDRESS), TOLD.get("public", f"http://localhost:{HOME}")
+PUBLIC_SERVERS = TOLD.get("servers", url(SERVERS))
 
 
 def read(name):
