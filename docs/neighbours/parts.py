@@ -65,6 +65,17 @@ def ask(port, method, path, token=None, body=None, most=90, **headers):
         line.close()
 
 
+def left():
+    """The programs that a hub started from this folder and couldn't end."""
+    for number in filter(str.isdigit, os.listdir("/proc")):
+        try:
+            with open(f"/proc/{number}/cmdline") as words:
+                if folder in words.read() and int(number) != os.getpid():
+                    yield int(number)
+        except OSError:
+            pass
+
+
 def run(job):
     """Runs a script's job, ends what it started, and ends with status 1 where something fails."""
     try:
@@ -78,6 +89,8 @@ def run(job):
                     break
                 except (OSError, subprocess.TimeoutExpired):
                     pass
+        for number in left():
+            os.kill(number, signal.SIGKILL)
         for name in sorted(os.listdir(folder)) if failed else []:
             if name.endswith(".log"):
                 with open(f"{folder}/{name}") as log:
