@@ -7,14 +7,16 @@ use Rattle.route_table.specs.Table.{Table}
 use Rattle.route_desk.specs.declared.step.Step.{Step}
 use Rattle.worker_hall.specs.Shifts.{AreServed}
 use Rattle.worker_hall.proofs.ShiftLemmas.{served_long}
-use Rattle.proxy_serving.specs.Workers.{IsUnused, KitsServed, OverOneTable, split_from}
+use Rattle.proxy_serving.specs.Workers.{IsUnused, KitsServed, OverOneTable, most_paths, split_from}
 
 -- what is split off the first pass of a new table was never used
-pub opened_unused : (desk : TableId) (table : Table) (p : PassState Step Table) → p ≡ opening desk table [] 0 → table.rows ≡ empty → IsUnused (split_from p)
-opened_unused desk table p is bare = record {
+pub opened_unused : (desk : TableId) (table : Table) (p : PassState Step Table) → p ≡ opening desk table [] 0 → table.rows ≡ empty → table.limit ≡ most_paths
+    → IsUnused (split_from p)
+opened_unused desk table p is bare limit = record {
   table = table;
   base = ap (λ q. q.base) is;
   bare = bare;
+  limit = limit;
   seen = ap (λ q. q.seen) is;
   mine = refl;
 }

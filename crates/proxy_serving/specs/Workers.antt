@@ -9,11 +9,16 @@ use Rattle.route_desk.specs.declared.step.Step.{Step}
 abbrev pub split_from : {E A : Type 0} → PassState E A → PassState E A
 split_from p = fresh p.of p.base p.seen p.faults
 
--- A pass by which nothing was asked yet, of a table that began with no route and has seen no step
+-- how many paths a table of routes has at most
+abbrev pub most_paths : ℕ
+most_paths = 1048576
+
+-- A pass by which nothing was asked yet, of a table for so many paths that began with no route and has seen no step
 pub record IsUnused (p : PassState Step Table) : Type 0 where
   pub table : Table
   pub base : p.base ≡ Some table
   pub bare : table.rows ≡ empty
+  pub limit : table.limit ≡ most_paths
   pub seen : p.seen ≡ []
   pub mine : p.mine ≡ []
 

@@ -6,7 +6,7 @@ use Rattle.proxy_serving.proofs.serving.serve_proxy.Goals as goal
 pub returns-clause-served : goal.returns-clause-served
 returns-clause-served g c =
     let opened = c.in-Ok.opened in
-    over_one _ _ _ (split_from opened.1) (opened_unused opened.0 c.new.result opened.1 c.in-Ok.ensures c.new.ensures.rows) c.serve_over.ensures.served
+    over_one _ _ _ (split_from opened.1) (opened_unused opened.0 c.new.result opened.1 c.in-Ok.ensures c.new.ensures.rows c.new.ensures.limit) c.serve_over.ensures.served
 
 pub returns-in-Err-clause-served : goal.returns-in-Err-clause-served
 returns-in-Err-clause-served g c = inl (search rules, search rules, search rules, search rules)
