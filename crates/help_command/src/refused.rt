@@ -1,0 +1,28 @@
+//! Whether any command takes words.
+use hub_kit::text::Text;
+use hub_words::cull::read_cull;
+use hub_words::guard::read_guard;
+use hub_words::load::read_load;
+use hub_words::proxy::read_proxy;
+use hub_words::serve::read_serve;
+use hub_words::session::read_session;
+use hub_words::word_error::WordError;
+use std::alloc::Global;
+
+/// Whether a reader refused its words.
+fn is_refused<W: Drop>(read: Result<W, WordError>) -> bool {
+    match read {
+        Ok(_) | Err(WordError::Memory) => false,
+        Err(WordError::Refused) => true,
+    }
+}
+
+/// Whether each command refuses these words. Not where memory is wanting.
+pub fn are_refused(alloc: Global, words: &[Text]) -> bool {
+    is_refused(read_serve(alloc, words))
+        && is_refused(read_proxy(alloc, words))
+        && is_refused(read_guard(alloc, words))
+        && is_refused(read_cull(alloc, words))
+        && is_refused(read_session(alloc, words))
+        && is_refused(read_load(alloc, words))
+}
