@@ -4,6 +4,7 @@
 
 use cull_command::cull;
 use guard_command::guard;
+use help_command::told;
 use hub_edge::output::say;
 use hub_edge::standard::{self, NoWords};
 use hub_store::command::run_over_file;
@@ -24,12 +25,17 @@ fn status(rt: HostRuntime, ran: Result<ExitCode, AllocError>) -> ExitCode {
 }
 
 fn main(rt: HostRuntime) -> ExitCode {
+    // a system without /dev/null is no reason not to run
+    let _ = standard::keep_standard(&rt);
     let words = match standard::words(&rt) {
         Ok(words) => words,
         Err(NoWords::NoText) => return say(&rt, 2, "a word is no UTF-8"),
         Err(NoWords::Memory) => return say(&rt, 7, "there is no memory"),
     };
     let words = words.as_slice();
+    if let Some(code) = told(&rt, words) {
+        return code;
+    }
     match words {
         [first, ..] if first.as_str() == "serve" => serve(rt, rt, words, Unknown),
         [first, ..] if first.as_str() == "proxy" => proxy(rt, &rt, words),

@@ -11,7 +11,7 @@ use crate::system::ServeSystem;
 use crate::telling::{announce, tell_left, tell_refused, tell_served};
 use hub_devices::files::Files;
 use hub_edge::clock::SystemClock;
-use hub_edge::ending::close_at_end_of_input;
+use hub_edge::ending::{close_at_end_of_input, close_at_signal};
 use hub_edge::files::SystemFiles;
 use hub_edge::listener::{Closer, SocketListener};
 use hub_edge::output::{Output, say};
@@ -97,7 +97,7 @@ fn new_kits<H: Threads + Wait + Copy + Send + Sync>(
     Ok(kits)
 }
 
-/// The listener, and what closes it. It is closed where standard input ends.
+/// The listener, and what closes it. It is closed where standard input ends, if somebody holds it, and where a signal asks for the end.
 fn open_listener<H: Threads + Wait>(
     rt: HostRuntime,
     handle: &H,
@@ -106,6 +106,7 @@ fn open_listener<H: Threads + Wait>(
     let listener = SocketListener::bind(rt, address.as_str())?;
     let closer = listener.closer()?;
     close_at_end_of_input(rt, handle, listener.closer()?)?;
+    close_at_signal(rt, handle, listener.closer()?)?;
     Ok((listener, closer))
 }
 
@@ -134,7 +135,7 @@ fn outside<K: ProgramStore + Send, H: Threads + Wait + Copy + Send + Sync>(
     })
 }
 
-/// The status. A listener that was closed since standard input ended hasn't failed.
+/// The status. A listener that was closed on purpose hasn't failed.
 fn status_at_end(status: u8, end: &Option<End>, closed: bool) -> u8
     ensures { IfSome end.now (λ e. result ≡ forgiven_status closed e) }
 {
