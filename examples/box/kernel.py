@@ -11,7 +11,7 @@ class Kernel:
             cookie = re.search("_xsrf=([^;]+)", reply.headers["Set-Cookie"])[1]
         self.own |= {"Cookie": f"_xsrf={cookie}", "X-XSRFToken": cookie}
         made = urllib.request.Request(f"{self.base}/api/kernels", b'{"name": "python3"}', {**self.own, "Content-Type": "application/json"})
-        with urllib.request.urlopen(made, timeout=60) as reply:
+        with urllib.request.urlopen(made, timeout=180) as reply:
             self.number = json.load(reply)["id"]
 
     async def hear(self, source, most, say):
@@ -21,7 +21,7 @@ class Kernel:
         content = {"code": source, "silent": False, "store_history": False, "user_expressions": {}, "allow_stdin": False}
         request = {"header": header, "parent_header": {}, "metadata": {}, "content": content, "channel": "shell"}
         until = time.monotonic() + most
-        async with websockets.connect(place, extra_headers=self.own, max_size=None, open_timeout=60) as line:
+        async with websockets.connect(place, extra_headers=self.own, max_size=None, open_timeout=180) as line:
             await line.send(json.dumps(request))
             while time.monotonic() < until:
                 try:
