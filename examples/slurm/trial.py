@@ -86,9 +86,10 @@ def private(file, text, mode=0o600):
 
 
 class Hub:
-    """A hub over a file, a proxy, and the watcher of examples/site."""
-    def __init__(self, folder, command, seats, groups):
+    """A hub over a file, a proxy, and the watcher of examples/site, by an account, which the folder is given to."""
+    def __init__(self, folder, command, seats, groups, account="root"):
         self.folder, self.hold, self.parts, self.copy = folder, None, {}, f"{folder}/secrets-that-were-drawn"
+        self.who = {"user": account, "group": account, "extra_groups": [], "env": {**os.environ, "HOME": folder}}
         people = [name for names in groups.values() for name in names]
         # the program that is started keeps a copy of the secret, so that this check can look for it
         wrap = ("import os, sys; line = sys.stdin.buffer.readline(); open(sys.argv[1], 'ab').write(line); get, put = os.pipe(); "
@@ -108,10 +109,12 @@ class Hub:
             private(f"{folder}/{name}-token", f"token-of-{name}\n")
         private(f"{folder}/hub.toml", text)
         private(f"{folder}/proxy-secret", "secret-of-the-proxy\n")
+        run("chown", "-R", f"{account}:", folder)
 
     def launch(self, name, words, **more):
         with open(f"{self.folder}/{name}.log", "a") as log:
-            self.parts[name] = subprocess.Popen(words, stderr=log, cwd=self.folder, start_new_session=True, **{"stdout": log, **more})
+            ways = {**self.who, "stdout": log, "stderr": log, "cwd": self.folder, "start_new_session": True, **more}
+            self.parts[name] = subprocess.Popen(words, **ways)
 
     def start_proxy(self):
         words = [PROGRAM, "proxy", "--listen", f"127.0.0.1:{PROXY}", "--api", f"127.0.0.1:{API}", "--secret-file", "proxy-secret"]
@@ -132,13 +135,13 @@ class Hub:
         os.close(self.hold)
 
     def watch(self, every):
-        environment = {**os.environ, "SITE": self.folder, "SITE_PORT": str(PROXY), "SITE_WATCH": str(every)}
+        environment = {**self.who["env"], "SITE": self.folder, "SITE_PORT": str(PROXY), "SITE_WATCH": str(every)}
         words = [sys.executable, "-B", f"{HERE}/../site/watcher", "watcher-token"]
         self.launch("watcher", words, env=environment, stdin=subprocess.DEVNULL)
 
     def cull(self, idle):
         words = ["cull", "--hub", f"http://127.0.0.1:{HUB}", "--token-file", f"{self.folder}/culler-token", "--timeout", str(idle)]
-        return run(PROGRAM, *words, "--rounds", "1", most=120)
+        return run(PROGRAM, *words, "--rounds", "1", most=120, **self.who)
 
     def secrets(self):
         with open(self.copy) as file:
