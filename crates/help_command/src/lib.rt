@@ -1,10 +1,13 @@
 //! What people are told who ask for help or for the version, and who give words that no command takes: what is wrong with them, which word
 //! is the nearest, and where help is. The texts are those of the very commands that words are read by.
-//! No contract speaks of what is told. The program `hub` stands above.
+//! Its contract says that right words are never told of; no contract speaks of the texts. The program `hub` stands above.
 #![tactic(auto)]
 
 mod refused;
 mod version;
+
+ghost use Rattle.std.specs.Prelude.{IfSome};
+ghost use Rattle.help_command.specs.Refused.{AreRefused};
 
 use crate::refused::are_refused;
 use crate::version::version_text;
@@ -78,7 +81,9 @@ fn tell(rt: &HostRuntime, words: &[Text]) -> Result<ExitCode, AllocError> {
 }
 
 /// Says what these words ask for, or what is wrong with them, where each command refuses them; nothing where a command takes them.
-pub fn told(rt: &HostRuntime, words: &[Text]) -> Option<ExitCode> {
+pub fn told(rt: &HostRuntime, words: &[Text]) -> Option<ExitCode>
+    ensures { IfSome result (λ code. AreRefused words.now) }
+{
     if !are_refused(rt.alloc(), words) {
         return None;
     }
