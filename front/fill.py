@@ -1,7 +1,7 @@
 #!/usr/bin/python3 -B
 """Writes what a front's nginx reads into a site's folder: nginx.conf, assets.conf and page/site.js.
-usage: fill.py FOLDER KEY=VALUE ..., with the keys of KEYS. FOLDER also has htpasswd (names and passwords) and tokens.map (for each name that
-programs may sign in by, a line `"NAME" "TOKEN";`; it may be empty). `sign-in` is started beside it with the socket FOLDER/sign-in.socket."""
+usage: fill.py FOLDER KEY=VALUE ..., with the keys of KEYS. FOLDER also has htpasswd (names and passwords) and tokens.map (for each name
+that programs may sign in by, a line `"NAME" "TOKEN";`; it may be empty). `sign-in` is started with the socket FOLDER/sign-in.socket."""
 import json, os, sys
 
 HERE = os.path.dirname(os.path.realpath(__file__))
@@ -19,9 +19,9 @@ def marks(site, told):
     """What stands between @ in the templates."""
     scheme, _, host = told["public"].partition("://")
     cookie = "__Host-front" if scheme == "https" else "front"
-    return {"USER": "user root; " if os.geteuid() == 0 else "", "SITE": site, "FRONT": HERE, "BOOTSTRAP": BOOTSTRAP, "LISTEN": told["listen"],
-            "HOME": told["home"], "SERVERS": told["servers_port"], "HUB": told["hub"], "PROXY": told["proxy"], "PUBLIC": told["public"],
-            "PUBLIC_SERVERS": told["servers"], "PUBLIC_HOST": host, "SCHEME": scheme, "COOKIE": cookie}
+    return {"USER": "user root; " if os.geteuid() == 0 else "", "SITE": site, "FRONT": HERE, "BOOTSTRAP": BOOTSTRAP,
+            "LISTEN": told["listen"], "HOME": told["home"], "SERVERS": told["servers_port"], "HUB": told["hub"], "PROXY": told["proxy"],
+            "PUBLIC": told["public"], "PUBLIC_SERVERS": told["servers"], "PUBLIC_HOST": host, "SCHEME": scheme, "COOKIE": cookie}
 
 
 def put(file, text):

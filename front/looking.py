@@ -1,5 +1,5 @@
-"""A headless Chromium of Debian's, driven by python3-selenium: what people press and type, what they see, pictures in light, dark and at 390
-pixels, and a fixed list of what makes a page usable by everybody. Each wait has a limit."""
+"""A headless Chromium of Debian's, driven by python3-selenium: what people press and type, what they see, pictures in light, dark and at
+390 pixels, and a fixed list of what makes a page usable by everybody. Each wait has a limit."""
 import os, shutil, tempfile, time
 from selenium import webdriver
 from selenium.common.exceptions import WebDriverException
@@ -21,30 +21,35 @@ function ground(it) {
   for (let at = it; at; at = at.parentElement) chain.push(parse(getComputedStyle(at).backgroundColor))
   return chain.reverse().reduce((below, top) => over(top, below), dark ? [18, 18, 18, 1] : [255, 255, 255, 1])
 }
-const bright = c => { const [r, g, b] = c.map(v => v / 255).map(v => v <= .03928 ? v / 12.92 : ((v + .055) / 1.055) ** 2.4); return .2126 * r + .7152 * g + .0722 * b }
+const linear = v => v <= .03928 ? v / 12.92 : ((v + .055) / 1.055) ** 2.4
+const bright = c => { const [r, g, b] = c.map(v => linear(v / 255)); return .2126 * r + .7152 * g + .0722 * b }
 const contrast = (one, other) => { const [a, b] = [bright(one), bright(other)].sort((x, y) => y - x); return (a + .05) / (b + .05) }
 const ids = [...document.querySelectorAll('[id]')].map(it => it.id)
 const faults = []
 const rule = (name, bad) => { for (const it of bad) faults.push(name + ': ' + (typeof it == 'string' ? it : short(it))) }
 rule('a page has a language', document.documentElement.lang ? [] : ['none'])
 rule('a page has a title', document.title.trim() ? [] : ['none'])
-rule('a page has one main part and one first heading', all('main').length == 1 && all('h1').length == 1 ? [] : [`${all('main').length} ${all('h1').length}`])
+const first = `${all('main').length} and ${all('h1').length}`
+rule('a page has one main part and one first heading', first == '1 and 1' ? [] : [first])
 const levels = [...document.querySelectorAll('h1,h2,h3,h4,h5,h6')].map(it => Number(it.tagName[1]))
 rule('headings skip no level', levels.filter((level, at) => at && level > levels[at - 1] + 1).map(String))
 rule('a field has a label', all('input,select,textarea').filter(it => !it.labels?.length && !it.getAttribute('aria-label')))
 rule('an image has a text', [...document.querySelectorAll('img')].filter(it => !it.hasAttribute('alt')))
 rule('no id stands twice', ids.filter((id, at) => ids.indexOf(id) != at))
 for (const name of ['aria-labelledby', 'aria-describedby', 'aria-controls', 'for']) {
-  rule(`${name} names what is there`, [...document.querySelectorAll(`[${name}]`)].filter(it => !document.getElementById(it.getAttribute(name))))
+  const lost = it => !document.getElementById(it.getAttribute(name))
+  rule(`${name} names what is there`, [...document.querySelectorAll(`[${name}]`)].filter(lost))
 }
 rule('a table has heads and a caption', all('table').filter(it => !it.caption || [...it.querySelectorAll('th')].some(th => !th.scope)))
 rule('no order of tabs is forced', [...document.querySelectorAll('[tabindex]')].filter(it => it.tabIndex > 0))
 rule('what is pressed is 24 pixels high and wide', all('button,select,summary,input:not([type=checkbox]):not([type=radio])')
   .filter(it => it.getBoundingClientRect().height < 24 || it.getBoundingClientRect().width < 24))
-rule('the page is no wider than the window', document.documentElement.scrollWidth > innerWidth ? [`${document.documentElement.scrollWidth} > ${innerWidth}`] : [])
-const texts = all('body *').filter(it => [...it.childNodes].some(node => node.nodeType == 3 && node.data.trim()) && !it.closest('.visually-hidden,option'))
-rule('a text has a contrast of 4.5', texts.filter(it => !it.disabled && contrast(over(parse(getComputedStyle(it).color), ground(it)), ground(it)) < 4.5)
-  .map(it => contrast(over(parse(getComputedStyle(it).color), ground(it)), ground(it)).toFixed(2) + ' ' + short(it)))
+const wide = document.documentElement.scrollWidth
+rule('the page is no wider than the window', wide > innerWidth ? [`${wide} > ${innerWidth}`] : [])
+const hasText = it => [...it.childNodes].some(node => node.nodeType == 3 && node.data.trim())
+const texts = all('body *').filter(it => hasText(it) && !it.closest('.visually-hidden,option'))
+const clear = it => contrast(over(parse(getComputedStyle(it).color), ground(it)), ground(it))
+rule('a text has a contrast of 4.5', texts.filter(it => !it.disabled && clear(it) < 4.5).map(it => clear(it).toFixed(2) + ' ' + short(it)))
 rule('a field has a border of contrast 3', all('input.form-control,select,textarea')
   .filter(it => contrast(over(parse(getComputedStyle(it).borderTopColor), ground(it)), ground(it.parentElement)) < 3))
 return faults
@@ -55,7 +60,8 @@ document.querySelectorAll('[data-reached]').forEach(it => delete it.dataset.reac
 window.hidden = []
 const watch = event => {
   const it = event.target, style = getComputedStyle(it)
-  if (!it.dataset.reached && !(style.outlineStyle != 'none' && parseFloat(style.outlineWidth) >= 2)) window.hidden.push(it.outerHTML.slice(0, 100))
+  const shown = style.outlineStyle != 'none' && parseFloat(style.outlineWidth) >= 2
+  if (!it.dataset.reached && !shown) window.hidden.push(it.outerHTML.slice(0, 100))
   it.dataset.reached = '1'
 }
 if (!window.watched) document.addEventListener('focusin', window.watched = watch)
@@ -63,10 +69,11 @@ document.body.tabIndex = -1; document.body.focus(); document.body.removeAttribut
 return document.querySelectorAll('a[href],button,input,select,textarea,summary,[tabindex]').length + 2
 """
 REACHABLE = r"""
-return [...document.querySelectorAll('a[href],button,input,select,textarea,summary,[tabindex]')].filter(it => it.tabIndex >= 0 && !it.disabled
-  && it.checkVisibility() && !(it.type == 'radio' && !it.checked) && !it.dataset.reached).map(it => it.outerHTML.slice(0, 100))
+const pressed = [...document.querySelectorAll('a[href],button,input,select,textarea,summary,[tabindex]')]
+return pressed.filter(it => it.tabIndex >= 0 && !it.disabled && it.checkVisibility()
+  && !(it.type == 'radio' && !it.checked) && !it.dataset.reached).map(it => it.outerHTML.slice(0, 100))
 """
-NAMED = {"button", "link", "textbox", "searchbox", "combobox", "checkbox", "radio", "tab", "tabpanel", "dialog", "table", "navigation", "form"}
+NAMED = {"button", "link", "textbox", "searchbox", "combobox", "checkbox", "radio", "tab", "tabpanel", "dialog", "table", "navigation"}
 
 
 class Lost(Exception):
@@ -78,8 +85,8 @@ class Person:
 
     def __init__(self, folder):
         options = webdriver.ChromeOptions()
-        words = ["--headless=new", "--no-first-run", "--disable-gpu", "--disable-dev-shm-usage", "--no-proxy-server", "--disable-extensions",
-                 "--mute-audio", "--window-size=1100,900", "--hide-scrollbars"]
+        words = ["--headless=new", "--no-first-run", "--disable-gpu", "--disable-dev-shm-usage", "--no-proxy-server",
+                 "--disable-extensions", "--mute-audio", "--window-size=1100,900", "--hide-scrollbars"]
         for word in words + (["--no-sandbox"] if os.geteuid() == 0 else []):
             options.add_argument(word)
         self.profile, self.folder = tempfile.mkdtemp(prefix="front-browser-"), folder
@@ -103,7 +110,7 @@ class Person:
         return self.driver.current_url
 
     def text(self):
-        return self.driver.find_element(By.TAG_NAME, "body").text
+        return self.run("return document.body ? document.body.innerText : ''")
 
     def until(self, what, holds, most=30):
         end, fault = time.monotonic() + most, ""
@@ -121,16 +128,16 @@ class Person:
         self.until(repr(text), lambda: text in self.text(), most)
 
     def sees_title(self, text, most=30):
-        self.until(f"the page {text!r}", lambda: any(it.text == text for it in self.driver.find_elements(By.TAG_NAME, "h1")), most)
+        self.until(f"the page {text!r}", lambda: any(it.text == text for it in self.has("h1")), most)
 
     def has(self, what):
-        return [it for it in self.driver.find_elements(By.CSS_SELECTOR, what) if it.is_displayed()]
+        return self.run("return [...document.querySelectorAll(arguments[0])].filter(it => it.checkVisibility())", what)
 
     def named(self, name, within="body"):
         """What can be pressed and is called so, by its text or by what a screen reader says."""
-        found = [it for it in self.has(f"{within} button, {within} a, {within} summary, {within} [role=tab]")
-                 if name in (it.text.strip(), it.get_attribute("aria-label"))]
-        return found[0] if found else None
+        pressed = ", ".join(f"{within} {it}" for it in ("button", "a", "summary", "[role=tab]"))
+        return self.run("""return [...document.querySelectorAll(arguments[1])].find(it => it.checkVisibility()
+            && [it.innerText.trim(), it.getAttribute('aria-label')].includes(arguments[0]))""", name, pressed)
 
     def press(self, name, within="body", most=30):
         found = self.until(f"{name!r} to press", lambda: self.named(name, within), most)
@@ -148,7 +155,8 @@ class Person:
 
     def choose(self, label, option):
         field = self.field(label)
-        self.until(f"{option!r} in {label!r}", lambda: [it for it in field.find_elements(By.TAG_NAME, "option") if it.text == option])[0].click()
+        options = field.find_elements(By.TAG_NAME, "option")
+        next(it for it in options if it.text == option).click()
 
     def keys(self, *keys):
         for key in keys:
@@ -168,7 +176,7 @@ class Person:
     def faults(self):
         """What breaks a rule of the list as the page is shown now."""
         tree = self.driver.execute_cdp_cmd("Accessibility.getFullAXTree", {})["nodes"]
-        nameless = [it["role"]["value"] for it in tree if not it.get("ignored") and it.get("role", {}).get("value") in NAMED - {"form"}
+        nameless = [it["role"]["value"] for it in tree if not it.get("ignored") and it.get("role", {}).get("value") in NAMED
                     and not it.get("name", {}).get("value")]
         return self.run(RULES) + [f"a screen reader has a name for each {it}" for it in nameless]
 

@@ -17,7 +17,7 @@ function wanted() {
 
 const {kind, owner} = wanted()
 const named = [`error.${kind}.${status}`, `error.any.${status}`, 'error.any.other'].find(name => name in texts)
-const title = say([`error.title.${status}`, 'error.title.other'].find(name => name in texts))
+const title = say([`error.title.${kind}.${status}`, `error.title.${status}`, 'error.title.other'].find(name => name in texts))
 const link = (where, text) => make('a', {href: where, class: 'btn btn-primary'}, text)
 
 function whatToDo() {
@@ -30,6 +30,7 @@ function whatToDo() {
 
 document.documentElement.lang = language
 document.title = `${title} · ${site.title}`
-const header = make('header', {}, make('nav', {'aria-label': say('menu')}, make('a', {href: site.public + '/', class: 'brand'}, site.title)))
+const brand = make('a', {href: site.public + '/', class: 'brand'}, site.title)
+const header = make('header', {}, make('nav', {'aria-label': say('menu')}, brand))
 const main = make('main', {id: 'main', class: 'container'}, heading(1, title), make('p', {}, say(named, {owner})), whatToDo())
 document.body.replaceChildren(header, main)

@@ -33,6 +33,12 @@ export async function carry(pressed, job, own) {
   }
 }
 
+/** What a form does when it is sent: nothing is loaded anew. */
+export const sends = (pressed, job, own) => event => {
+  event.preventDefault()
+  return carry(pressed, job, own)
+}
+
 /** Asks before what can't be undone. */
 export function sure(question, yes) {
   return new Promise(answer => {
@@ -66,7 +72,7 @@ export async function menu(me) {
   if (!me.admin && !await holds('read:shares', me)) list.children[1].remove()
   if (me.admin || await holds('list:users', me)) list.append(menuItem('/people', say(me.admin ? 'menu.admin' : 'menu.people')))
   for (const name of await listed('services', me)) {
-    if (site.services[name]) list.append(make('li', {}, make('a', {href: site.servers + `/services/${name}/`, class: 'nav-link'}, site.services[name])))
+    if (site.services[name]) list.append(menuItem(site.servers + `/services/${name}/`, site.services[name]))
   }
 }
 

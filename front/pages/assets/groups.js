@@ -1,7 +1,7 @@
 // The groups that the reader may see, and who is in them.
 import {all, ask, path} from './hub.js'
 import {button, field, input, make, section} from './dom.js'
-import {carry, sure, tell, why} from './frame.js'
+import {carry, sends, sure, tell, why} from './frame.js'
 import {say} from './texts.js'
 import {fills, holds} from './rights.js'
 
@@ -27,8 +27,7 @@ function addMember(group) {
     await list()
     return say('groups.added', {user, group})
   }
-  const sent = event => { event.preventDefault(); carry(press, done, faults) }
-  return make('form', {class: 'line', onsubmit: sent}, field(say('groups.member'), name), press)
+  return make('form', {class: 'line', onsubmit: sends(press, done, faults)}, field(say('groups.member'), name), press)
 }
 
 function remove(group) {
@@ -63,7 +62,8 @@ async function list() {
 }
 
 function add() {
-  const name = input({name: 'group', required: true, autocapitalize: 'none'}), press = make('button', {class: 'btn btn-primary'}, say('people.add.do'))
+  const name = input({name: 'group', required: true, autocapitalize: 'none'})
+  const press = make('button', {class: 'btn btn-primary'}, say('people.add.do'))
   const done = async () => {
     const group = name.value.trim()
     await ask('POST', path('groups', group), {users: []})
@@ -71,8 +71,7 @@ function add() {
     await list()
     return say('groups.made', {group})
   }
-  const sent = event => { event.preventDefault(); carry(press, done) }
-  return section(say('groups.add'), make('form', {class: 'line', onsubmit: sent}, field(say('groups.name'), name), press))
+  return section(say('groups.add'), make('form', {class: 'line', onsubmit: sends(press, done)}, field(say('groups.name'), name), press))
 }
 
 export async function fill(panel, reader) {

@@ -1,7 +1,7 @@
 // The reader's own servers, what others share, and codes.
 import {all, ask, path, serverPath, start} from './hub.js'
 import {button, field, input, make, moment, section} from './dom.js'
-import {carry, frame, main, menu, reader, tell, why} from './frame.js'
+import {carry, frame, main, menu, reader, sends, tell, why} from './frame.js'
 import {say} from './texts.js'
 import {holds} from './rights.js'
 import site from './site.js'
@@ -37,7 +37,8 @@ async function begin(pressed, user, server) {
 
 function open(user, server, url) {
   const spoken = say('home.open.of', {server: user == me.name ? called(server) : url})
-  return make('a', {class: 'btn btn-primary', href: site.servers + url, 'aria-label': spoken, 'data-open': user + '/' + server}, say('home.open'))
+  const attributes = {class: 'btn btn-primary', href: site.servers + url, 'aria-label': spoken, 'data-open': user + '/' + server}
+  return make('a', attributes, say('home.open'))
 }
 
 function stop(user, server) {
@@ -49,7 +50,8 @@ function stop(user, server) {
 }
 
 function starts(user, server) {
-  return button(say('home.start'), 'btn-primary', event => begin(event.target, user, server), say('home.start.of', {server: called(server)}))
+  const spoken = say('home.start.of', {server: called(server)})
+  return button(say('home.start'), 'btn-primary', event => begin(event.target, user, server), spoken)
 }
 
 function remove(server) {
@@ -64,8 +66,8 @@ function remove(server) {
 /** Who may enter a server beside its owner. */
 function access(server) {
   const names = shares.filter(share => share.server == me.name + '/' + server).map(share => share.user ?? share.group)
-  const change = make('a', {href: '/share?server=' + encodeURIComponent(server), 'aria-label': say('home.share.of', {server: called(server)})},
-    say('home.change'))
+  const spoken = say('home.share.of', {server: called(server)})
+  const change = make('a', {href: '/share?server=' + encodeURIComponent(server), 'aria-label': spoken}, say('home.change'))
   return make('p', {}, say('home.access', {who: names.join(', ') || say('nobody')}), ' ', mayShare && change)
 }
 
@@ -92,7 +94,8 @@ function sharedCard(share) {
 async function draw() {
   me = await reader()
   const live = me.servers ?? {}
-  const [own, given] = await Promise.all([all(path('shares', me.name)).catch(() => []), all(path('users', me.name, 'shared')).catch(() => [])])
+  const lists = [path('shares', me.name), path('users', me.name, 'shared')]
+  const [own, given] = await Promise.all(lists.map(list => all(list).catch(() => [])))
   shares = own
   remember([...remembered(), ...Object.keys(live)])
   servers.replaceChildren(...['', ...remembered()].map(server => card(server, live[server])))
@@ -117,7 +120,7 @@ function useCode() {
     await draw()
     return say('home.code.used', {server: share.server})
   }
-  return make('form', {class: 'line', onsubmit: event => { event.preventDefault(); carry(press, used, faults) }}, field(say('home.code'), code), press)
+  return make('form', {class: 'line', onsubmit: sends(press, used, faults)}, field(say('home.code'), code), press)
 }
 
 export async function show() {

@@ -46,7 +46,8 @@ export const whoever = () => call('GET', 'api/user').catch(fault => {
 
 /** A page of a list, with how many there are in all. */
 export async function page(where, offset, limit) {
-  const reply = await call('GET', `api${where}?offset=${offset}&limit=${limit}`, undefined, {Accept: 'application/jupyterhub-pagination+json'})
+  const counted = {Accept: 'application/jupyterhub-pagination+json'}
+  const reply = await call('GET', `api${where}?offset=${offset}&limit=${limit}`, undefined, counted)
   return {items: reply.items, total: reply._pagination.total}
 }
 
@@ -76,5 +77,8 @@ function basic(name, password) {
   return 'Basic ' + btoa(String.fromCharCode(...bytes))
 }
 
-export const signIn = (name, password) => call('POST', 'sign-in', undefined, password === null ? {} : {Authorization: basic(name, password)})
+/** Signs in by a name and a password, or as whom a front before this one has told. */
+export const signIn = (name, password) =>
+  call('POST', 'sign-in', undefined, password === null ? {} : {Authorization: basic(name, password)})
+
 export const signOut = () => call('POST', 'sign-out')

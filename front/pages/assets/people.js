@@ -7,7 +7,8 @@ import {holds} from './rights.js'
 const parts = [['users', 'list:users'], ['groups', 'list:groups'], ['roles', 'admin:roles'], ['services', 'list:services']]
 const panel = make('div', {id: 'panel', role: 'tabpanel', tabindex: -1})
 const modules = {
-  users: () => import('./users.js'), groups: () => import('./groups.js'), roles: () => import('./roles.js'), services: () => import('./services.js'),
+  users: () => import('./users.js'), groups: () => import('./groups.js'),
+  roles: () => import('./roles.js'), services: () => import('./services.js'),
 }
 
 async function choose(tabs, name, me) {
@@ -38,8 +39,11 @@ export async function show() {
   const rights = await Promise.all(parts.map(([, right]) => holds(right, me)))
   const names = parts.filter((_, place) => rights[place]).map(([name]) => name)
   if (!names.length) return main.append(make('p', {}, say('people.none')))
-  const tabs = names.map(name => make('button', {type: 'button', role: 'tab', id: 'tab-' + name, 'aria-controls': 'panel', 'data-part': name,
-    onclick: () => choose(tabs, name, me)}, say('people.' + name)))
+  const tab = name => {
+    const attributes = {type: 'button', role: 'tab', id: 'tab-' + name, 'aria-controls': 'panel', 'data-part': name}
+    return make('button', {...attributes, onclick: () => choose(tabs, name, me)}, say('people.' + name))
+  }
+  const tabs = names.map(tab)
   const bar = make('div', {role: 'tablist', 'aria-label': say('people.tabs'), onkeydown: event => move(event, tabs)}, ...tabs)
   if (names.length > 1) main.append(bar)
   main.append(panel)

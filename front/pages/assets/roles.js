@@ -1,7 +1,7 @@
 // Roles: which scopes they give, and to whom.
 import {all, ask, path} from './hub.js'
 import {button, field, input, lines, make, row, section, table} from './dom.js'
-import {carry, sure} from './frame.js'
+import {carry, sends, sure} from './frame.js'
 import {say} from './texts.js'
 
 const FIXED = ['user', 'admin'], KINDS = ['users', 'groups', 'services']
@@ -28,8 +28,8 @@ function remove(role) {
 
 function roleRow(role) {
   const fixed = FIXED.includes(role.name), holders = KINDS.flatMap(kind => role[kind]).join(', ')
-  const scopes = make('code', {}, role.scopes.join(', ')), does = make('div', {class: 'buttons'}, ...(fixed ? [say('roles.fixed')] : [edit(role), remove(role.name)]))
-  return row(role.name, scopes, holders || say('nobody'), does)
+  const does = make('div', {class: 'buttons'}, ...(fixed ? [say('roles.fixed')] : [edit(role), remove(role.name)]))
+  return row(role.name, make('code', {}, role.scopes.join(', ')), holders || say('nobody'), does)
 }
 
 async function list() {
@@ -50,7 +50,7 @@ function form() {
     return say('roles.saved', {role})
   }
   const parts = ['name', 'scopes', ...KINDS].map(kind => field(say('roles.' + kind), fields[kind]))
-  return make('form', {class: 'card', onsubmit: event => { event.preventDefault(); carry(press, done) }}, ...parts, press)
+  return make('form', {class: 'card', onsubmit: sends(press, done)}, ...parts, press)
 }
 
 export async function fill(panel) {

@@ -1,7 +1,7 @@
 // Services: their names and roles, and their pages where the site has told of one.
 import {all, ask, path} from './hub.js'
 import {button, field, input, make, row, section, table} from './dom.js'
-import {carry, sure} from './frame.js'
+import {carry, sends, sure} from './frame.js'
 import {say} from './texts.js'
 import {holds} from './rights.js'
 import site from './site.js'
@@ -26,11 +26,13 @@ function serviceRow(service) {
 
 async function list() {
   const services = await all('/services'), heads = ['name', 'roles', 'do'].map(name => say('people.col.' + name))
-  shown.replaceChildren(services.length ? table(say('people.services'), heads, services.map(serviceRow)) : make('p', {}, say('services.none')))
+  const none = make('p', {}, say('services.none'))
+  shown.replaceChildren(services.length ? table(say('people.services'), heads, services.map(serviceRow)) : none)
 }
 
 function add() {
-  const name = input({name: 'service', required: true, autocapitalize: 'none'}), press = make('button', {class: 'btn btn-primary'}, say('people.add.do'))
+  const name = input({name: 'service', required: true, autocapitalize: 'none'})
+  const press = make('button', {class: 'btn btn-primary'}, say('people.add.do'))
   const done = async () => {
     const service = name.value.trim()
     await ask('POST', path('services', service))
@@ -38,8 +40,7 @@ function add() {
     await list()
     return say('services.made', {service})
   }
-  const sent = event => { event.preventDefault(); carry(press, done) }
-  return section(say('services.add'), make('form', {class: 'line', onsubmit: sent}, field(say('services.name'), name), press))
+  return section(say('services.add'), make('form', {class: 'line', onsubmit: sends(press, done)}, field(say('services.name'), name), press))
 }
 
 export async function fill(panel, me) {

@@ -1,7 +1,7 @@
 // Who may enter the reader's servers: people, groups, and codes that end.
 import {all, ask, path} from './hub.js'
 import {button, choice, field, input, lives, make, moment, row, secret, section, table} from './dom.js'
-import {carry, frame, main, menu, reader, sure, tell} from './frame.js'
+import {carry, frame, main, menu, reader, sends, sure, tell} from './frame.js'
 import {say} from './texts.js'
 import {holds} from './rights.js'
 
@@ -33,7 +33,8 @@ function codeRow(code) {
     await draw()
     return say('share.code.deleted')
   }), say('share.code.delete', {id: code.id}))
-  return row(say('share.code.number', {id: code.id}), say(ended ? 'share.ended' : 'share.until', {moment: moment(code.expires_at)}), take || '')
+  const until = say(ended ? 'share.ended' : 'share.until', {moment: moment(code.expires_at)})
+  return row(say('share.code.number', {id: code.id}), until, take || '')
 }
 
 async function draw() {
@@ -57,9 +58,8 @@ function letIn() {
     await draw()
     return say('share.done', {who, server: called(server)})
   }
-  const sent = event => { event.preventDefault(); carry(press, done, faults) }
   const fields = [field(say('share.kind'), kind), field(say('share.name'), name), field(say('share.rights'), what)]
-  return make('form', {class: 'line', onsubmit: sent}, ...fields, press)
+  return make('form', {class: 'line', onsubmit: sends(press, done, faults)}, ...fields, press)
 }
 
 function newCode() {
@@ -67,11 +67,12 @@ function newCode() {
   const press = make('button', {class: 'btn btn-primary'}, say('share.code.make'))
   const done = async () => {
     const {code} = await ask('POST', at('share-codes'), {expires_in: Number(life.value)})
-    fresh.replaceChildren(secret(say('share.code.new'), code, tell), secret(say('share.code.link'), location.origin + '/#code=' + code, tell))
+    const link = location.origin + '/#code=' + code
+    fresh.replaceChildren(secret(say('share.code.new'), code, tell), secret(say('share.code.link'), link, tell))
     await draw()
     return ''
   }
-  return make('form', {class: 'line', onsubmit: event => { event.preventDefault(); carry(press, done) }}, field(say('share.code.ends'), life), press)
+  return make('form', {class: 'line', onsubmit: sends(press, done)}, field(say('share.code.ends'), life), press)
 }
 
 function takeAll() {

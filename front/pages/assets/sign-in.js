@@ -8,8 +8,11 @@ import site from './site.js'
 /** Where the reader wanted to go: an address of these pages, else the home page. */
 function wanted() {
   const asked = location.search.startsWith('?next=') ? location.search.slice(6) + location.hash : '/'
-  const url = URL.canParse?.(asked, location.origin) === false ? null : new URL(asked, location.origin)
-  return url && url.origin == location.origin && asked[0] == '/' ? url.href : location.origin + '/'
+  try {
+    const url = new URL(asked, location.origin)
+    if (asked[0] == '/' && url.origin == location.origin) return url.href
+  } catch { /* no address at all */ }
+  return location.origin + '/'
 }
 
 /** What the hub will let the reader into behind the sign-in, if it is that. */
@@ -38,7 +41,8 @@ function form(enter) {
       password.focus()
     } finally { press.disabled = false }
   }
-  return make('form', {class: 'card narrow', onsubmit: sent}, field(say('signin.name'), name), field(say('signin.password'), password), press)
+  const fields = [field(say('signin.name'), name), field(say('signin.password'), password)]
+  return make('form', {class: 'card narrow', onsubmit: sent}, ...fields, press)
 }
 
 export async function show() {

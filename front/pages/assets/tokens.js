@@ -1,11 +1,12 @@
 // The reader's tokens: what each may do, when it ends, and new ones.
 import {ask, path} from './hub.js'
 import {button, field, input, lives, make, moment, row, secret, section, table} from './dom.js'
-import {carry, frame, main, menu, reader, sure, tell} from './frame.js'
+import {carry, frame, main, menu, reader, sends, sure, tell} from './frame.js'
 import {say, texts} from './texts.js'
 
 /** What a token may be made for, each in words of texts.js. The hub refuses what the reader doesn't hold. */
-const OFFERED = ['read:users!user', 'users:activity!user', 'read:servers!user', 'servers!user', 'access:servers!user', 'read:shares!user', 'shares!user']
+const OFFERED = ['read:users', 'users:activity', 'read:servers', 'servers', 'access:servers', 'read:shares', 'shares']
+  .map(action => action + '!user')
 const list = make('div', {}), fresh = make('div', {role: 'status'})
 let me
 
@@ -34,7 +35,8 @@ async function draw() {
   const {api_tokens: tokens} = await ask('GET', path('users', me.name, 'tokens'))
   tokens.sort((one, other) => other.id - one.id)
   const heads = ['note', 'may', 'made', 'ends'].map(name => say('tokens.col.' + name))
-  list.replaceChildren(tokens.length ? table(say('tokens.title'), [...heads, say('people.col.do')], tokens.map(tokenRow)) : say('tokens.none'))
+  const rows = tokens.map(tokenRow)
+  list.replaceChildren(rows.length ? table(say('tokens.title'), [...heads, say('people.col.do')], rows) : say('tokens.none'))
   const old = tokens.filter(ended)
   if (old.length) list.append(button(say('tokens.clear'), 'btn-outline-secondary', event => carry(event.target, async () => {
     for (const token of old) await ask('DELETE', path('users', me.name, 'tokens', String(token.id)))
@@ -66,8 +68,8 @@ function newToken() {
     await draw()
     return ''
   }
-  const sent = event => { event.preventDefault(); carry(press, made) }
-  return make('form', {class: 'card', onsubmit: sent}, field(say('tokens.note'), note), may, field(say('tokens.ends'), life), press)
+  const fields = [field(say('tokens.note'), note), may, field(say('tokens.ends'), life)]
+  return make('form', {class: 'card', onsubmit: sends(press, made)}, ...fields, press)
 }
 
 export async function show() {

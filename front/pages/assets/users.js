@@ -1,7 +1,7 @@
 // The users whom the reader may see, fifty at a time, with their servers.
 import {ask, page, path, serverPath, start} from './hub.js'
 import {button, field, input, lines, make, moment, section, table} from './dom.js'
-import {carry, sure, tell, why} from './frame.js'
+import {carry, sends, sure, tell, why} from './frame.js'
 import {say} from './texts.js'
 import {enters, holds, runs} from './rights.js'
 import site from './site.js'
@@ -81,8 +81,8 @@ function deleteButton(name) {
 }
 
 function more(user) {
-  const does = [rights.change && user.name != me.name && adminButton(user), rights.remove && user.name != me.name && deleteButton(user.name)]
-  if (!does.some(it => it)) return ''
+  if (user.name == me.name || !rights.change && !rights.remove) return ''
+  const does = [rights.change && adminButton(user), rights.remove && deleteButton(user.name)].filter(it => it)
   const opened = make('summary', {'aria-label': say('people.more', {name: user.name})}, say('people.more.short'))
   return make('details', {}, opened, make('div', {class: 'buttons'}, ...does))
 }
@@ -130,12 +130,12 @@ function find() {
     await list(await placeOf(wanted))
     return shown.querySelector('tbody th')?.textContent.startsWith(wanted) ? '' : say('people.find.none')
   }
-  const sent = event => { event.preventDefault(); carry(press, found) }
-  return make('form', {class: 'line', role: 'search', onsubmit: sent}, field(say('people.find'), name), press)
+  return make('form', {class: 'line', role: 'search', onsubmit: sends(press, found)}, field(say('people.find'), name), press)
 }
 
 function add() {
-  const names = make('textarea', {class: 'form-control', rows: 4, name: 'names', required: true, autocapitalize: 'none', spellcheck: 'false'})
+  const written = {class: 'form-control', autocapitalize: 'none', spellcheck: 'false'}
+  const names = make('textarea', {rows: 4, name: 'names', required: true, ...written})
   const admin = make('input', {type: 'checkbox', class: 'form-check-input', id: 'as-admins'})
   const press = make('button', {class: 'btn btn-primary'}, say('people.add.do'))
   const done = async () => {
@@ -144,9 +144,10 @@ function add() {
     await again()
     return say('people.added', {count: made.length, names: made.map(its => its.name).join(', ')})
   }
-  const tick = make('div', {class: 'form-check'}, admin, make('label', {for: 'as-admins', class: 'form-check-label'}, say('people.add.admin')))
-  const sent = event => { event.preventDefault(); carry(press, done, {409: 'people.all'}) }
-  const form = make('form', {class: 'card narrow', onsubmit: sent}, field(say('people.add.names'), names, say('people.add.login')), tick, press)
+  const label = make('label', {for: 'as-admins', class: 'form-check-label'}, say('people.add.admin'))
+  const tick = make('div', {class: 'form-check'}, admin, label)
+  const fields = [field(say('people.add.names'), names, say('people.add.login')), tick]
+  const form = make('form', {class: 'card narrow', onsubmit: sends(press, done, {409: 'people.all'})}, ...fields, press)
   return section(say('people.add'), form)
 }
 
