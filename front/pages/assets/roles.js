@@ -1,10 +1,10 @@
-// Roles: which scopes they give, and to whom.
+// Roles: which scopes they give, and to whom. The two that every hub has aren't listed by it.
 import {all, ask, path} from './hub.js'
 import {button, field, input, lines, make, row, section, table} from './dom.js'
 import {carry, sends, sure} from './frame.js'
 import {say} from './texts.js'
 
-const FIXED = ['user', 'admin'], KINDS = ['users', 'groups', 'services']
+const KINDS = ['users', 'groups', 'services']
 const fields = {}
 let shown
 
@@ -27,8 +27,7 @@ function remove(role) {
 }
 
 function roleRow(role) {
-  const fixed = FIXED.includes(role.name), holders = KINDS.flatMap(kind => role[kind]).join(', ')
-  const does = make('div', {class: 'buttons'}, ...(fixed ? [say('roles.fixed')] : [edit(role), remove(role.name)]))
+  const holders = KINDS.flatMap(kind => role[kind]).join(', '), does = make('div', {class: 'buttons'}, edit(role), remove(role.name))
   return row(role.name, make('code', {}, role.scopes.join(', ')), holders || say('nobody'), does)
 }
 

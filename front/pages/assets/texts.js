@@ -245,7 +245,6 @@ export const texts = {
   'roles.delete.of': 'Delete the role {role}',
   'roles.delete.sure': 'Delete the role {role}? Who holds it loses what it gave at once.',
   'roles.deleted': 'The role {role} is deleted.',
-  'roles.fixed': 'every hub has it',
   'services.none': 'There is no service.',
   'services.add': 'Add a service',
   'services.name': 'Name of the service',

@@ -81,7 +81,7 @@ function deleteButton(name) {
 }
 
 function more(user) {
-  if (user.name == me.name || !rights.change && !rights.remove) return ''
+  if (user.name == me.name) return ''
   const does = [rights.change && adminButton(user), rights.remove && deleteButton(user.name)].filter(it => it)
   const opened = make('summary', {'aria-label': say('people.more', {name: user.name})}, say('people.more.short'))
   return make('details', {}, opened, make('div', {class: 'buttons'}, ...does))
@@ -91,7 +91,8 @@ function userRow(user) {
   const servers = make('td', {}, ...Object.entries(user.servers ?? {}).map(([server, its]) => liveServer(user.name, server, its)))
   const name = make('th', {scope: 'row'}, user.name, user.admin && ' ', user.admin && make('span', {class: 'badge'}, say('people.admin')))
   const cells = [(user.groups ?? []).join(', '), 'last_activity' in user ? moment(user.last_activity) : '']
-  const made = make('tr', {'data-user': user.name}, name, ...cells.map(cell => make('td', {}, cell)), servers, make('td', {}, more(user)))
+  const does = (rights.change || rights.remove) && make('td', {}, more(user))
+  const made = make('tr', {'data-user': user.name}, name, ...cells.map(cell => make('td', {}, cell)), servers, does)
   if (user.servers) fillServers(servers, user).catch(fault => tell(why(fault), true))
   return made
 }
@@ -100,7 +101,8 @@ async function list(from) {
   const {items, total} = await page('/users', from, SIZE)
   if (!items.length && from) return list(Math.max(0, from - SIZE))
   offset = from
-  const heads = ['name', 'groups', 'active', 'servers', 'do'].map(name => say('people.col.' + name))
+  const columns = ['name', 'groups', 'active', 'servers', ...(rights.change || rights.remove ? ['do'] : [])]
+  const heads = columns.map(name => say('people.col.' + name))
   const range = say('people.range', {from: total ? from + 1 : 0, to: from + items.length, total})
   const before = button(say('people.before'), 'btn-outline-secondary', () => list(Math.max(0, from - SIZE)))
   const after = button(say('people.after'), 'btn-outline-secondary', () => list(from + SIZE))
