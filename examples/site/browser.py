@@ -127,9 +127,12 @@ class Page:
         self.until("document.readyState == 'complete'", most)
 
     def sign_in(self, home, name, password):
-        """The browser keeps the password for this place. An address that has one in it is left again, since its page may fetch nothing."""
-        self.go(home.replace("://", f"://{name}:{password}@"))
+        """By the form of the page that a browser without a sign-in is sent to."""
         self.go(home)
+        self.until("!!document.querySelector('input[name=password]')", what="the form to sign in by")
+        for field, text in (("username", name), ("password", password)):
+            self.run(f"document.querySelector('input[name={field}]').value = {json.dumps(text)}")
+        self.press("Sign in")
 
     def press(self, label, within="document"):
         script = f"[...({within}).querySelectorAll('button')].find(it => it.textContent == {json.dumps(label)})"

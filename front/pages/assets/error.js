@@ -3,7 +3,9 @@ import {button, heading, make} from './dom.js'
 import {language, say, texts} from './texts.js'
 import site from './site.js'
 
-const status = document.documentElement.dataset.status
+const told = document.documentElement.dataset.status
+// on the way into a server or service the hub says 404 to who may enter others, and not this one
+const status = location.pathname == '/hub/api/oauth2/authorize' && told == 404 ? '403' : told
 
 /** What the reader wanted: a server, a service or the hub, and whose. */
 function wanted() {
