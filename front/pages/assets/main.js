@@ -3,5 +3,7 @@ const pages = {
   '/': () => import('./home.js'), '/home': () => import('./home.js'), '/share': () => import('./share.js'),
   '/tokens': () => import('./tokens.js'), '/people': () => import('./people.js'), '/sign-in': () => import('./sign-in.js'),
 }
+// what people look at first there comes with its page, and not behind it
+if (location.pathname == '/people') import('./users.js')
 const shown = await pages[location.pathname]()
 await shown.show()

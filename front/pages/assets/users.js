@@ -11,6 +11,9 @@ const faults = {'live servers': 'people.live', spawner: 'home.spawner', 'pending
 const called = server => server || say('home.default')
 let me, rights = {}, offset = 0, shown
 
+// the first page is asked for while the hub is asked who reads; who may list no users is told so later
+let early = page('/users', 0, SIZE).catch(() => null)
+
 const again = () => list(offset)
 
 function act(label, style, spoken, job) {
@@ -98,7 +101,9 @@ function userRow(user) {
 }
 
 async function list(from) {
-  const {items, total} = await page('/users', from, SIZE)
+  const first = from == 0 ? await early : null
+  early = null
+  const {items, total} = first ?? await page('/users', from, SIZE)
   if (!items.length && from) return list(Math.max(0, from - SIZE))
   offset = from
   const columns = ['name', 'groups', 'active', 'servers', ...(rights.change || rights.remove ? ['do'] : [])]
