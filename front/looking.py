@@ -140,9 +140,14 @@ class Person:
             && [it.innerText.trim(), it.getAttribute('aria-label')].includes(arguments[0]))""", name, pressed)
 
     def press(self, name, within="body", most=30):
-        found = self.until(f"{name!r} to press", lambda: self.named(name, within), most)
-        self.run("arguments[0].scrollIntoView({block: 'center'})", found)
-        found.click()
+        self.until(f"{name!r} to press", lambda: self.click(self.named(name, within)), most)
+
+    def click(self, found):
+        """Presses a part of the page. One that was just drawn anew is looked for once more by who waits."""
+        if found:
+            self.run("arguments[0].scrollIntoView({block: 'center'})", found)
+            found.click()
+        return found is not None
 
     def field(self, label, within="body"):
         script = "return [...document.querySelectorAll(arguments[1] + ' label')].find(it => it.textContent == arguments[0])?.control"

@@ -129,8 +129,7 @@ export async function show() {
   menu(me)
   const rest = [section(say('home.another'), another()), section(say('home.shared'), shared, useCode())]
   main.append(servers, ...rest)
-  await draw()
   mayShare = await holds('shares', me)
-  if (mayShare) await draw()
+  await draw()
   if (location.hash.startsWith('#code=')) main.querySelector('[name=code]').focus()
 }
