@@ -60,6 +60,8 @@ document.querySelectorAll('[data-reached]').forEach(it => delete it.dataset.reac
 window.hidden = []
 const watch = event => {
   const it = event.target, style = getComputedStyle(it)
+  // where this begins, which is no place that Tab comes to
+  if (it == document.body) return
   const shown = style.outlineStyle != 'none' && parseFloat(style.outlineWidth) >= 2
   if (!it.dataset.reached && !shown) window.hidden.push(it.outerHTML.slice(0, 100))
   it.dataset.reached = '1'
@@ -69,7 +71,9 @@ document.body.tabIndex = -1; document.body.focus(); document.body.removeAttribut
 return document.querySelectorAll('a[href],button,input,select,textarea,summary,[tabindex]').length + 2
 """
 REACHABLE = r"""
-const pressed = [...document.querySelectorAll('a[href],button,input,select,textarea,summary,[tabindex]')]
+// a question that is open keeps all others away
+const within = document.querySelector('dialog[open]') ?? document
+const pressed = [...within.querySelectorAll('a[href],button,input,select,textarea,summary,[tabindex]')]
 return pressed.filter(it => it.tabIndex >= 0 && !it.disabled && it.checkVisibility()
   && !(it.type == 'radio' && !it.checked) && !it.dataset.reached).map(it => it.outerHTML.slice(0, 100))
 """
