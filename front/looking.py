@@ -197,4 +197,4 @@ class Person:
 
     def words_of_console(self):
         """What the browser says of scripts that fail or are refused."""
-        return [it["message"] for it in self.driver.get_log("browser") if it["level"] == "SEVERE" and "status of 40" not in it["message"]]
+        return [it["message"] for it in self.driver.get_log("browser") if it["level"] == "SEVERE" and "responded with a status of" not in it["message"]]
