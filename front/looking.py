@@ -197,4 +197,5 @@ class Person:
 
     def words_of_console(self):
         """What the browser says of scripts that fail or are refused."""
-        return [it["message"] for it in self.driver.get_log("browser") if it["level"] == "SEVERE" and "responded with a status of" not in it["message"]]
+        severe = [it["message"] for it in self.driver.get_log("browser") if it["level"] == "SEVERE"]
+        return [it for it in severe if "responded with a status of" not in it]
