@@ -1,6 +1,6 @@
 //! The state of the hub: its rows, its live servers, the length and the cost of its history, and how a change of it is carried out.
-//! The contract of `Machine::enter` carries it: a change is done, kept and noted as `apply` says, or all is as it was; and that of
-//! `Machine::step` the lives of servers: an outcome is refused or taken as the life table says.
+//! The contract of `Machine::enter` carries it: a change is done, kept and noted as `apply` says, or all is as it was. That of
+//! `Machine::step` carries the lives of servers: an outcome is refused or taken as the life table says.
 //! The calls (`hub_calls`) and the book (`hub_core`) stand on it.
 #![tactic(auto)]
 

@@ -1,6 +1,6 @@
 //! Connections: requests in, replies out, over one desk that many connections share.
-//! The contract of `serve_connection` carries it: the sink gets exactly the replies, each that of the book at its place in
-//! the one history, of the requests at the front of the bytes that were taken, however they are cut. Programs stand above.
+//! The contract of `serve_connection` carries it: the sink gets exactly the replies to the requests at the front of the bytes that were
+//! taken, however they are cut. Each reply is that of the book at its place in the one history. Programs stand above.
 #![tactic(auto)]
 
 mod answering;

@@ -1,7 +1,7 @@
 //! Many connections: a listener's connections are served by several workers, over one desk that they share.
-//! The contract of `serve` carries it: it is Ok exactly where as many connections were served as were asked, and else the listener's count
-//! of faults rose or memory was wanting; its tally tells how each connection that was given ended, and the book has no entries but those
-//! that the first pass had made of it and those that these connections gained. The command stands above.
+//! The contract of `serve` carries it: it is Ok exactly where as many connections were served as were asked. Else the listener's count of
+//! faults rose or memory was wanting. Its tally tells how each connection that was given ended. The book has no entries but those that
+//! the first pass had made of it and those that these connections gained. The command stands above.
 #![tactic(auto)]
 
 mod crew;

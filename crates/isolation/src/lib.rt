@@ -1,6 +1,6 @@
-//! Isolation: a token that may not see a thing learns nothing of it. What it may see of a state is its users, groups,
-//! services, roles, tokens of users, shares and share codes as far as its rights show them, and no reply to a GET but an authorization and
-//! the proxy's routes depends on anything else, apart from the revision, and from the number of live servers under `read:hub`.
+//! Isolation: a token that may not see a thing learns nothing of it. What it may see of a state is its users, groups, services, roles,
+//! tokens of users, shares and share codes as far as its rights show them. No reply to a GET but an authorization and the proxy's routes
+//! depends on anything else, apart from the revision, and from the number of live servers under `read:hub`.
 #![tactic(auto)]
 
 mod laws;

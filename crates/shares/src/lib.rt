@@ -1,5 +1,5 @@
 //! Shares of servers, and the codes that anyone may turn into one. Each call carries it: it says exactly the share or the code of its
-//! definition, or the first rule that refuses it, and changes nothing: the calls of the hub make their rows of what is given here.
+//! definition, or the first rule that refuses it, and changes nothing. The calls of the hub make their rows of what is given here.
 #![tactic(auto)]
 
 pub mod allowed;

@@ -1,6 +1,6 @@
 //! The law of lost and late messages: what holds of a hub's servers, a proxy's routes and the programs, whatever is lost or late.
 //! The contract of `world_law` carries it: it speaks of every list of steps of the world, over the definitions that the clauses of the
-//! hub's and the proxy's code cite, and `ties` says how those are the world's. It is a law alone; no program calls it.
+//! hub's and the proxy's code cite. `ties` says how those are the world's. It is a law alone; no program calls it.
 #![tactic(auto)]
 
 mod laws;
