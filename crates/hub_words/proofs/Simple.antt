@@ -2,6 +2,8 @@
 use Rattle.std.proofs.Common.{◌≡◌, true, refl}
 use Rattle.clap.specs.Faults.{is_simple_and_free}
 use Rattle.clap.specs.Simple.{is_simple}
+use Rattle.hub_words.specs.Backup.{backup_app}
+use Rattle.hub_words.specs.Check.{check_app}
 use Rattle.hub_words.specs.Cull.{cull_app}
 use Rattle.hub_words.specs.Guard.{guard_app}
 use Rattle.hub_words.specs.Load.{load_app}
@@ -56,3 +58,19 @@ load_is_free = refl
 pub load_is_simple : is_simple load_app ≡ true
 unfolding load_app
 load_is_simple = refl
+
+pub check_is_free : is_simple_and_free check_app ≡ true
+unfolding check_app
+check_is_free = refl
+
+pub check_is_simple : is_simple check_app ≡ true
+unfolding check_app
+check_is_simple = refl
+
+pub backup_is_free : is_simple_and_free backup_app ≡ true
+unfolding backup_app
+backup_is_free = refl
+
+pub backup_is_simple : is_simple backup_app ≡ true
+unfolding backup_app
+backup_is_simple = refl

@@ -1,4 +1,6 @@
 pub mod Arguments
+pub mod Backup
+pub mod Check
 pub mod Commands
 pub mod Cull
 pub mod Guard

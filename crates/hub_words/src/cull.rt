@@ -8,7 +8,7 @@ ghost use Rattle.hub_words.specs.Cull as spec;
 use crate::command::{begun, choice, flag, is_given, needed_choice};
 use crate::from_word::{both, needed, optional};
 use crate::reading::{CommandWords, read};
-use crate::word_error::WordError;
+use crate::word_error::{NoValue, WordError};
 use clap::{ArgMatches, Command};
 use hub_kit::target::Target;
 use hub_kit::text::Text;
@@ -85,7 +85,7 @@ impl CommandWords for CullWords {
         choice(alloc, command, "rounds", "N", ROUNDS)
     }
 
-    fn of(alloc: Global, matches: &ArgMatches) -> Result<CullWords, WordError> {
+    fn of(alloc: Global, matches: &ArgMatches) -> Result<CullWords, NoValue> {
         let values = both(
             both(
                 needed::<Target>(alloc, matches, "hub"),

@@ -1,13 +1,15 @@
 //! What is read from the words of a command, each value from one word.
-ghost use Rattle.std.specs.Prelude.{ℕ, List, Option};
+ghost use Rattle.std.specs.Prelude.{ℕ, List, Option, None};
 ghost use Rattle.clap.specs.Matches.{found_of};
 ghost use Rattle.clap.specs.Walk.{rows_of};
 ghost use Rattle.hub_words.specs.Commands.{Answers};
 ghost use Rattle.hub_words.specs.Arguments as spec;
+ghost use Rattle.hub_words.specs.Arguments.{Reads};
 
 use crate::command::value_in;
-use crate::word_error::WordError;
+use crate::word_error::{NoValue, WordError};
 use clap::ArgMatches;
+use hub_kit::text::Text;
 use std::alloc::Global;
 
 /// Read from a word.
@@ -21,10 +23,10 @@ pub(crate) trait FromWord: Drop {
 /// What two readers gave. The values of a command are put together by twos, so that one early return is left: each drops what was
 /// read before it, and the proof follows each drop.
 pub(crate) fn both<A: Drop, B: Drop>(
-    first: Result<A, WordError>,
-    second: Result<B, WordError>,
-) -> Result<(A, B), WordError>
-    ensures { (a : Option A) (b : Option B) → Answers a first → Answers b second → Answers (spec.pair a b) result }
+    first: Result<A, NoValue>,
+    second: Result<B, NoValue>,
+) -> Result<(A, B), NoValue>
+    ensures { (a : Option A) (b : Option B) → Reads a first → Reads b second → Reads (spec.pair a b) result }
 {
     match first {
         Ok(first) => match second {
@@ -35,17 +37,38 @@ pub(crate) fn both<A: Drop, B: Drop>(
     }
 }
 
+/// The value of this argument isn't one that it takes.
+pub(crate) fn wrong<V>(alloc: Global, id: &str) -> Result<V, NoValue>
+    ensures { Reads None result }
+{
+    match Text::from_str(alloc, id) {
+        Ok(id) => Err(NoValue::Wrong(id)),
+        Err(_) => Err(NoValue::Memory),
+    }
+}
+
+/// What a reader of the value of this argument answered.
+fn of_argument<V>(alloc: Global, id: &str, read: Result<V, WordError>) -> Result<V, NoValue>
+    ensures { (meaning : Option V) → Answers meaning read → Reads meaning result }
+{
+    match read {
+        Ok(value) => Ok(value),
+        Err(WordError::Refused) => wrong(alloc, id),
+        Err(WordError::Memory) => Err(NoValue::Memory),
+    }
+}
+
 /// The value of an argument that has to be there.
 pub(crate) fn needed<V: FromWord>(
     alloc: Global,
     matches: &ArgMatches,
     id: &str,
-) -> Result<V, WordError>
-    ensures { Answers (spec.needed V.reads id.now (rows_of (found_of matches.now))) result }
+) -> Result<V, NoValue>
+    ensures { Reads (spec.needed V.reads id.now (rows_of (found_of matches.now))) result }
 {
     match value_in(matches, id) {
-        Some(word) => V::read(alloc, word),
-        None => Err(WordError::Refused),
+        Some(word) => of_argument(alloc, id, V::read(alloc, word)),
+        None => wrong(alloc, id),
     }
 }
 
@@ -54,11 +77,11 @@ pub(crate) fn optional<V: FromWord>(
     alloc: Global,
     matches: &ArgMatches,
     id: &str,
-) -> Result<Option<V>, WordError>
-    ensures { Answers (spec.optional V.reads id.now (rows_of (found_of matches.now))) result }
+) -> Result<Option<V>, NoValue>
+    ensures { Reads (spec.optional V.reads id.now (rows_of (found_of matches.now))) result }
 {
     match value_in(matches, id) {
-        Some(word) => match V::read(alloc, word) {
+        Some(word) => match of_argument(alloc, id, V::read(alloc, word)) {
             Ok(read) => Ok(Some(read)),
             Err(error) => Err(error),
         },

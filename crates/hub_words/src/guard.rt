@@ -8,7 +8,7 @@ ghost use Rattle.hub_words.specs.Guard as spec;
 use crate::command::{begun, choice, needed_choice};
 use crate::from_word::{both, needed, optional};
 use crate::reading::{CommandWords, read};
-use crate::word_error::WordError;
+use crate::word_error::{NoValue, WordError};
 use addresses::address::Address;
 use clap::{ArgMatches, Command};
 use hub_kit::names::ServerKey;
@@ -68,7 +68,7 @@ impl CommandWords for GuardWords {
         choice(alloc, command, "secret-file", "FILE", SECRET_FILE)
     }
 
-    fn of(alloc: Global, matches: &ArgMatches) -> Result<GuardWords, WordError> {
+    fn of(alloc: Global, matches: &ArgMatches) -> Result<GuardWords, NoValue> {
         let values = both(
             both(
                 needed::<Address>(alloc, matches, "listen"),

@@ -5,6 +5,8 @@
 #![tactic(auto)]
 
 mod address;
+pub mod backup;
+pub mod check;
 mod command;
 pub mod cull;
 mod from_word;

@@ -2,14 +2,15 @@
 ghost use Rattle.std.specs.Prelude.{◌≡◌};
 ghost use Rattle.clap.specs.Matches.{found_of};
 ghost use Rattle.clap.specs.Walk.{rows_of};
+ghost use Rattle.hub_words.specs.Arguments.{Reads};
 ghost use Rattle.hub_words.specs.Commands.{Answers};
 ghost use Rattle.hub_words.specs.Load as spec;
 
 use crate::command::{begun, positional};
-use crate::from_word::{both, needed};
+use crate::from_word::{both, needed, wrong};
 use crate::reading::{CommandWords, read};
 use crate::values::within;
-use crate::word_error::WordError;
+use crate::word_error::{NoValue, WordError};
 use clap::{ArgMatches, Command};
 use hub_kit::text::Text;
 use std::alloc::{AllocError, Global};
@@ -52,27 +53,28 @@ impl CommandWords for LoadWords {
         positional(alloc, command, "N", N)
     }
 
-    fn of(alloc: Global, matches: &ArgMatches) -> Result<LoadWords, WordError> {
+    fn of(alloc: Global, matches: &ArgMatches) -> Result<LoadWords, NoValue> {
         let values = both(
             needed::<u64>(alloc, matches, "SEED"),
             needed::<u64>(alloc, matches, "N"),
         );
         match values {
-            Ok(values) => match load_within(values) {
-                Some(words) => Ok(words),
-                None => Err(WordError::Refused),
-            },
+            Ok(values) => load_within(alloc, values),
             Err(error) => Err(error),
         }
     }
 }
 
 /// The words of these values, where they are within their bounds.
-fn load_within(values: LoadValues) -> Option<LoadWords>
-    ensures { result ≡ spec.load_within values }
+fn load_within(alloc: Global, values: LoadValues) -> Result<LoadWords, NoValue>
+    ensures { Reads (spec.load_within values) result }
 {
     let (seed, users) = values;
-    let seed = within(seed, 0, 65536)?;
-    let users = within(users, 1, 20000)?;
-    Some(LoadWords { seed, users })
+    let Some(seed) = within(seed, 0, 65536) else {
+        return wrong(alloc, "SEED");
+    };
+    let Some(users) = within(users, 1, 20000) else {
+        return wrong(alloc, "N");
+    };
+    Ok(LoadWords { seed, users })
 }

@@ -8,7 +8,7 @@ ghost use Rattle.hub_words.specs.Proxy as spec;
 use crate::command::{begun, needed_choice};
 use crate::from_word::{both, needed};
 use crate::reading::{CommandWords, read};
-use crate::word_error::WordError;
+use crate::word_error::{NoValue, WordError};
 use addresses::address::Address;
 use clap::{ArgMatches, Command};
 use hub_kit::text::Text;
@@ -66,7 +66,7 @@ impl CommandWords for ProxyWords {
         needed_choice(alloc, command, "secret-file", "FILE", SECRET_FILE)
     }
 
-    fn of(alloc: Global, matches: &ArgMatches) -> Result<ProxyWords, WordError> {
+    fn of(alloc: Global, matches: &ArgMatches) -> Result<ProxyWords, NoValue> {
         let values = both(
             needed::<Address>(alloc, matches, "listen"),
             both(

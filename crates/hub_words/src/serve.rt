@@ -2,14 +2,15 @@
 ghost use Rattle.std.specs.Prelude.{◌≡◌};
 ghost use Rattle.clap.specs.Matches.{found_of};
 ghost use Rattle.clap.specs.Walk.{rows_of};
+ghost use Rattle.hub_words.specs.Arguments.{Reads};
 ghost use Rattle.hub_words.specs.Commands.{Answers};
 ghost use Rattle.hub_words.specs.Serve as spec;
 
 use crate::command::{begun, choice, flag, is_given, needed_choice};
-use crate::from_word::{both, needed, optional};
+use crate::from_word::{both, needed, optional, wrong};
 use crate::reading::{CommandWords, read};
 use crate::values::within;
-use crate::word_error::WordError;
+use crate::word_error::{NoValue, WordError};
 use clap::{ArgMatches, Command};
 use hub_kit::text::Text;
 use std::alloc::{AllocError, Global};
@@ -68,7 +69,7 @@ impl CommandWords for ServeWords {
         choice(alloc, command, "connections", "N", CONNECTIONS)
     }
 
-    fn of(alloc: Global, matches: &ArgMatches) -> Result<ServeWords, WordError> {
+    fn of(alloc: Global, matches: &ArgMatches) -> Result<ServeWords, NoValue> {
         let values = both(
             both(
                 needed::<Text>(alloc, matches, "config"),
@@ -80,22 +81,25 @@ impl CommandWords for ServeWords {
             ),
         );
         match values {
-            Ok(values) => match serve_with(matches, values) {
-                Some(words) => Ok(words),
-                None => Err(WordError::Refused),
-            },
+            Ok(values) => serve_with(alloc, matches, values),
             Err(error) => Err(error),
         }
     }
 }
 
 /// The words of these values and of the flag, where there are at most 16 workers.
-fn serve_with(matches: &ArgMatches, values: ServeValues) -> Option<ServeWords>
-    ensures { result ≡ spec.serve_with (rows_of (found_of matches.now)) values }
+fn serve_with(
+    alloc: Global,
+    matches: &ArgMatches,
+    values: ServeValues,
+) -> Result<ServeWords, NoValue>
+    ensures { Reads (spec.serve_with (rows_of (found_of matches.now)) values) result }
 {
     let ((config, db), (workers, connections)) = values;
-    let workers = within(workers.unwrap_or(4), 1, 16)?;
-    Some(ServeWords {
+    let Some(workers) = within(workers.unwrap_or(4), 1, 16) else {
+        return wrong(alloc, "workers");
+    };
+    Ok(ServeWords {
         config,
         db,
         no_trail: is_given(matches, "no-trail"),

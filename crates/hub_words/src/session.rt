@@ -9,7 +9,7 @@ use crate::command::{begun, choice, flag, is_given, positional};
 use crate::from_word::{both, needed, optional};
 use crate::reading::{CommandWords, read};
 use crate::values::Secret;
-use crate::word_error::WordError;
+use crate::word_error::{NoValue, WordError};
 use clap::{ArgMatches, Command};
 use hub_kit::moment::Moment;
 use hub_kit::names::UserName;
@@ -91,7 +91,7 @@ impl CommandWords for SessionWords {
         flag(alloc, command, "no-trail", NO_TRAIL)
     }
 
-    fn of(alloc: Global, matches: &ArgMatches) -> Result<SessionWords, WordError> {
+    fn of(alloc: Global, matches: &ArgMatches) -> Result<SessionWords, NoValue> {
         let values = both(
             both(
                 needed::<Moment>(alloc, matches, "NOW"),

@@ -1,4 +1,5 @@
 //! Why words are refused.
+use hub_kit::text::Text;
 use std::fmt;
 
 /// The words are not those of the command, or there is no memory to read them.
@@ -16,4 +17,12 @@ impl fmt::Display for WordError {
         };
         f.write_str(why)
     }
+}
+
+/// Why the matches of a command's words aren't read. The readers of its values say it where it comes up, so that none is forgotten.
+#[derive(Drop)]
+pub(crate) enum NoValue {
+    /// The value of this argument isn't of its form, or out of its limits.
+    Wrong(Text),
+    Memory,
 }

@@ -1,52 +1,51 @@
-//! Which value of a command's words isn't of its form, for what people are told. No contract speaks of it: the readers of the values are
-//! those that the contracts speak of.
-use crate::from_word::{FromWord, optional};
-use crate::values::Secret;
-use crate::word_error::WordError;
-use addresses::address::Address;
+//! Which value of a command's words isn't one that it takes, for what people are told. No contract speaks of it: the command's own reader
+//! says at which argument it stopped.
+use crate::reading::CommandWords;
+use crate::table::{OverCommands, over_all};
+use crate::word_error::NoValue;
 use clap::ArgMatches;
-use hub_kit::moment::Moment;
-use hub_kit::names::{ServerKey, UserName};
-use hub_kit::target::Target;
-use std::alloc::Global;
+use hub_kit::text::Text;
+use std::alloc::{AllocError, Global};
 
-/// Arguments whose values are numbers, of whichever command, and so on.
-const NUMBERS: [&str; 8] = [
-    "workers",
-    "connections",
-    "timeout",
-    "max-age",
-    "cull-every",
-    "rounds",
-    "SEED",
-    "N",
-];
-
-const ADDRESSES: [&str; 2] = ["listen", "api"];
-
-const TARGETS: [&str; 2] = ["hub", "target"];
-
-/// The first of these arguments whose value isn't read.
-fn first_wrong<V: FromWord>(
-    alloc: Global,
-    matches: &ArgMatches,
-    ids: &[&'static str],
-) -> Option<&'static str> {
-    for id in ids {
-        if let Err(WordError::Refused) = optional::<V>(alloc, matches, id) {
-            return Some(*id);
-        }
-    }
-    None
+/// The argument at which the reader of the command with this name stops, once that command was met.
+#[derive(Drop)]
+struct Stop<'n, 'm, 'a> {
+    name: &'n str,
+    matches: &'m ArgMatches<'a>,
+    at: Option<Text>,
 }
 
-/// The argument of a command whose value isn't of its form; none where a number is out of its limits.
-pub fn wrong_value(alloc: Global, matches: &ArgMatches) -> Option<&'static str> {
-    first_wrong::<u64>(alloc, matches, &NUMBERS)
-        .or(first_wrong::<Address>(alloc, matches, &ADDRESSES))
-        .or(first_wrong::<Target>(alloc, matches, &TARGETS))
-        .or(first_wrong::<ServerKey>(alloc, matches, &["for"]))
-        .or(first_wrong::<Moment>(alloc, matches, &["NOW"]))
-        .or(first_wrong::<UserName>(alloc, matches, &["USER"]))
-        .or(first_wrong::<Secret>(alloc, matches, &["TOKEN"]))
+/// The argument at which a reader stops, if it does.
+fn stop_of<W: CommandWords>(alloc: Global, matches: &ArgMatches) -> Option<Text> {
+    match W::of(alloc, matches) {
+        Err(NoValue::Wrong(id)) => Some(id),
+        Ok(_) | Err(NoValue::Memory) => None,
+    }
+}
+
+impl<'n, 'm, 'a> OverCommands for Stop<'n, 'm, 'a> {
+    fn with<W: CommandWords>(self, alloc: Global) -> Result<Stop<'n, 'm, 'a>, AllocError> {
+        let Stop { name, matches, at } = self;
+        let command = W::command(alloc)?;
+        let at = if command.get_name() == name {
+            stop_of::<W>(alloc, matches)
+        } else {
+            at
+        };
+        Ok(Stop { name, matches, at })
+    }
+}
+
+/// The argument of the command with this name whose value isn't of its form, or out of its limits.
+pub fn wrong_value(
+    alloc: Global,
+    name: &str,
+    matches: &ArgMatches,
+) -> Result<Option<Text>, AllocError> {
+    let stop = Stop {
+        name,
+        matches,
+        at: None,
+    };
+    Ok(over_all(alloc, stop)?.at)
 }

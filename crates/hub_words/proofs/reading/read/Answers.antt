@@ -17,7 +17,7 @@ returns-in-Ok-matches_in g c =
     let first : begins c.args.name.now c.args.words.now ≡ true = search rules in
     let same : map (λ s. s.now) c.as_slice.result.now ≡ c.args.words.now = ap (map (λ s. s.now)) c.as_slice.ensures.value ∙ c.in-Ok.ensures in
     let known = c.in-Ok-matches_in.ensures in
-    taken c.args.name.now words.app words.says c.args.words.now _ _ _ c.of.result first c.in-Ok-command.ensures same known.taken known.rows c.of.ensures
+    taken c.args.name.now words.app words.says c.args.words.now _ _ _ c.of_matches.result first c.in-Ok-command.ensures same known.taken known.rows (c.of_matches.ensures _ c.of.ensures)
 
 pub returns : goal.returns
 returns g c =
