@@ -71,13 +71,13 @@ header_map f g same [] = refl
 header_map f g same (x ∷ xs) = ap (λ h. h ∷ map g xs) (same x) ∙ ap (λ hs. as_header (f x) ∷ hs) (header_map f g same xs)
 
 -- the headers that the spans cover are those of the head
-same_headers : (bytes : List ℕ) (spans : List HeaderSpan) (fields : List Field) → map (header_bytes bytes) spans ≡ map name_and_value fields
+pub same_headers : (bytes : List ℕ) (spans : List HeaderSpan) (fields : List Field) → map (header_bytes bytes) spans ≡ map name_and_value fields
     → map (header_at bytes) spans ≡ map header_of fields
 same_headers bytes spans fields same =
     header_map (header_bytes bytes) (header_at bytes) (λ x. refl) spans
     ∙ (ap (map as_header) same ∙ sym (header_map name_and_value header_of (λ x. refl) fields))
 
-reply_count : (bytes : List ℕ) (spans : List HeaderSpan) (r : ResponseSpans) (h : ResponseHead) → r.headers ≤ length spans
+pub reply_count : (bytes : List ℕ) (spans : List HeaderSpan) (r : ResponseSpans) (h : ResponseHead) → r.headers ≤ length spans
     → IsResponseAt bytes spans r h → r.headers ≡ length h.fields
 reply_count bytes spans r h fits at =
     sym (length-take-le r.headers spans fits)

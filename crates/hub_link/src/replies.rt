@@ -18,13 +18,13 @@ const CONTENT_LENGTH: &[u8] = b"content-length";
 
 /// A whole head, or none of at most 64 headers.
 #[derive(Clone, Copy)]
-enum Front {
+pub(crate) enum Front {
     Whole(ResponseSpans),
     Other,
 }
 
 /// Looks for a head with at most 64 headers.
-fn find_front(bytes: &[u8], spans: &mut [HeaderSpan]) -> Front
+pub(crate) fn find_front(bytes: &[u8], spans: &mut [HeaderSpan]) -> Front
     requires { length spans.old ≡ 64 }
     ensures front { IsFront bytes.now spans.new result }
     ensures room { length spans.new ≡ 64 }
@@ -65,7 +65,7 @@ fn with_header(said: Option<Decimal>, name: &[u8], value: &[u8]) -> Option<Decim
 }
 
 /// What the `Content-Length` headers say.
-fn length_said(bytes: &[u8], spans: &[HeaderSpan]) -> Option<Decimal>
+pub(crate) fn length_said(bytes: &[u8], spans: &[HeaderSpan]) -> Option<Decimal>
     requires { All (IsHeaderWithin (length bytes.now)) spans.now }
     ensures { result ≡ due.length_said (map (header_at bytes.now) spans.now) }
 {
