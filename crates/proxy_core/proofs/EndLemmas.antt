@@ -122,19 +122,24 @@ ends_back q old mid new bytes given got behind r f (Ok Passed) moved sent begins
   got ++ back.1,
   reply_passed r ++ back.0,
   (moved_left old mid new bytes left kept moved.0, Moves_more _ _ _ given got back.1 moved.1 back.4),
-  went_later q mid.kept new.kept bytes given old.links mid.links new.links kept late sent,
   subst (λ (h : Option (List ℕ)). Appends h (reply_passed r ++ back.0) new.held) held back.5,
   record {
-    reply = r;
-    framing = f;
-    rest = behind ++ back.1;
-    body = back.0;
-    tail = back.2;
-    begins = begins_more q.upgrade q.method got r f behind back.1 begins;
-    settled = settled;
-    split = back.3;
-    text = refl;
-    ends = later_end f new.told back.0 back.2 old.links mid.links new.links old.writes mid.writes new.writes early late (omega (arith, writes)) written back.6;
+    links = mid.links;
+    counted = early;
+    later = late;
+    went = went_later q mid.kept new.kept bytes given old.links mid.links mid.links kept (omega arith) sent;
+    back = record {
+      reply = r;
+      framing = f;
+      rest = behind ++ back.1;
+      body = back.0;
+      tail = back.2;
+      begins = begins_more q.upgrade q.method got r f behind back.1 begins;
+      settled = settled;
+      split = back.3;
+      text = refl;
+      ends = later_end f new.told back.0 back.2 mid.links mid.links new.links old.writes mid.writes new.writes (omega arith) late (omega (arith, writes)) written back.6;
+    };
   },
 )
 ends_back q old mid new bytes given got behind r f (Ok (Refused s)) moved sent begins settled left kept held writes early late written back = absurd back

@@ -126,11 +126,18 @@ pub record IsUnwritten (q : Going) (old new : Place) (body given got part : List
       ⊎ ((r : ResponseHead) × (f : Framing) × (rest : List ℕ) × BeginsReply q.upgrade q.method got r f rest
       × IsCutBack (reply_passed r) f rest part more × WentOn q new.kept body given old.links new.links)
 
+-- The request went on, or a front of it, and then its reply was passed back; `links` is the upstream's count between
+pub record Answered (q : Going) (body given got gave : List ℕ) (old new : Place) : Type 0 where
+  pub links : ℕ
+  pub counted : old.links ≤ links
+  pub later : links ≤ new.links
+  pub went : WentOn q new.kept body given old.links links
+  pub back : PassedBack q got gave (record old { links = links }) new
+
 -- How the request q to an upstream that is connected ends. old is all that the call touches, and new the same after it
 abbrev pub PassEnds : Going → Place → Place → Result Forwarded SessionFault → Type 0
 PassEnds q old new (Ok Passed) =
-    (body given got gave : List ℕ) × Moved old new body given got × WentOn q new.kept body given old.links new.links
-    × Appends old.held gave new.held × PassedBack q got gave old new
+    (body given got gave : List ℕ) × Moved old new body given got × Appends old.held gave new.held × Answered q body given got gave old new
 PassEnds q old new (Ok (Refused s)) =
     (r : Refusal) × (body given got : List ℕ) × Moved old new body given got × (s ≡ status_of r)
     × Appends old.held (refusal_text r) new.held × IsRefused q new.kept new.told old.links new.links body given got r
