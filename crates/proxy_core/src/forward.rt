@@ -3,6 +3,7 @@ ghost use Rattle.std.specs.Prelude.{◌≡◌, ◌≢◌, ◌≤◌, ◌<◌, �
 ghost use Rattle.http_wire.specs.Target as targets;
 ghost use Rattle.proxy_core.specs.Forward.{IsStopped, IsUnchosen, IsChosen, ForwardEnds};
 ghost use Rattle.proxy_core.specs.Forward as spec;
+ghost use Rattle.proxy_core.specs.Telling.{place_of};
 
 use crate::passes::pass_on;
 use crate::refusals::{Forwarded, Refusal, refuse, wire_refusal};
@@ -114,25 +115,8 @@ fn forward_kept<L: Lookup, I: Source, O: Sink, U: Upstream>(
     up: &mut U,
 ) -> Result<Forwarded, SessionFault>
     requires { rooms.old.kept ≡ [] }
-    ensures ends { (kept : List ℕ) × ForwardEnds L.found now
-        (record {
-          left = I.left input.old;
-          kept = [];
-          held = O.held output.old;
-          told = U.told up.old;
-          reads = I.faults input.old;
-          links = U.faults up.old;
-          writes = O.faults output.old;
-        })
-        (record {
-          left = I.left input.new;
-          kept = kept;
-          held = O.held output.new;
-          told = U.told up.new;
-          reads = I.faults input.new;
-          links = U.faults up.new;
-          writes = O.faults output.new;
-        })
+    ensures ends { let place = place_of I.Source O.Sink U.Upstream in
+        (kept : List ℕ) × ForwardEnds L.found now (place input.old [] output.old up.old) (place input.new kept output.new up.new)
         routes.old routes.new result }
     ensures reads { I.faults input.old ≤ I.faults input.new }
     ensures links { U.faults up.old ≤ U.faults up.new }
@@ -168,25 +152,8 @@ pub fn forward_one<L: Lookup, I: Source, O: Sink, U: Upstream>(
     output: &mut O,
     up: &mut U,
 ) -> Result<Forwarded, SessionFault>
-    ensures ends { (kept : List ℕ) × ForwardEnds L.found now
-        (record {
-          left = I.left input.old;
-          kept = [];
-          held = O.held output.old;
-          told = U.told up.old;
-          reads = I.faults input.old;
-          links = U.faults up.old;
-          writes = O.faults output.old;
-        })
-        (record {
-          left = I.left input.new;
-          kept = kept;
-          held = O.held output.new;
-          told = U.told up.new;
-          reads = I.faults input.new;
-          links = U.faults up.new;
-          writes = O.faults output.new;
-        })
+    ensures ends { let place = place_of I.Source O.Sink U.Upstream in
+        (kept : List ℕ) × ForwardEnds L.found now (place input.old [] output.old up.old) (place input.new kept output.new up.new)
         routes.old routes.new result }
     ensures reads { I.faults input.old ≤ I.faults input.new }
     ensures links { U.faults up.old ≤ U.faults up.new }

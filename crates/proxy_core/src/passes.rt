@@ -5,6 +5,7 @@ ghost use Rattle.hub_devices.specs.Streams.{Appends};
 ghost use Rattle.upstreams.specs.Upstream.{IsOpen};
 ghost use Rattle.proxy_wire.specs.Heads as heads;
 ghost use Rattle.proxy_core.specs.Passes.{PassEnds, BackEnds, PassOn};
+ghost use Rattle.proxy_core.specs.Telling.{place_of};
 
 use crate::exchange::{Stop, exchange};
 use crate::refusals::{Forwarded, Refusal, refuse};
@@ -83,25 +84,9 @@ fn pass_linked<I: Source, O: Sink, U: Upstream>(
 ) -> Result<Forwarded, SessionFault>
     requires sized { framing ≢ Framing.ToEnd }
     requires open { IsOpen (U.told up.old) }
-    ensures ends { (rest : List ℕ) × PassEnds (record { upgrade = false; method = method.now; text = text.now; framing = framing })
-        (record {
-          left = I.left input.old;
-          kept = rooms.old.kept;
-          held = O.held output.old;
-          told = U.told up.old;
-          reads = I.faults input.old;
-          links = U.faults up.old;
-          writes = O.faults output.old;
-        })
-        (record {
-          left = I.left input.new;
-          kept = rest ++ rooms.new.kept;
-          held = O.held output.new;
-          told = U.told up.new;
-          reads = I.faults input.new;
-          links = U.faults up.new;
-          writes = O.faults output.new;
-        }) result }
+    ensures ends { let place = place_of I.Source O.Sink U.Upstream in
+        (rest : List ℕ) × PassEnds (record { upgrade = false; method = method.now; text = text.now; framing = framing })
+        (place input.old rooms.old.kept output.old up.old) (place input.new (rest ++ rooms.new.kept) output.new up.new) result }
     ensures reads { I.faults input.old ≤ I.faults input.new }
     ensures links { U.faults up.old ≤ U.faults up.new }
     ensures writes { O.faults output.old ≤ O.faults output.new }
@@ -142,27 +127,10 @@ pub fn pass_on<I: Source, O: Sink, U: Upstream>(
 ) -> Result<Forwarded, SessionFault>
     requires minor { head.now.minor ≤ 1 }
     requires sized { framing ≢ Framing.ToEnd }
-    ensures ends { (rest : List ℕ)
-        × PassOn (record { upgrade = false; method = head.now.method; text = heads.request_text false head.now; framing = framing })
-        target.now
-        (record {
-          left = I.left input.old;
-          kept = rooms.old.kept;
-          held = O.held output.old;
-          told = U.told up.old;
-          reads = I.faults input.old;
-          links = U.faults up.old;
-          writes = O.faults output.old;
-        })
-        (record {
-          left = I.left input.new;
-          kept = rest ++ rooms.new.kept;
-          held = O.held output.new;
-          told = U.told up.new;
-          reads = I.faults input.new;
-          links = U.faults up.new;
-          writes = O.faults output.new;
-        }) result }
+    ensures ends { let place = place_of I.Source O.Sink U.Upstream in
+        (rest : List ℕ) × PassOn
+        (record { upgrade = false; method = head.now.method; text = heads.request_text false head.now; framing = framing }) target.now
+        (place input.old rooms.old.kept output.old up.old) (place input.new (rest ++ rooms.new.kept) output.new up.new) result }
     ensures reads { I.faults input.old ≤ I.faults input.new }
     ensures links { U.faults up.old ≤ U.faults up.new }
     ensures writes { O.faults output.old ≤ O.faults output.new }
