@@ -1,5 +1,5 @@
 -- The texts of a sign-in.
-use Rattle.std.specs.Prelude.{ℕ, List, [], ◌++◌, length, codes, decimal}
+use Rattle.std.specs.Prelude.{Bool, ℕ, List, [], ◌++◌, length, codes, decimal}
 use Rattle.form_urlencoded.specs.Form.{append_pair}
 use Rattle.hub_kit.specs.declared.names.ServerKey.{ServerKey}
 use Rattle.guard_login.specs.Nexts.{base_of}
@@ -48,21 +48,25 @@ unfoldable pub found_text : List ℕ → List ℕ → List ℕ
 found_text location lines =
     codes "HTTP/1.1 302 Found\r\nContent-Length: 0\r\nLocation: " ++ location ++ codes "\r\n" ++ lines ++ codes "Connection: close\r\n\r\n"
 
+-- how a line ends that sets a cookie: no script reads it, no form of another site sends it, and a secure one goes over TLS alone
+abbrev pub cookie_end : Bool → List ℕ
+cookie_end secure = if secure then codes "; HttpOnly; SameSite=Lax; Secure\r\n" else codes "; HttpOnly; SameSite=Lax\r\n"
+
 -- the cookie of a sign-in: STATE.NEXT
-unfoldable pub state_line : List ℕ → List ℕ → List ℕ → List ℕ
-state_line base state next =
-    codes "Set-Cookie: hub-guard-state=" ++ state ++ codes "." ++ next ++ codes "; Path=" ++ base ++ codes "; HttpOnly; SameSite=Lax\r\n"
+unfoldable pub state_line : Bool → List ℕ → List ℕ → List ℕ → List ℕ
+state_line secure base state next =
+    codes "Set-Cookie: hub-guard-state=" ++ state ++ codes "." ++ next ++ codes "; Path=" ++ base ++ cookie_end secure
 
 -- the cookie of a token, and the end of that of its sign-in
-unfoldable pub token_lines : List ℕ → List ℕ → List ℕ
-token_lines base token =
-    codes "Set-Cookie: hub-guard=" ++ token ++ codes "; Path=" ++ base ++ codes "; HttpOnly; SameSite=Lax\r\n"
+unfoldable pub token_lines : Bool → List ℕ → List ℕ → List ℕ
+token_lines secure base token =
+    codes "Set-Cookie: hub-guard=" ++ token ++ codes "; Path=" ++ base ++ cookie_end secure
     ++ codes "Set-Cookie: hub-guard-state=; Path=" ++ base ++ codes "; Max-Age=0\r\n"
 
 -- to the hub, where the browser signs in
 unfoldable pub sends_text : Door → List ℕ → List ℕ → List ℕ
-sends_text door state next = found_text (authorize_url door state) (state_line (base_of door.key) state next)
+sends_text door state next = found_text (authorize_url door state) (state_line door.secure_cookies (base_of door.key) state next)
 
 -- back to where it wanted to go, with its token
 unfoldable pub gives_text : Door → List ℕ → List ℕ → List ℕ
-gives_text door token next = found_text next (token_lines (base_of door.key) token)
+gives_text door token next = found_text next (token_lines door.secure_cookies (base_of door.key) token)

@@ -29,7 +29,9 @@ const DOT: &[u8] = b".";
 
 const PATH: &[u8] = b"; Path=";
 
-const FLAGS: &[u8] = b"; HttpOnly; SameSite=Lax\r\n";
+const COOKIE_END: &[u8] = b"; HttpOnly; SameSite=Lax\r\n";
+
+const SECURE_COOKIE_END: &[u8] = b"; HttpOnly; SameSite=Lax; Secure\r\n";
 
 const TOKEN_COOKIE: &[u8] = b"Set-Cookie: hub-guard=";
 
@@ -143,9 +145,26 @@ fn authorize_url(alloc: Global, door: &Door, state: &Text) -> Result<Bytes, Allo
     Ok(text)
 }
 
+/// How a line ends that sets a cookie.
+fn cookie_end(secure: bool) -> &'static [u8]
+    ensures { result.now ≡ spec.cookie_end secure }
+{
+    if secure {
+        SECURE_COOKIE_END
+    } else {
+        COOKIE_END
+    }
+}
+
 #[tactic(auto, unfolding(crate::specs::Texts::state_line))]
-fn state_line(alloc: Global, base: &Text, state: &Text, next: &Text) -> Result<Bytes, AllocError>
-    ensures { IfOk result (λ text. text ≡ spec.state_line base.now state.now next.now) }
+fn state_line(
+    alloc: Global,
+    secure: bool,
+    base: &Text,
+    state: &Text,
+    next: &Text,
+) -> Result<Bytes, AllocError>
+    ensures { IfOk result (λ text. text ≡ spec.state_line secure base.now state.now next.now) }
 {
     let mut text = Bytes::from_slice(alloc, STATE_COOKIE)?;
     text.push_all(state.as_bytes())?;
@@ -153,19 +172,24 @@ fn state_line(alloc: Global, base: &Text, state: &Text, next: &Text) -> Result<B
     text.push_all(next.as_bytes())?;
     text.push_all(PATH)?;
     text.push_all(base.as_bytes())?;
-    text.push_all(FLAGS)?;
+    text.push_all(cookie_end(secure))?;
     Ok(text)
 }
 
 #[tactic(auto, unfolding(crate::specs::Texts::token_lines))]
-fn token_lines(alloc: Global, base: &Text, token: &Bytes) -> Result<Bytes, AllocError>
-    ensures { IfOk result (λ text. text ≡ spec.token_lines base.now token.now) }
+fn token_lines(
+    alloc: Global,
+    secure: bool,
+    base: &Text,
+    token: &Bytes,
+) -> Result<Bytes, AllocError>
+    ensures { IfOk result (λ text. text ≡ spec.token_lines secure base.now token.now) }
 {
     let mut text = Bytes::from_slice(alloc, TOKEN_COOKIE)?;
     text.push_all(token.as_slice())?;
     text.push_all(PATH)?;
     text.push_all(base.as_bytes())?;
-    text.push_all(FLAGS)?;
+    text.push_all(cookie_end(secure))?;
     text.push_all(NO_STATE)?;
     text.push_all(base.as_bytes())?;
     text.push_all(GONE)?;
@@ -197,7 +221,7 @@ pub fn sends_text(
 {
     let base = base_of(alloc, &door.key)?;
     let location = authorize_url(alloc, door, state)?;
-    let lines = state_line(alloc, &base, state, next)?;
+    let lines = state_line(alloc, door.secure_cookies, &base, state, next)?;
     found_text(alloc, &location, &lines)
 }
 
@@ -212,6 +236,6 @@ pub fn gives_text(
     ensures { IfOk result (λ text. text ≡ spec.gives_text door.now token.now next.now) }
 {
     let base = base_of(alloc, &door.key)?;
-    let lines = token_lines(alloc, &base, token)?;
+    let lines = token_lines(alloc, door.secure_cookies, &base, token)?;
     found_text(alloc, next, &lines)
 }

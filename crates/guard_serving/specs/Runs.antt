@@ -12,10 +12,16 @@ use Rattle.guard_serving.specs.Hall.{Hall}
 use Rattle.guard_serving.specs.declared.ends.GuardEnd.{GuardEnd}
 use Rattle.guard_serving.specs.declared.ends.GuardFault.TheVariants as fault
 
--- The door of a guard with these words and this secret: its server, where that is, where the hub is, and the secret of the server's client
--- there
+-- The door of a guard with these words and this secret: its server, where that is, where the hub is, the secret of the server's client
+-- there, and whether cookies are for TLS alone
 abbrev pub door_of : GuardWords → List ℕ → Door
-door_of words secret = record { key = words.server; target = words.target; hub = words.hub; secret = secret }
+door_of words secret = record {
+  key = words.server;
+  target = words.target;
+  hub = words.hub;
+  secret = secret;
+  secure_cookies = words.secure_cookies;
+}
 
 module _ {K I O : Type 0} (are_sides : I → O → Type 0) (guarded : ServerKey × List ℕ → K → I → O → K → I → O → Type 0)
     (signed_in : Door → K → I → O → K → I → O → Type 0) (kits kits' : List K) where

@@ -34,6 +34,7 @@ fn door_of(words: GuardWords, secret: Text) -> Door
         target: words.target,
         hub: words.hub,
         secret,
+        secure_cookies: words.secure_cookies,
     }
 }
 

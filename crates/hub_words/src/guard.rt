@@ -5,7 +5,7 @@ ghost use Rattle.clap.specs.Walk.{rows_of};
 ghost use Rattle.hub_words.specs.Commands.{Answers};
 ghost use Rattle.hub_words.specs.Guard as spec;
 
-use crate::command::{begun, choice, needed_choice};
+use crate::command::{begun, choice, flag, is_given, needed_choice};
 use crate::from_word::{both, needed, optional};
 use crate::reading::{CommandWords, read};
 use crate::word_error::{NoValue, WordError};
@@ -29,6 +29,8 @@ const TARGET: &str = "Where the server listens, as http://HOST:PORT";
 
 const SECRET_FILE: &str = "The file with the server's secret; with it browsers sign in";
 
+const SECURE_COOKIES: &str = "Browsers send its cookies over TLS alone";
+
 /// What the words of `guard` say: whose server is guarded, and where all stand.
 #[derive(Drop)]
 pub struct GuardWords {
@@ -41,10 +43,12 @@ pub struct GuardWords {
     pub target: Target,
     /// The name of the file with the server's secret, where browsers sign in.
     pub secret_file: Option<Text>,
+    /// Whether the cookies of who signs in go over TLS alone.
+    pub secure_cookies: bool,
 }
 
-/// Reads the words `guard --listen A --for U/S --hub T --target T [--secret-file F]`, of which `guard` is the first. An address A is
-/// `HOST:PORT`, of which `http://HOST:PORT` is a target, U/S the key of a server, and T a target.
+/// Reads the words `guard --listen A --for U/S --hub T --target T [--secret-file F] [--secure-cookies]`, of which `guard` is the first. An
+/// address A is `HOST:PORT`, of which `http://HOST:PORT` is a target, U/S the key of a server, and T a target.
 pub fn read_guard(alloc: Global, words: &[Text]) -> Result<GuardWords, WordError>
     ensures { Answers (spec.guard_read words.now) result }
 {
@@ -65,7 +69,8 @@ impl CommandWords for GuardWords {
         let command = needed_choice(alloc, command, "for", "USER/SERVER", FOR);
         let command = needed_choice(alloc, command, "hub", "URL", HUB);
         let command = needed_choice(alloc, command, "target", "URL", TARGET);
-        choice(alloc, command, "secret-file", "FILE", SECRET_FILE)
+        let command = choice(alloc, command, "secret-file", "FILE", SECRET_FILE);
+        flag(alloc, command, "secure-cookies", SECURE_COOKIES)
     }
 
     fn of(alloc: Global, matches: &ArgMatches) -> Result<GuardWords, NoValue> {
@@ -83,15 +88,15 @@ impl CommandWords for GuardWords {
             ),
         );
         match values {
-            Ok(values) => Ok(guard_with(values)),
+            Ok(values) => Ok(guard_with(matches, values)),
             Err(error) => Err(error),
         }
     }
 }
 
-/// The words of these values.
-fn guard_with(values: GuardValues) -> GuardWords
-    ensures { result ≡ spec.guard_with values }
+/// The words of these values, and of the flag.
+fn guard_with(matches: &ArgMatches, values: GuardValues) -> GuardWords
+    ensures { result ≡ spec.guard_with (rows_of (found_of matches.now)) values }
 {
     let ((listen, server), (hub, (target, secret_file))) = values;
     GuardWords {
@@ -100,5 +105,6 @@ fn guard_with(values: GuardValues) -> GuardWords
         hub,
         target,
         secret_file,
+        secure_cookies: is_given(matches, "secure-cookies"),
     }
 }

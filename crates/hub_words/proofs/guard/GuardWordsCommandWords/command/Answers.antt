@@ -9,4 +9,5 @@ returns c =
     let s2 = c.needed_choice-command-2.ensures _ s1 in
     let s3 = c.needed_choice-command-3.ensures _ s2 in
     let s4 = c.needed_choice-command-4.ensures _ s3 in
-    c.choice.ensures _ s4
+    let s5 = c.choice-command.ensures _ s4 in
+    c.flag.ensures _ s5
