@@ -1,5 +1,5 @@
 -- One request that is passed on, and how it ends.
-use Rattle.std.specs.Prelude.{◌≡◌, ◌≤◌, ◌⊎◌, ℕ, Bool, List, [], ◌++◌, Option, Result, Ok, Err}
+use Rattle.std.specs.Prelude.{◌≡◌, ◌≤◌, ◌⊎◌, ℕ, Bool, false, List, [], ◌++◌, Option, Result, Ok, Err}
 use Rattle.httparse.specs.Grammar.{ResponseHead, status_code}
 use Rattle.hub_devices.specs.Faults.{Rises}
 use Rattle.hub_devices.specs.Streams.{Appends, IsEnd}
@@ -40,6 +40,10 @@ pub record Going : Type 0 where
   pub method : List ℕ
   pub text : List ℕ
   pub framing : Framing
+
+-- one that is no upgrade
+abbrev pub plain : (method text : List ℕ) → Framing → Going
+plain method text framing = record { upgrade = false; method = method; text = text; framing = framing }
 
 -- `body` was taken of the client, `given` sent to the upstream and `got` received of it, from old to new
 abbrev pub Moved : Place → Place → List ℕ → List ℕ → List ℕ → Type 0

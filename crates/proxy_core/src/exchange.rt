@@ -5,7 +5,7 @@ ghost use Rattle.http_wire.specs.Took.{Took};
 ghost use Rattle.upstreams.specs.Upstream.{IsOpen, Moves};
 ghost use Rattle.proxy_wire.specs.Heads.{reply_passed};
 ghost use Rattle.proxy_wire.specs.Replies.{BeginsReply};
-ghost use Rattle.proxy_core.specs.Passes.{WentOn, IsStop};
+ghost use Rattle.proxy_core.specs.Passes.{WentOn, IsStop, plain};
 ghost use Rattle.proxy_core.specs.Passes as spec;
 
 use crate::refusals::Refusal;
@@ -88,13 +88,13 @@ pub(crate) fn exchange<I: Source, U: Upstream>(
     ensures ok { IfOk result (λ reply. (body given got : List ℕ) × (r : ResponseHead)
         × Took (I.left input.old) (window.old ++ kept.old) (I.left input.new) (body ++ (window.new ++ kept.new))
         × Moves (U.told up.old) given got (U.told up.new)
-        × WentOn (record { upgrade = false; method = method.now; text = text.now; framing = framing })
+        × WentOn (plain method.now text.now framing)
         (window.new ++ kept.new) body given (U.faults up.old) (U.faults up.new)
         × (reply.text ≡ reply_passed r) × BeginsReply false method.now got r reply.framing back.new) }
     ensures err { IfErr result (λ e. (body given got : List ℕ)
         × Took (I.left input.old) (window.old ++ kept.old) (I.left input.new) (body ++ (window.new ++ kept.new))
         × Moves (U.told up.old) given got (U.told up.new)
-        × IsStop (record { upgrade = false; method = method.now; text = text.now; framing = framing })
+        × IsStop (plain method.now text.now framing)
         (I.left input.new) (window.new ++ kept.new) (U.told up.new) (I.faults input.old) (I.faults input.new)
         (U.faults up.old) (U.faults up.new) body given got e) }
     ensures reads { I.faults input.old ≤ I.faults input.new }

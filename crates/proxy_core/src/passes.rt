@@ -4,7 +4,7 @@ ghost use Rattle.hub_devices.specs.Faults.{Rises};
 ghost use Rattle.hub_devices.specs.Streams.{Appends};
 ghost use Rattle.upstreams.specs.Upstream.{IsOpen};
 ghost use Rattle.proxy_wire.specs.Heads as heads;
-ghost use Rattle.proxy_core.specs.Passes.{PassEnds, BackEnds, PassOn};
+ghost use Rattle.proxy_core.specs.Passes.{PassEnds, BackEnds, PassOn, plain};
 ghost use Rattle.proxy_core.specs.Telling.{place_of};
 
 use crate::exchange::{Stop, exchange};
@@ -85,7 +85,7 @@ fn pass_linked<I: Source, O: Sink, U: Upstream>(
     requires sized { framing ≢ Framing.ToEnd }
     requires open { IsOpen (U.told up.old) }
     ensures ends { let place = place_of I.Source O.Sink U.Upstream in
-        (rest : List ℕ) × PassEnds (record { upgrade = false; method = method.now; text = text.now; framing = framing })
+        (rest : List ℕ) × PassEnds (plain method.now text.now framing)
         (place input.old rooms.old.kept output.old up.old) (place input.new (rest ++ rooms.new.kept) output.new up.new) result }
     ensures reads { I.faults input.old ≤ I.faults input.new }
     ensures links { U.faults up.old ≤ U.faults up.new }
@@ -128,8 +128,7 @@ pub fn pass_on<I: Source, O: Sink, U: Upstream>(
     requires minor { head.now.minor ≤ 1 }
     requires sized { framing ≢ Framing.ToEnd }
     ensures ends { let place = place_of I.Source O.Sink U.Upstream in
-        (rest : List ℕ) × PassOn
-        (record { upgrade = false; method = head.now.method; text = heads.request_text false head.now; framing = framing }) target.now
+        (rest : List ℕ) × PassOn (plain head.now.method (heads.request_text false head.now) framing) target.now
         (place input.old rooms.old.kept output.old up.old) (place input.new (rest ++ rooms.new.kept) output.new up.new) result }
     ensures reads { I.faults input.old ≤ I.faults input.new }
     ensures links { U.faults up.old ≤ U.faults up.new }
