@@ -1,7 +1,9 @@
 //! One request at a guard that may become a tunnel.
 ghost use Rattle.std.specs.Prelude.{◌≡◌, ◌≢◌, ◌≤◌, ◌++◌, ℕ, List, []};
 ghost use Rattle.hub_link.specs.Links.{Exchange, Asks};
+ghost use Rattle.proxy_core.specs.Telling.{place_of};
 ghost use Rattle.carries.specs.Carries.{going};
+ghost use Rattle.carries.specs.Telling.{sides_of};
 ghost use Rattle.guard.specs.Carrying.{CarryFollows, GuardCarries};
 
 use crate::denials::deny;
@@ -35,35 +37,10 @@ pub fn carry_follow<I: Source, O: Shuts, U: Carrier<I, O>>(
 ) -> Result<Carried<U::Reads, U::Writes>, SessionFault>
     requires minor { head.now.minor ≤ 1 }
     requires sized { framing ≢ Framing.ToEnd }
-    ensures ends { (rest : List ℕ)
-        × CarryFollows verdict
-        (λ reads writes. record {
-          left = U.Reads.left reads;
-          held = U.Writes.held writes;
-          reads = U.Reads.faults reads;
-          writes = U.Writes.faults writes;
-          upper_shut = U.Writes.closed writes;
-          lower_shut = O.closed output.new;
-        })
-        (going head.now framing) target.now
-        (record {
-          left = I.left input.old;
-          kept = rooms.old.kept;
-          held = O.held output.old;
-          told = U.told up.old;
-          reads = I.faults input.old;
-          links = U.faults up.old;
-          writes = O.faults output.old;
-        })
-        (record {
-          left = I.left input.new;
-          kept = rest ++ rooms.new.kept;
-          held = O.held output.new;
-          told = U.told up.new;
-          reads = I.faults input.new;
-          links = U.faults up.new;
-          writes = O.faults output.new;
-        }) result }
+    ensures ends { let place = place_of I.Source O.Sink U.Upstream in
+        let sides = sides_of U.Reads.Source U.Writes.Sink (O.closed output.new) in
+        (rest : List ℕ) × CarryFollows verdict sides (going head.now framing) target.now
+        (place input.old rooms.old.kept output.old up.old) (place input.new (rest ++ rooms.new.kept) output.new up.new) result }
     ensures reads { I.faults input.old ≤ I.faults input.new }
     ensures links { U.faults up.old ≤ U.faults up.new }
     ensures writes { O.faults output.old ≤ O.faults output.new }
@@ -87,35 +64,11 @@ fn guard_carry_kept<H: HubLink, I: Source, O: Shuts, U: Carrier<I, O>>(
     up: &mut U,
 ) -> Result<Carried<U::Reads, U::Writes>, SessionFault>
     requires { rooms.old.kept ≡ [] }
-    ensures ends { (asks : List Exchange) × (kept : List ℕ) × Asks H.asked H.does link.old asks link.new
-        × GuardCarries key.now target.now
-        (λ reads writes. record {
-          left = U.Reads.left reads;
-          held = U.Writes.held writes;
-          reads = U.Reads.faults reads;
-          writes = U.Writes.faults writes;
-          upper_shut = U.Writes.closed writes;
-          lower_shut = O.closed output.new;
-        })
-        asks (H.faults link.old) (H.faults link.new)
-        (record {
-          left = I.left input.old;
-          kept = [];
-          held = O.held output.old;
-          told = U.told up.old;
-          reads = I.faults input.old;
-          links = U.faults up.old;
-          writes = O.faults output.old;
-        })
-        (record {
-          left = I.left input.new;
-          kept = kept;
-          held = O.held output.new;
-          told = U.told up.new;
-          reads = I.faults input.new;
-          links = U.faults up.new;
-          writes = O.faults output.new;
-        }) result }
+    ensures ends { let place = place_of I.Source O.Sink U.Upstream in
+        let sides = sides_of U.Reads.Source U.Writes.Sink (O.closed output.new) in
+        (asks : List Exchange) × (kept : List ℕ) × Asks H.asked H.does link.old asks link.new × GuardCarries key.now target.now sides
+        asks (H.faults link.old) (H.faults link.new) (place input.old [] output.old up.old) (place input.new kept output.new up.new)
+        result }
     ensures asks { H.faults link.old ≤ H.faults link.new }
     ensures reads { I.faults input.old ≤ I.faults input.new }
     ensures links { U.faults up.old ≤ U.faults up.new }
@@ -147,35 +100,11 @@ pub fn guard_carry_one<H: HubLink, I: Source, O: Shuts, U: Carrier<I, O>>(
     output: &mut O,
     up: &mut U,
 ) -> Result<Carried<U::Reads, U::Writes>, SessionFault>
-    ensures ends { (asks : List Exchange) × (kept : List ℕ) × Asks H.asked H.does link.old asks link.new
-        × GuardCarries key.now target.now
-        (λ reads writes. record {
-          left = U.Reads.left reads;
-          held = U.Writes.held writes;
-          reads = U.Reads.faults reads;
-          writes = U.Writes.faults writes;
-          upper_shut = U.Writes.closed writes;
-          lower_shut = O.closed output.new;
-        })
-        asks (H.faults link.old) (H.faults link.new)
-        (record {
-          left = I.left input.old;
-          kept = [];
-          held = O.held output.old;
-          told = U.told up.old;
-          reads = I.faults input.old;
-          links = U.faults up.old;
-          writes = O.faults output.old;
-        })
-        (record {
-          left = I.left input.new;
-          kept = kept;
-          held = O.held output.new;
-          told = U.told up.new;
-          reads = I.faults input.new;
-          links = U.faults up.new;
-          writes = O.faults output.new;
-        }) result }
+    ensures ends { let place = place_of I.Source O.Sink U.Upstream in
+        let sides = sides_of U.Reads.Source U.Writes.Sink (O.closed output.new) in
+        (asks : List Exchange) × (kept : List ℕ) × Asks H.asked H.does link.old asks link.new × GuardCarries key.now target.now sides
+        asks (H.faults link.old) (H.faults link.new) (place input.old [] output.old up.old) (place input.new kept output.new up.new)
+        result }
     ensures asks { H.faults link.old ≤ H.faults link.new }
     ensures reads { I.faults input.old ≤ I.faults input.new }
     ensures links { U.faults up.old ≤ U.faults up.new }

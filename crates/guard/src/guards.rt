@@ -4,6 +4,8 @@ ghost use Rattle.std.specs.Prelude as prelude;
 ghost use Rattle.http_wire.specs.Token as tokens;
 ghost use Rattle.hub_link.specs.Links.{Exchange, Asks};
 ghost use Rattle.proxy_wire.specs.Heads as heads;
+ghost use Rattle.proxy_core.specs.Passes.{plain};
+ghost use Rattle.proxy_core.specs.Telling.{place_of};
 ghost use Rattle.guard.specs.Guards.{Judges, Follows, GuardEnds};
 ghost use Rattle.guard.specs.Guards as spec;
 
@@ -94,32 +96,9 @@ pub fn follow<I: Source, O: Sink, U: Upstream>(
 ) -> Result<Forwarded, SessionFault>
     requires minor { head.now.minor ≤ 1 }
     requires sized { framing ≢ Framing.ToEnd }
-    ensures ends { (rest : List ℕ)
-        × Follows verdict (record {
-          upgrade = false;
-          method = head.now.method;
-          text = heads.request_text false head.now;
-          framing = framing;
-        })
-        target.now
-        (record {
-          left = I.left input.old;
-          kept = rooms.old.kept;
-          held = O.held output.old;
-          told = U.told up.old;
-          reads = I.faults input.old;
-          links = U.faults up.old;
-          writes = O.faults output.old;
-        })
-        (record {
-          left = I.left input.new;
-          kept = rest ++ rooms.new.kept;
-          held = O.held output.new;
-          told = U.told up.new;
-          reads = I.faults input.new;
-          links = U.faults up.new;
-          writes = O.faults output.new;
-        }) result }
+    ensures ends { let place = place_of I.Source O.Sink U.Upstream in
+        (rest : List ℕ) × Follows verdict (plain head.now.method (heads.request_text false head.now) framing) target.now
+        (place input.old rooms.old.kept output.old up.old) (place input.new (rest ++ rooms.new.kept) output.new up.new) result }
     ensures reads { I.faults input.old ≤ I.faults input.new }
     ensures links { U.faults up.old ≤ U.faults up.new }
     ensures writes { O.faults output.old ≤ O.faults output.new }
@@ -143,26 +122,9 @@ fn guard_kept<H: HubLink, I: Source, O: Sink, U: Upstream>(
     up: &mut U,
 ) -> Result<Forwarded, SessionFault>
     requires { rooms.old.kept ≡ [] }
-    ensures ends { (asks : List Exchange) × (kept : List ℕ) × Asks H.asked H.does link.old asks link.new
-        × GuardEnds key.now target.now asks (H.faults link.old) (H.faults link.new)
-        (record {
-          left = I.left input.old;
-          kept = [];
-          held = O.held output.old;
-          told = U.told up.old;
-          reads = I.faults input.old;
-          links = U.faults up.old;
-          writes = O.faults output.old;
-        })
-        (record {
-          left = I.left input.new;
-          kept = kept;
-          held = O.held output.new;
-          told = U.told up.new;
-          reads = I.faults input.new;
-          links = U.faults up.new;
-          writes = O.faults output.new;
-        }) result }
+    ensures ends { let place = place_of I.Source O.Sink U.Upstream in
+        (asks : List Exchange) × (kept : List ℕ) × Asks H.asked H.does link.old asks link.new × GuardEnds key.now target.now asks
+        (H.faults link.old) (H.faults link.new) (place input.old [] output.old up.old) (place input.new kept output.new up.new) result }
     ensures asks { H.faults link.old ≤ H.faults link.new }
     ensures reads { I.faults input.old ≤ I.faults input.new }
     ensures links { U.faults up.old ≤ U.faults up.new }
@@ -195,26 +157,9 @@ pub fn guard_one<H: HubLink, I: Source, O: Sink, U: Upstream>(
     output: &mut O,
     up: &mut U,
 ) -> Result<Forwarded, SessionFault>
-    ensures ends { (asks : List Exchange) × (kept : List ℕ) × Asks H.asked H.does link.old asks link.new
-        × GuardEnds key.now target.now asks (H.faults link.old) (H.faults link.new)
-        (record {
-          left = I.left input.old;
-          kept = [];
-          held = O.held output.old;
-          told = U.told up.old;
-          reads = I.faults input.old;
-          links = U.faults up.old;
-          writes = O.faults output.old;
-        })
-        (record {
-          left = I.left input.new;
-          kept = kept;
-          held = O.held output.new;
-          told = U.told up.new;
-          reads = I.faults input.new;
-          links = U.faults up.new;
-          writes = O.faults output.new;
-        }) result }
+    ensures ends { let place = place_of I.Source O.Sink U.Upstream in
+        (asks : List Exchange) × (kept : List ℕ) × Asks H.asked H.does link.old asks link.new × GuardEnds key.now target.now asks
+        (H.faults link.old) (H.faults link.new) (place input.old [] output.old up.old) (place input.new kept output.new up.new) result }
     ensures asks { H.faults link.old ≤ H.faults link.new }
     ensures reads { I.faults input.old ≤ I.faults input.new }
     ensures links { U.faults up.old ≤ U.faults up.new }
