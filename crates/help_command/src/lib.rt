@@ -51,20 +51,19 @@ fn dashes(name: &str) -> &'static str {
 }
 
 /// Says which value of a command's words is wrong, where nothing else is.
-fn say_value(rt: &HostRuntime, matches: &ArgMatches) -> ExitCode {
+fn say_value(rt: &HostRuntime, matches: &ArgMatches) -> Result<ExitCode, AllocError> {
     let Some((command, matches)) = matches.subcommand() else {
-        return say(rt, 2, "these are the words of no command: see `hub help`");
+        return Ok(say(rt, 2, "these are the words of no command: see `hub help`"));
     };
-    let _ = match wrong_value(rt.alloc(), matches) {
+    let _ = match wrong_value(rt.alloc(), command, matches)? {
         Some(name) => {
+            let name = name.as_str();
             let dashes = dashes(name);
-            eprintln!(rt;
-                "hub: the value of {dashes}{name} isn't of its form: see `hub help {command}`"
-            )
+            eprintln!(rt; "hub: {dashes}{name} doesn't take this value: see `hub help {command}`")
         }
-        None => { eprintln!(rt; "hub: a number is out of its limits: see `hub help {command}`") }
+        None => { eprintln!(rt; "hub: these are not its words: see `hub help {command}`") }
     };
-    ExitCode::from(2)
+    Ok(ExitCode::from(2))
 }
 
 /// Says what these words ask for, or what is wrong with them.
@@ -74,7 +73,7 @@ fn tell(rt: &HostRuntime, words: &[Text]) -> Result<ExitCode, AllocError> {
     let version = version_text(rt)?;
     let command = all_commands(alloc, version.as_str())?;
     match command.try_get_matches_from(typed.as_slice()) {
-        Ok(matches) => Ok(say_value(rt, &matches)),
+        Ok(matches) => say_value(rt, &matches),
         Err(error) if error.kind() == ErrorKind::OutOfMemory => Err(AllocError),
         Err(error) => Ok(print(rt, &error)),
     }

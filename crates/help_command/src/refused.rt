@@ -4,6 +4,8 @@ ghost use Rattle.hub_words.specs.Commands.{Answers};
 ghost use Rattle.help_command.specs.Refused.{AreRefused};
 
 use hub_kit::text::Text;
+use hub_words::backup::read_backup;
+use hub_words::check::read_check;
 use hub_words::cull::read_cull;
 use hub_words::guard::read_guard;
 use hub_words::load::read_load;
@@ -28,6 +30,12 @@ pub fn are_refused(alloc: Global, words: &[Text]) -> bool
     ensures { result ≡ true → AreRefused words.now }
 {
     if !is_refused(read_serve(alloc, words)) {
+        return false;
+    }
+    if !is_refused(read_check(alloc, words)) {
+        return false;
+    }
+    if !is_refused(read_backup(alloc, words)) {
         return false;
     }
     if !is_refused(read_proxy(alloc, words)) {
