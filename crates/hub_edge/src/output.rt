@@ -1,8 +1,12 @@
 //! Standard output as a device, which counts its errors and doesn't tell what it holds, and a line on standard error.
 ghost use Rattle.std.specs.Prelude.{◌≡◌, ℕ, None, false};
 
+use crate::clock::SystemClock;
+use hub_devices::clock::Clock;
 use hub_devices::sink::Sink;
 use hub_devices::source::Failed;
+use hub_kit::moments::moment_text;
+use hub_kit::text::Text;
 use std::io::{self, Write};
 use std::process::ExitCode;
 
@@ -38,6 +42,16 @@ impl Sink for Output {
                 Err(Failed)
             }
         }
+    }
+}
+
+/// The moment of the system's clock, by which a line begins that is about something that happens while the program runs. It is empty where
+/// there is no memory for it.
+pub fn moment_now(rt: &HostRuntime) -> Text {
+    let mut clock = SystemClock::new(*rt);
+    match moment_text(rt.alloc(), clock.now()) {
+        Ok(text) => text,
+        Err(_) => Text::new(rt.alloc()),
     }
 }
 

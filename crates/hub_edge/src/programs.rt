@@ -2,6 +2,7 @@
 ghost use Rattle.std.specs.Prelude.{None};
 
 use crate::marked::{Marked, end_child, end_found};
+use crate::output::moment_now;
 use crate::processes::has_ended;
 use crate::starting::{StartFault, await_ready, drain, start_program, tell_secret};
 use crate::targets::{is_held, is_served};
@@ -168,8 +169,10 @@ impl<H: Threads + Wait + Copy> Programs<H> {
         };
         let (user, server) = (key.user.as_str(), key.server.as_str());
         let target = target.as_text().as_str();
+        let moment = moment_now(&self.rt);
+        let at = moment.as_str();
         let _ = eprintln!(self.rt;
-            "hub: the program {program} of the server {user}/{server} at {target} is not started: {fault}"
+            "{at} hub: the program {program} of the server {user}/{server} at {target} is not started: {fault}"
         );
     }
 
