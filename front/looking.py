@@ -90,7 +90,9 @@ class Person:
     def __init__(self, folder):
         options = webdriver.ChromeOptions()
         words = ["--headless=new", "--no-first-run", "--disable-gpu", "--disable-dev-shm-usage", "--no-proxy-server",
-                 "--disable-extensions", "--mute-audio", "--window-size=1100,900", "--hide-scrollbars"]
+                 "--disable-extensions", "--mute-audio", "--window-size=1100,900", "--hide-scrollbars",
+                 # three people at once are all in front of their pages
+                 "--disable-renderer-backgrounding", "--disable-backgrounding-occluded-windows"]
         for word in words + (["--no-sandbox"] if os.geteuid() == 0 else []):
             options.add_argument(word)
         self.profile, self.folder = tempfile.mkdtemp(prefix="front-browser-"), folder
@@ -125,6 +127,8 @@ class Person:
             except WebDriverException as lost:
                 # a page that is just drawn anew hasn't the part any more
                 fault = lost.msg
+            except IndexError:
+                fault = "nothing of it is shown"
             time.sleep(0.1)
         raise Lost(f"{what} didn't come within {most} seconds {fault}; {self.at()} shows: {self.text()[:600]}")
 

@@ -3,7 +3,7 @@ the hub's calls stand at one address, servers and services at another one: so a 
 of who looks at it. Passwords, cookies and tokens of the front never go on to a server. What a visitor brings does: a token in the header,
 and the guard's cookie, whose token may enter that server alone and see its user's name."""
 import base64, hashlib, json, os, secrets, sys
-from parts import ADDRESS, HERE, HOME, HUB, LISTEN, PROXY, PUBLIC, PUBLIC_SERVERS, SERVERS, SITE, drawn, read, token, write
+from parts import ADDRESS, HERE, HOME, HUB, LISTEN, PROXY, PUBLIC, PUBLIC_SERVERS, SERVERS, SITE, TOLD, drawn, read, token, write
 
 FRONT = os.path.realpath(f"{HERE}/../../front")
 sys.path.append(FRONT)
@@ -36,7 +36,8 @@ def people(names, tokens={}):
 def prepare():
     """Writes the front's configuration."""
     fill.fill(SITE, {"public": PUBLIC, "servers": PUBLIC_SERVERS, "listen": LISTEN, "home": HOME, "servers_port": SERVERS,
-                     "hub": f"{ADDRESS}:{HUB}", "proxy": f"{ADDRESS}:{PROXY}", "title": "The class", "services": '{"roll": "Roll"}'})
+                     "hub": f"{ADDRESS}:{HUB}", "proxy": f"{ADDRESS}:{PROXY}", "title": "The class", "services": '{"roll": "Roll"}',
+                     "sign_in": TOLD.get("sign_in")})
 
 
 def sign_in_words():

@@ -30,10 +30,12 @@ def settings():
         return {}
     except ValueError as fault:
         stop_here(f"{SITE}/site.toml: {fault}")
-    if unknown := set(told) - {"public", "servers", "listen", "port", "box"}:
+    if unknown := set(told) - {"public", "servers", "listen", "port", "box", "sign_in"}:
         stop_here(f"{SITE}/site.toml: no key is {', '.join(sorted(unknown))}: examples/house/chem.toml has the keys")
     if not isinstance(told.get("box", True), bool):
         stop_here(f"{SITE}/site.toml: box is true or false")
+    if not re.fullmatch(r"password|pam:[\w-]+|header:[A-Za-z][A-Za-z0-9-]*", str(told.get("sign_in", "password"))):
+        stop_here(f"{SITE}/site.toml: sign_in is password, pam:SERVICE or header:NAME")
     names = [told[key] for key in ("public", "servers") if key in told]
     if not all(re.fullmatch(r"https?://(127\.0\.0\.1|[a-z0-9.-]*[a-z][a-z0-9.-]*)(:[0-9]+)?", str(name)) for name in names):
         stop_here(f"{SITE}/site.toml: public and servers are as https://chem.example.org, a name, and no path behind it")

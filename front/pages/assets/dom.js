@@ -52,10 +52,12 @@ export function row(first, ...cells) {
   return make('tr', {}, make('th', {scope: 'row'}, first), ...cells.map(cell => make('td', {}, ...[cell].flat())))
 }
 
+let form
+
 /** A moment of the hub, in the reader's own way. */
 export function moment(text) {
   if (!text) return say('never')
-  const form = new Intl.DateTimeFormat(document.documentElement.lang, {dateStyle: 'medium', timeStyle: 'short'})
+  form ??= new Intl.DateTimeFormat(document.documentElement.lang, {dateStyle: 'medium', timeStyle: 'short'})
   return form.format(new Date(text))
 }
 

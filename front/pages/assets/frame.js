@@ -1,5 +1,5 @@
 // What all pages have: the menu, a place for what is said, a question before what can't be undone, and how a press is carried out.
-import {ask, Refused, signOut, whoever} from './hub.js'
+import {ask, early, Refused, signOut, whoever} from './hub.js'
 import {button, make} from './dom.js'
 import {language, say} from './texts.js'
 import site from './site.js'
@@ -87,5 +87,5 @@ export function frame(title) {
 
 /** The reader, who is sent to sign in where there is none. */
 export async function reader() {
-  return await whoever() ?? await ask('GET', '/user')
+  return await (early('reader') ?? whoever()) ?? await ask('GET', '/user')
 }

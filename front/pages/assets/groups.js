@@ -1,18 +1,19 @@
 // The groups that the reader may see, and who is in them.
-import {all, ask, path} from './hub.js'
+import {ask, path} from './hub.js'
 import {button, field, input, make, section} from './dom.js'
 import {carry, sends, sure, tell, why} from './frame.js'
+import {pages} from './pages.js'
 import {say} from './texts.js'
 import {fills, holds} from './rights.js'
 
 const MOST = 60
 const faults = {404: 'groups.unknown', 400: 'groups.unknown'}
-let me, rights = {}, shown
+let me, rights = {}, list
 
 function member(group, user, may) {
   const take = may && button('×', '', event => carry(event.target, async () => {
     await ask('DELETE', path('groups', group, 'users'), {users: [user]})
-    await list()
+    await list.again()
     return say('groups.taken', {user, group})
   }), say('groups.member.take', {user, group}))
   return make('li', {}, user, take)
@@ -24,7 +25,7 @@ function addMember(group) {
   const done = async () => {
     const user = name.value.trim()
     await ask('POST', path('groups', group, 'users'), {users: [user]})
-    await list()
+    await list.again()
     return say('groups.added', {user, group})
   }
   return make('form', {class: 'line', onsubmit: sends(press, done, faults)}, field(say('groups.member'), name), press)
@@ -34,7 +35,7 @@ function remove(group) {
   return button(say('delete'), 'btn-outline-danger', async event => {
     if (await sure(say('groups.delete.sure', {group}), say('delete'))) carry(event.target, async () => {
       await ask('DELETE', path('groups', group))
-      await list()
+      await list.again()
       return say('groups.deleted', {group})
     })
   }, say('groups.delete.of', {group}))
@@ -55,11 +56,7 @@ function card(group) {
   return made
 }
 
-async function list() {
-  const groups = await all('/groups')
-  shown.replaceChildren(...groups.map(card))
-  if (!groups.length) shown.append(make('p', {}, say('groups.none')))
-}
+const draw = groups => groups.length ? make('div', {class: 'cards'}, ...groups.map(card)) : make('p', {}, say('groups.none'))
 
 function add() {
   const name = input({name: 'group', required: true, autocapitalize: 'none'})
@@ -68,7 +65,7 @@ function add() {
     const group = name.value.trim()
     await ask('POST', path('groups', group), {users: []})
     name.value = ''
-    await list()
+    await list.again()
     return say('groups.made', {group})
   }
   return section(say('groups.add'), make('form', {class: 'line', onsubmit: sends(press, done)}, field(say('groups.name'), name), press))
@@ -76,9 +73,9 @@ function add() {
 
 export async function fill(panel, reader) {
   me = reader
-  shown = make('div', {class: 'cards'})
+  list = pages('/groups', draw)
   // who may make groups may do all with groups: only an admin or a holder of admin:groups without a filter
   rights = {remove: await holds('delete:groups', me), add: me.admin || await holds('admin:groups', me)}
-  panel.replaceChildren(make('h2', {class: 'visually-hidden'}, say('people.groups')), shown, rights.add ? add() : '')
-  await list()
+  panel.replaceChildren(make('h2', {class: 'visually-hidden'}, say('people.groups')), ...list.parts, rights.add ? add() : '')
+  await list.first()
 }

@@ -91,12 +91,13 @@ function sharedCard(share) {
   return make('article', {class: 'card', 'data-shared': share.server}, make('h3', {}, title), make('div', {class: 'buttons'}, ...does))
 }
 
-async function draw() {
-  me = await reader()
+async function draw(told) {
+  me = told ?? await reader()
   const live = me.servers ?? {}
-  const lists = [path('shares', me.name), path('users', me.name, 'shared')]
-  const [own, given] = await Promise.all(lists.map(list => all(list).catch(() => [])))
+  const lists = [path('shares', me.name), path('users', me.name, 'shared')].map(list => all(list).catch(() => []))
+  const [own, given, may] = await Promise.all([...lists, holds('shares', me)])
   shares = own
+  mayShare = may
   remember([...remembered(), ...Object.keys(live)])
   servers.replaceChildren(...['', ...remembered()].map(server => card(server, live[server])))
   shared.replaceChildren(...given.map(sharedCard))
@@ -129,7 +130,6 @@ export async function show() {
   menu(me)
   const rest = [section(say('home.another'), another()), section(say('home.shared'), shared, useCode())]
   main.append(servers, ...rest)
-  mayShare = await holds('shares', me)
-  await draw()
+  await draw(me)
   if (location.hash.startsWith('#code=')) main.querySelector('[name=code]').focus()
 }

@@ -44,6 +44,21 @@ export const whoever = () => call('GET', 'api/user').catch(fault => {
   throw fault
 })
 
+const begun = new Map()
+
+/** Asks for something before the page that wants it is there. A failure is told to that page, and to nobody before it. */
+export function begin(name, asked) {
+  asked.catch(() => {})
+  begun.set(name, asked)
+}
+
+/** What was asked for early: the first who wants it gets it, and later ones nothing, since it may have changed. */
+export function early(name) {
+  const asked = begun.get(name)
+  begun.delete(name)
+  return asked
+}
+
 /** A page of a list, with how many there are in all. */
 export async function page(where, offset, limit) {
   const counted = {Accept: 'application/jupyterhub-pagination+json'}

@@ -36,7 +36,9 @@ export async function show() {
   frame(say('people.title'))
   const me = await reader()
   menu(me)
-  const rights = await Promise.all(parts.map(([, right]) => holds(right, me)))
+  // the rights that the users' part wants are asked for with these, and not behind them
+  const wanted = [...parts.map(([, right]) => right), 'admin:users', 'delete:users']
+  const rights = await Promise.all(wanted.map(right => holds(right, me)))
   const names = parts.filter((_, place) => rights[place]).map(([name]) => name)
   if (!names.length) return main.append(make('p', {}, say('people.none')))
   const tab = name => {

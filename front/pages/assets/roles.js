@@ -1,12 +1,13 @@
 // Roles: which scopes they give, and to whom. The two that every hub has aren't listed by it.
-import {all, ask, path} from './hub.js'
+import {ask, path} from './hub.js'
 import {button, field, input, lines, make, row, section, table} from './dom.js'
 import {carry, sends, sure} from './frame.js'
+import {pages} from './pages.js'
 import {say} from './texts.js'
 
 const KINDS = ['users', 'groups', 'services']
 const fields = {}
-let shown
+let list
 
 function edit(role) {
   return button(say('roles.edit.short'), 'btn-outline-secondary', () => {
@@ -20,7 +21,7 @@ function remove(role) {
   return button(say('delete'), 'btn-outline-danger', async event => {
     if (await sure(say('roles.delete.sure', {role}), say('delete'))) carry(event.target, async () => {
       await ask('DELETE', path('roles', role))
-      await list()
+      await list.again()
       return say('roles.deleted', {role})
     })
   }, say('roles.delete.of', {role}))
@@ -31,9 +32,9 @@ function roleRow(role) {
   return row(role.name, make('code', {}, role.scopes.join(', ')), holders || say('nobody'), does)
 }
 
-async function list() {
-  const roles = await all('/roles'), heads = ['name', 'scopes', 'holders', 'do'].map(name => say('people.col.' + name))
-  shown.replaceChildren(table(say('people.roles'), heads, roles.map(roleRow)))
+function draw(roles) {
+  const heads = ['name', 'scopes', 'holders', 'do'].map(name => say('people.col.' + name))
+  return table(say('people.roles'), heads, roles.map(roleRow))
 }
 
 function form() {
@@ -45,7 +46,7 @@ function form() {
     const role = fields.name.value.trim(), body = {}
     for (const kind of ['scopes', ...KINDS]) body[kind] = lines(fields[kind])
     await ask('PUT', path('roles', role), body)
-    await list()
+    await list.again()
     return say('roles.saved', {role})
   }
   const parts = ['name', 'scopes', ...KINDS].map(kind => field(say('roles.' + kind), fields[kind]))
@@ -53,7 +54,7 @@ function form() {
 }
 
 export async function fill(panel) {
-  shown = make('div', {})
-  panel.replaceChildren(make('h2', {class: 'visually-hidden'}, say('people.roles')), shown, section(say('roles.add'), form()))
-  await list()
+  list = pages('/roles', draw)
+  panel.replaceChildren(make('h2', {class: 'visually-hidden'}, say('people.roles')), ...list.parts, section(say('roles.add'), form()))
+  await list.first()
 }

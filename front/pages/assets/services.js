@@ -1,18 +1,19 @@
 // Services: their names and roles, and their pages where the site has told of one.
-import {all, ask, path} from './hub.js'
+import {ask, path} from './hub.js'
 import {button, field, input, make, row, section, table} from './dom.js'
 import {carry, sends, sure} from './frame.js'
+import {pages} from './pages.js'
 import {say} from './texts.js'
 import {holds} from './rights.js'
 import site from './site.js'
 
-let may = false, shown
+let may = false, list
 
 function remove(service) {
   return button(say('delete'), 'btn-outline-danger', async event => {
     if (await sure(say('services.delete.sure', {service}), say('delete'))) carry(event.target, async () => {
       await ask('DELETE', path('services', service))
-      await list()
+      await list.again()
       return say('services.deleted', {service})
     })
   }, say('services.delete.of', {service}))
@@ -24,10 +25,9 @@ function serviceRow(service) {
   return row(title, (service.roles ?? []).join(', ') || say('none'), may ? remove(name) : '')
 }
 
-async function list() {
-  const services = await all('/services'), heads = ['name', 'roles', 'do'].map(name => say('people.col.' + name))
-  const none = make('p', {}, say('services.none'))
-  shown.replaceChildren(services.length ? table(say('people.services'), heads, services.map(serviceRow)) : none)
+function draw(services) {
+  const heads = ['name', 'roles', 'do'].map(name => say('people.col.' + name))
+  return services.length ? table(say('people.services'), heads, services.map(serviceRow)) : make('p', {}, say('services.none'))
 }
 
 function add() {
@@ -37,7 +37,7 @@ function add() {
     const service = name.value.trim()
     await ask('POST', path('services', service))
     name.value = ''
-    await list()
+    await list.again()
     return say('services.made', {service})
   }
   return section(say('services.add'), make('form', {class: 'line', onsubmit: sends(press, done)}, field(say('services.name'), name), press))
@@ -45,7 +45,7 @@ function add() {
 
 export async function fill(panel, me) {
   may = await holds('admin:services', me)
-  shown = make('div', {})
-  panel.replaceChildren(make('h2', {class: 'visually-hidden'}, say('people.services')), shown, may ? add() : '')
-  await list()
+  list = pages('/services', draw)
+  panel.replaceChildren(make('h2', {class: 'visually-hidden'}, say('people.services')), ...list.parts, may ? add() : '')
+  await list.first()
 }

@@ -1,6 +1,6 @@
 // Sign-in: a name and a password, which go to the front's sign-in program and nowhere else.
-import {signIn, whoever} from './hub.js'
-import {field, input, make} from './dom.js'
+import {early, signIn, whoever} from './hub.js'
+import {button, field, input, make} from './dom.js'
 import {frame, main, tell} from './frame.js'
 import {say} from './texts.js'
 import site from './site.js'
@@ -25,6 +25,7 @@ function why(fault) {
   if (fault.message == 'wrong name or password') return say('signin.wrong')
   if (fault.message == 'no user of this hub') return say('signin.stranger')
   if (fault.status == 429) return say('signin.often')
+  if (fault.status == 403) return say('signin.nobody')
   return say(fault.status ? 'refused.502' : 'unreachable')
 }
 
@@ -45,6 +46,13 @@ function form(enter) {
   return make('form', {class: 'card narrow', onsubmit: sent}, ...fields, press)
 }
 
+/** A front that stands before this one has signed the reader in: nothing is asked, but after a sign-out or where that failed. */
+async function byHeader(enter) {
+  const again = () => enter().catch(fault => tell(why(fault), true))
+  if (location.hash != '#out') await again()
+  main.append(button(say('signin.again'), 'btn-primary', again))
+}
+
 export async function show() {
   frame(say('signin.title'))
   document.querySelector('header').append(make('nav', {'aria-label': say('menu')}, make('span', {class: 'brand'}, site.title)))
@@ -54,9 +62,8 @@ export async function show() {
     location.replace(wanted())
   }
   if (location.hash == '#out') tell(say('signin.out'))
-  else if (await whoever().catch(() => null)) return location.replace(wanted())
-  // a front that stands before this one has signed the reader in
-  if (site.signIn == 'header' && location.hash != '#out') return enter('', null).catch(fault => tell(why(fault), true))
+  else if (await (early('reader') ?? whoever()).catch(() => null)) return location.replace(wanted())
+  if (site.signIn == 'header') return byHeader(() => enter('', null))
   if (destination()) main.append(make('p', {}, say('signin.next', {where: destination()})))
   main.append(form(enter))
   main.querySelector('input').focus()

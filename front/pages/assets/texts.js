@@ -1,5 +1,5 @@
-// All that people read on these pages. A site that speaks another language puts a file of its own in the place of this one: the words
-// before the colons stay, and so do the names in braces.
+// All that people read on these pages. A site that speaks another language puts a copy of this file into its own folder, and its own words
+// behind the colons: what stands before them stays, and so do the names in braces.
 export const language = 'en'
 
 export const texts = {
@@ -44,6 +44,8 @@ export const texts = {
   'signin.often': 'Too many tries. Please wait a minute and try again.',
   'signin.go': 'You are let in …',
   'signin.out': 'You are signed out. Notebooks that run go on; close what is still open of them.',
+  'signin.again': 'Sign in again',
+  'signin.nobody': 'The page before this one hasn’t said who you are. Sign in there, and then try again.',
   'signin.ended': 'Your sign-in has ended. Please sign in again.',
   'signin.next': 'Sign in to go on to {where}.',
 

@@ -1,20 +1,17 @@
 // The users whom the reader may see, fifty at a time, with their servers.
-import {ask, page, path, serverPath, start} from './hub.js'
-import {button, field, input, lines, make, moment, section, table} from './dom.js'
+import {ask, path, serverPath, start} from './hub.js'
+import {button, field, lines, make, moment, section, table} from './dom.js'
 import {carry, sends, sure, tell, why} from './frame.js'
+import {pages} from './pages.js'
 import {say} from './texts.js'
 import {enters, holds, runs} from './rights.js'
 import site from './site.js'
 
-const SIZE = 50
 const faults = {'live servers': 'people.live', spawner: 'home.spawner', 'pending stop': 'home.parked'}
 const called = server => server || say('home.default')
-let me, rights = {}, offset = 0, shown
+let me, rights = {}, list
 
-// the first page is asked for while the hub is asked who reads; who may list no users is told so later
-let early = page('/users', 0, SIZE).catch(() => null)
-
-const again = () => list(offset)
+const again = () => list.again()
 
 function act(label, style, spoken, job) {
   return button(label, style, event => carry(event.target, async () => {
@@ -83,11 +80,14 @@ function deleteButton(name) {
   }, `${say('people.delete.user')}: ${name}`)
 }
 
+/** What can be done with a user beside their servers: made once somebody opens it, since a page has fifty of these. */
 function more(user) {
   if (user.name == me.name) return ''
-  const does = [rights.change && adminButton(user), rights.remove && deleteButton(user.name)].filter(it => it)
   const opened = make('summary', {'aria-label': say('people.more', {name: user.name})}, say('people.more.short'))
-  return make('details', {}, opened, make('div', {class: 'buttons'}, ...does))
+  const does = make('div', {class: 'buttons'}), made = make('details', {}, opened, does)
+  const fill = () => does.append(...[rights.change && adminButton(user), rights.remove && deleteButton(user.name)].filter(it => it))
+  made.addEventListener('toggle', fill, {once: true})
+  return made
 }
 
 function userRow(user) {
@@ -100,44 +100,9 @@ function userRow(user) {
   return made
 }
 
-async function list(from) {
-  const first = from == 0 ? await early : null
-  early = null
-  const {items, total} = first ?? await page('/users', from, SIZE)
-  if (!items.length && from) return list(Math.max(0, from - SIZE))
-  offset = from
+function draw(users) {
   const columns = ['name', 'groups', 'active', 'servers', ...(rights.change || rights.remove ? ['do'] : [])]
-  const heads = columns.map(name => say('people.col.' + name))
-  const range = say('people.range', {from: total ? from + 1 : 0, to: from + items.length, total})
-  const before = button(say('people.before'), 'btn-outline-secondary', () => list(Math.max(0, from - SIZE)))
-  const after = button(say('people.after'), 'btn-outline-secondary', () => list(from + SIZE))
-  before.disabled = !from
-  after.disabled = from + items.length >= total
-  const pages = make('nav', {class: 'buttons', 'aria-label': say('people.pages')}, before, make('span', {role: 'status'}, range), after)
-  shown.replaceChildren(pages, table(say('people.users'), heads, items.map(userRow), 'people'))
-  performance.mark('users shown')
-}
-
-/** The place of the first name that isn't before this one: the list is in the order of names, so it is found by halves. */
-async function placeOf(wanted) {
-  let low = 0, high = (await page('/users', 0, 1)).total
-  while (low < high) {
-    const middle = (low + high) >> 1, {items} = await page('/users', middle, 1)
-    if (items.length && items[0].name < wanted) low = middle + 1
-    else high = middle
-  }
-  return low
-}
-
-function find() {
-  const name = input({name: 'find', type: 'search', autocapitalize: 'none', spellcheck: 'false'})
-  const press = make('button', {class: 'btn btn-outline-primary'}, say('people.find.do'))
-  const found = async () => {
-    const wanted = name.value.trim().toLowerCase()
-    await list(await placeOf(wanted))
-    return shown.querySelector('tbody th')?.textContent.startsWith(wanted) ? '' : say('people.find.none')
-  }
-  return make('form', {class: 'line', role: 'search', onsubmit: sends(press, found)}, field(say('people.find'), name), press)
+  return table(say('people.users'), columns.map(name => say('people.col.' + name)), users.map(userRow), 'people')
 }
 
 function add() {
@@ -160,8 +125,9 @@ function add() {
 
 export async function fill(panel, reader) {
   me = reader
-  shown = make('div', {})
-  rights = {change: await holds('admin:users', me), remove: await holds('delete:users', me)}
-  panel.replaceChildren(find(), shown, rights.change ? add() : '')
-  await list(0)
+  list = pages('/users', draw, true)
+  const [change, remove] = await Promise.all(['admin:users', 'delete:users'].map(right => holds(right, me)))
+  rights = {change, remove}
+  panel.replaceChildren(...list.parts, rights.change ? add() : '')
+  await list.first()
 }
