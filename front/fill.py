@@ -1,11 +1,12 @@
 #!/usr/bin/python3 -B
-"""Writes what a front's nginx reads into a site's folder: nginx.conf, assets.conf and the folder page. Run it again after each change of
-what pages are made of: browsers keep those parts until then. A file texts.js in FOLDER goes before that of the front.
+"""Writes what a front's nginx reads into a site's folder: nginx.conf, assets.conf, names.conf and the folder page. Run it again after each
+change of what pages are made of: browsers keep those parts until then. A file texts.js in FOLDER goes before that of the front.
 usage: fill.py FOLDER KEY=VALUE ..., with the keys of KEYS. FOLDER also has htpasswd (names and passwords) and tokens.map (for each name
 that programs may sign in by, a line `"NAME" "TOKEN";`; it may be empty). `sign-in` is started with the socket FOLDER/sign-in.socket.
 By header:NAME the front that stands before this one says who has signed in. It shows by the header X-Front-Secret that it is that front:
 what it sends there stands in FOLDER/front-secret, which is drawn the first time."""
 import hashlib, json, os, re, secrets, sys
+from urllib.parse import urlsplit
 
 HERE = os.path.dirname(os.path.realpath(__file__))
 BOOTSTRAP = "/usr/share/javascript/bootstrap5/css/bootstrap.min.css"
@@ -16,8 +17,10 @@ KEYS = {
     "hub": "HOST:PORT of the hub", "proxy": "HOST:PORT of the proxy",
     "title": "what stands on each page", "services": "services that have pages, as {\"roll\":\"Roll\"}",
     "sign_in": "who knows the people: password (FOLDER/htpasswd), pam:SERVICE, or header:NAME of a front before this one",
+    "certificate": "a file: TLS ends here, and not before this nginx", "key": "the file with its key",
+    "own_names": "`yes` where each user's servers have a host name of their own, as ada.servers.example.org",
 }
-OPTIONAL = ("title", "services", "sign_in")
+OPTIONAL = ("title", "services", "sign_in", "certificate", "key", "own_names")
 PAM = "/usr/lib/nginx/modules/ngx_http_auth_pam_module.so"
 
 
@@ -55,11 +58,26 @@ def texts(site):
 def marks(site, told):
     """What stands between @ in the templates."""
     scheme, _, host = told["public"].partition("://")
-    cookie = "__Host-front" if scheme == "https" else "front"
+    servers_scheme, _, servers_host = told["servers"].partition("://")
+    cookie, servers_name = "__Host-front" if scheme == "https" else "front", urlsplit(told["servers"]).hostname
     return {"USER": "user root; " if os.geteuid() == 0 else "", "SITE": site, "FRONT": HERE, "BOOTSTRAP": BOOTSTRAP,
             "LISTEN": told["listen"], "HOME": told["home"], "SERVERS": told["servers_port"], "HUB": told["hub"], "PROXY": told["proxy"],
             "PUBLIC": told["public"], "PUBLIC_SERVERS": told["servers"], "PUBLIC_HOST": host, "SCHEME": scheme, "COOKIE": cookie,
+            "PUBLIC_NAME": urlsplit(told["public"]).hostname, "SERVERS_NAME": servers_name, "SERVERS_PATTERN": re.escape(servers_name),
+            "SERVERS_SCHEME": servers_scheme, "SERVERS_HOST": servers_host, **of_tls(site, told, servers_scheme),
             **who_signs_in(site, told)}
+
+
+def of_tls(site, told, servers_scheme):
+    """TLS where there is a certificate; and what browsers get by TLS, here or before this nginx, they send by TLS alone. Who comes to the
+    port of plain HTTP, where the pages have that of TLS, is led on, but for the files by which `certbot` shows whose the names are."""
+    has, names = told.get("certificate"), [urlsplit(told[key]).hostname for key in ("public", "servers")]
+    plain = f"server {{ listen {told['listen']}:80; server_name {names[0]} {names[1]} *.{names[1]};\n" \
+            f"    location / {{ return 301 https://$host$request_uri; }}\n" \
+            f"    location /.well-known/acme-challenge/ {{ root {site}/acme; }}\n  }}"
+    return {"TLS": " ssl" if has else "", "CERTIFICATE": f"ssl_certificate {has}; ssl_certificate_key {told['key']};" if has else "",
+            "PLAIN": plain if has and str(told["home"]) == "443" else "",
+            "SECURE": "proxy_cookie_flags ~ secure;" if servers_scheme == "https" else ""}
 
 
 def put(file, text):
@@ -90,9 +108,11 @@ def fill_pages(site):
 def fill(site, told):
     for folder in ("page", "tmp", "log"):
         os.makedirs(f"{site}/{folder}", exist_ok=True)
-    for name, target in (("front.conf", "nginx.conf"), ("assets.conf", "assets.conf")):
+    for name, target in (("front.conf", "nginx.conf"), ("assets.conf", "assets.conf"), ("names.conf", "names.conf")):
         with open(f"{HERE}/{name}") as file:
             text = file.read()
+        if name == "names.conf" and told.get("own_names") != "yes":
+            text = "map $host $elsewhere { default \"\"; }\n"
         for mark, value in marks(site, told).items():
             text = text.replace(f"@{mark}@", str(value))
         put(f"{site}/{target}", text)

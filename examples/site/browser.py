@@ -10,7 +10,7 @@ class Lost(Exception):
 
 
 class Browser:
-    def __init__(self, most=60, any_certificate=False):
+    def __init__(self, most=60, any_certificate=False, names=None):
         self.folder = tempfile.mkdtemp(prefix="browser-")
         self.last, self.loop = 0, asyncio.new_event_loop()
         # each address that a page asked, without the password that may stand in it
@@ -20,6 +20,8 @@ class Browser:
                  "--disable-extensions", "--mute-audio"]
         words += ["--no-sandbox"] if os.geteuid() == 0 else []
         words += ["--ignore-certificate-errors"] if any_certificate else []
+        # names that no service of names knows are those of this machine
+        words += [f"--host-resolver-rules=MAP {names} 127.0.0.1"] if names else []
         quiet = {"stdin": subprocess.DEVNULL, "stdout": subprocess.DEVNULL, "stderr": subprocess.DEVNULL}
         self.process = subprocess.Popen([*words, "about:blank"], **quiet, env={**os.environ, "HOME": self.folder})
         try:

@@ -35,9 +35,11 @@ def people(names, tokens={}):
 
 def prepare():
     """Writes the front's configuration."""
-    fill.fill(SITE, {"public": PUBLIC, "servers": PUBLIC_SERVERS, "listen": LISTEN, "home": HOME, "servers_port": SERVERS,
-                     "hub": f"{ADDRESS}:{HUB}", "proxy": f"{ADDRESS}:{PROXY}", "title": "The class", "services": '{"roll": "Roll"}',
-                     "sign_in": TOLD.get("sign_in")})
+    told = {"public": PUBLIC, "servers": PUBLIC_SERVERS, "listen": LISTEN, "home": HOME, "servers_port": SERVERS,
+            "hub": f"{ADDRESS}:{HUB}", "proxy": f"{ADDRESS}:{PROXY}", "title": "The class", "services": '{"roll": "Roll"}',
+            "sign_in": TOLD.get("sign_in")}
+    told |= {key: TOLD[key] for key in ("certificate", "key") if key in TOLD}
+    fill.fill(SITE, told | {"own_names": "yes" if TOLD.get("own_names") else ""})
 
 
 def sign_in_words():

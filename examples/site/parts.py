@@ -3,6 +3,7 @@ A site is one folder (SITE, ~/gorewhahu-site where that isn't set) and one row o
 site.toml in its folder gives it names for browsers, an address for its front, and ports: examples/house/chem.toml has the keys.
 Each program of a site has the variable GOREWHAHU_SITE, which names the folder: by it they are found, and ended."""
 import json, os, re, secrets, signal, socket, sys, time, tomllib, urllib.error, urllib.request
+from urllib.parse import urlsplit
 
 HERE = os.path.dirname(os.path.realpath(__file__))
 SITE = os.path.realpath(os.environ.get("SITE") or os.path.expanduser("~/gorewhahu-site"))
@@ -11,6 +12,9 @@ ADDRESS, MARK = "127.0.0.1", "GOREWHAHU_SITE"
 # how the words of an nginx that runs begin
 FRONT = "nginx: "
 SEATS = 36
+# the keys of site.toml, and of what kind each is
+KEYS = {"public": str, "servers": str, "listen": str, "port": int, "box": bool, "certificate": str, "key": str, "own_names": bool,
+        "command": list, "sign_in": str}
 
 
 def url(port, path=""):
@@ -30,18 +34,31 @@ def settings():
         return {}
     except ValueError as fault:
         stop_here(f"{SITE}/site.toml: {fault}")
-    if unknown := set(told) - {"public", "servers", "listen", "port", "box", "sign_in"}:
+    if unknown := set(told) - set(KEYS):
         stop_here(f"{SITE}/site.toml: no key is {', '.join(sorted(unknown))}: examples/house/chem.toml has the keys")
-    if not isinstance(told.get("box", True), bool):
-        stop_here(f"{SITE}/site.toml: box is true or false")
-    if not re.fullmatch(r"password|pam:[\w-]+|header:[A-Za-z][A-Za-z0-9-]*", str(told.get("sign_in", "password"))):
+    for key, value in told.items():
+        if type(value) is not KEYS[key] or key == "command" and not all(isinstance(word, str) for word in value):
+            kind = {str: "a text", int: "a number", bool: "true or false", list: "a list of texts"}[KEYS[key]]
+            stop_here(f"{SITE}/site.toml: {key} is {kind}")
+    if not re.fullmatch(r"password|pam:[\w-]+|header:[A-Za-z][A-Za-z0-9-]*", told.get("sign_in", "password")):
         stop_here(f"{SITE}/site.toml: sign_in is password, pam:SERVICE or header:NAME")
+    see_names(told)
+    return told
+
+
+def see_names(told):
+    """The names by which browsers come, and the certificate for them."""
     names = [told[key] for key in ("public", "servers") if key in told]
     if not all(re.fullmatch(r"https?://(127\.0\.0\.1|[a-z0-9.-]*[a-z][a-z0-9.-]*)(:[0-9]+)?", str(name)) for name in names):
         stop_here(f"{SITE}/site.toml: public and servers are as https://chem.example.org, a name, and no path behind it")
     if len(set(names)) != (2 if told.keys() & {"public", "servers", "listen"} else 0):
         stop_here(f"{SITE}/site.toml: public and servers are given together, also with listen, and differ")
-    return told
+    files = [told[key] for key in ("certificate", "key") if key in told]
+    if len(files) == 1 or files and not all(name.startswith("https:") for name in names) or (files or told.get("own_names")) and not names:
+        stop_here(f"{SITE}/site.toml: certificate and key are given together, with https in public and servers; own_names with these two")
+    for file in files:
+        if not os.access(file, os.R_OK):
+            stop_here(f"{SITE}/site.toml: {file} can't be read: examples/house/certificate makes a certificate for a trial")
 
 
 TOLD = settings()
@@ -52,6 +69,9 @@ BEHIND = 100
 # where the front listens, and where browsers find its pages and its servers: under two names, since a cookie is sent to all ports of one
 LISTEN, PUBLIC = TOLD.get("listen", ADDRESS), TOLD.get("public", f"http://localhost:{HOME}")
 PUBLIC_SERVERS = TOLD.get("servers", url(SERVERS))
+if "certificate" in TOLD:
+    # no other nginx stands before the front: it listens where browsers come
+    HOME, SERVERS = (urlsplit(name).port or 443 for name in (PUBLIC, PUBLIC_SERVERS))
 
 
 def read(name):

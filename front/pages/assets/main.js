@@ -13,3 +13,6 @@ if (location.pathname == '/people' && ['', '#users'].includes(location.hash)) {
 begin('reader', whoever())
 const shown = await pages[location.pathname]()
 await shown.show()
+// a browser keeps a page whole for its back button, and somebody may have signed out meanwhile: so nothing is left on it, and it asks anew
+addEventListener('pagehide', () => document.body.replaceChildren())
+addEventListener('pageshow', event => event.persisted && location.reload())
