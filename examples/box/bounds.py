@@ -3,10 +3,10 @@ no rights: who started the box looks at them twice a second, and ends the progra
 import asyncio, os, resource, signal, sys, time, tomllib
 
 # MiB of memory of all programs, and of files in memory in /tmp and /dev/shm each; how many programs; how many processors, and how much
-# they give way to others; MiB and files of the home; which other folders are seen; what starts bubblewrap, as a program that gives bounds
-# of its own; and whether the box's user is called root in it
+# they give way to others; MiB and files of the home; which other folders are seen; what starts the box, as a program that gives bounds
+# of its own; whether the box's user is called root in it; and the image by which podman makes the box in the place of bubblewrap
 DEFAULTS = {"memory": 1024, "scratch": 128, "processes": 128, "processors": 2, "nice": 5, "disk": 2048, "files": 100000, "see": [],
-            "before": [], "root": False}
+            "before": [], "root": False, "image": ""}
 FIRST_TO_GO, DESCRIPTORS = 500, 1024
 EVERY, EVERY_DISK = 0.5, 5
 # a home with so much of its bound has no server: whoever looks after the site makes room

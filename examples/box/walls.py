@@ -1,7 +1,8 @@
-"""The walls of a box: a network of its own, and by bubblewrap files, processes and system calls of its own."""
-import ctypes, errno, fcntl, os, shutil, signal, socket, struct, tempfile
+"""The walls of a box: a network of its own, and by bubblewrap files, processes and system calls of its own. `pod` has those by podman."""
+import asyncio, ctypes, errno, fcntl, json, os, shutil, signal, socket, struct, tempfile
 
 CLONE_NEWUSER, CLONE_NEWNET = 0x10000000, 0x40000000
+PACKAGES = "apt-get install --no-install-recommends bubblewrap python3-seccomp"
 PR_SET_PDEATHSIG, PR_SET_CHILD_SUBREAPER, PR_SET_NO_NEW_PRIVS = 1, 36, 38
 SIOCSIFFLAGS, IFF_UP = 0x8914, 1
 libc = ctypes.CDLL(None, use_errno=True)
@@ -27,14 +28,19 @@ TIOCSTI, TIOCLINUX = 0x5412, 0x541C
 
 def lacks():
     """What keeps this machine from having boxes, and nothing where it has all."""
-    if os.getuid() == 0:
-        return "root gets no box, since its files would stand open in it: start this by an account that isn't root"
     if not shutil.which("bwrap"):
-        return "bubblewrap is missing: apt-get install --no-install-recommends bubblewrap python3-seccomp"
+        return f"bubblewrap is missing: {PACKAGES}"
     try:
         import seccomp
     except ImportError:
-        return "python3-seccomp is missing: apt-get install --no-install-recommends bubblewrap python3-seccomp"
+        return f"python3-seccomp is missing: {PACKAGES}"
+    return lacks_namespaces()
+
+
+def lacks_namespaces():
+    """What each kind of box wants: an account that isn't root, and namespaces."""
+    if os.getuid() == 0:
+        return "root gets no box, since its files would stand open in it: start this by an account that isn't root"
     child = os.fork()
     if not child:
         try:
@@ -67,6 +73,11 @@ def enter_network():
     put("/proc/self/uid_map", f"{user} {user} 1")
     put("/proc/self/setgroups", "deny")
     put("/proc/self/gid_map", f"{group} {group} 1")
+    set_up_network()
+
+
+def set_up_network():
+    """Starts the network's 127.0.0.1, gives up ever to get rights of others, and takes on whoever loses the process above itself."""
     with socket.socket(socket.AF_INET, socket.SOCK_DGRAM) as any_socket:
         fcntl.ioctl(any_socket, SIOCSIFFLAGS, struct.pack("16sh14x", b"lo", IFF_UP))
     for what in (PR_SET_NO_NEW_PRIVS, PR_SET_CHILD_SUBREAPER):
@@ -81,29 +92,34 @@ def end_with(parent):
         os._exit(1)
 
 
+def refused():
+    """Each rule of the list of calls: a name, what it is answered by, and for which words it holds, each an index and how it compares."""
+    for name in REFUSED:
+        yield name, errno.EPERM, []
+    for flag in NAMESPACES:
+        yield "clone", errno.EPERM, [(0, "MASKED_EQ", flag, flag)]
+    # its flags are in memory, where no list can look: programs take clone in its place
+    yield "clone3", errno.ENOSYS, []
+    for request in (TIOCSTI, TIOCLINUX):
+        yield "ioctl", errno.EPERM, [(1, "MASKED_EQ", 0xFFFFFFFF, request)]
+    # sockets within the box and of its network, and what asks for addresses: AF_UNIX 1, AF_INET 2, AF_INET6 10, AF_NETLINK 16
+    for family in (*range(3, 10), *range(11, 16)):
+        yield "socket", errno.EAFNOSUPPORT, [(0, "EQ", family)]
+    for how, family in (("LT", 1), ("GE", 17)):
+        yield "socket", errno.EAFNOSUPPORT, [(0, how, family)]
+
+
 def filter_file():
     """The number of a file with the list of system calls, as the kernel reads it. It says no rather than kill: programs go on without."""
-    from seccomp import ALLOW, ERRNO, EQ, GE, LT, MASKED_EQ, Arg, SyscallFilter
-    made, no = SyscallFilter(ALLOW), ERRNO(errno.EPERM)
-    for name in REFUSED:
+    import seccomp
+    made = seccomp.SyscallFilter(seccomp.ALLOW)
+    for name, number, conditions in refused():
+        args = [seccomp.Arg(index, getattr(seccomp, how), *values) for index, how, *values in conditions]
         try:
-            made.add_rule(no, name)
+            made.add_rule(seccomp.ERRNO(number), name, *args)
         except RuntimeError:
             # this libseccomp or this processor has no such call
             continue
-    for flag in NAMESPACES:
-        made.add_rule(no, "clone", Arg(0, MASKED_EQ, flag, flag))
-    # its flags are in memory, where no list can look: programs take clone in its place
-    made.add_rule(ERRNO(errno.ENOSYS), "clone3")
-    for request in (TIOCSTI, TIOCLINUX):
-        made.add_rule(no, "ioctl", Arg(1, MASKED_EQ, 0xFFFFFFFF, request))
-    # sockets within the box and of its network, and what asks for addresses: AF_UNIX 1, AF_INET 2, AF_INET6 10, AF_NETLINK 16
-    families = ERRNO(errno.EAFNOSUPPORT)
-    made.add_rule(families, "socket", Arg(0, LT, 1))
-    for low, high in ((2, 10), (10, 16)):
-        for family in range(low + 1, high):
-            made.add_rule(families, "socket", Arg(0, EQ, family))
-    made.add_rule(families, "socket", Arg(0, GE, 17))
     with tempfile.TemporaryFile() as file:
         made.export_bpf(file)
         file.seek(0)
@@ -122,6 +138,10 @@ def own_etc(name, home, user, group):
     """The few files of /etc that a box has as its own."""
     return {"passwd": f"{name}:x:{user}:{group}::{home}:/bin/bash\n", "group": f"{name}:x:{group}:\n", "hosts": "127.0.0.1 localhost box\n",
             "nsswitch.conf": "passwd: files\ngroup: files\nhosts: files\n", "hostname": "box\n"}
+
+
+def environment(name, home):
+    return {"HOME": home, "USER": name, "PATH": "/usr/local/bin:/usr/bin:/bin", "LANG": "C.UTF-8", "SHELL": "/bin/bash"}
 
 
 def files_of_the_box(given, bound, home):
@@ -151,9 +171,26 @@ def words(given, bound, info):
     if bound["root"]:
         told += ["--cap-add", "ALL"]
     told += ["--remount-ro", "/", "--chdir", home, "--clearenv"]
-    environment = {"HOME": home, "USER": given.name, "PATH": "/usr/local/bin:/usr/bin:/bin", "LANG": "C.UTF-8", "SHELL": "/bin/bash"}
-    for name, value in environment.items():
+    for name, value in environment(given.name, home).items():
         told += ["--setenv", name, value]
     told += ["--seccomp", files[0], "--info-fd", info]
     files.append(file_of("\0".join(map(str, told)).encode()))
     return [*bound["before"], "bwrap", "--args", str(files[-1]), "--", *given.program], files
+
+
+class Walls:
+    """bubblewrap's words, the files that it reads, and how it tells its first process."""
+
+    def __init__(self, given, bound):
+        self.reads, writes = os.pipe()
+        self.words, files = words(given, bound, writes)
+        self.files, self.environment = (writes, *files), {}
+
+    async def first(self, _):
+        """The number of the box's first process; none where bubblewrap made no box."""
+        with open(self.reads) as info:
+            text = await asyncio.to_thread(info.read)
+        return json.loads(text)["child-pid"] if text else None
+
+    def clear(self):
+        pass
