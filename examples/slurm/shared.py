@@ -11,7 +11,8 @@ HERE = os.path.dirname(os.path.realpath(__file__))
 # the states of a job that has an end before it, and of one that has its node
 LIVE = ("PENDING", "CONFIGURING", "RUNNING", "SUSPENDED", "STOPPED", "RESIZING", "SIGNALING", "STAGE_OUT")
 NEEDED = {"folder", "homes", "program", "hub"}
-OPTIONAL = {"name": "gorewhahu", "token_file": None, "wait": 50, "patience": 600, "look": 5, "activity": 60, "default": {}, "groups": []}
+OPTIONAL = {"name": "gorewhahu", "token_file": None, "wait": 50, "patience": 600, "look": 5, "activity": 60, "default": {}, "groups": [],
+            "box": []}
 ROOM = {"partition": "--partition", "memory": "--mem", "processors": "--cpus-per-task", "time": "--time"}
 
 
