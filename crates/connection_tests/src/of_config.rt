@@ -61,31 +61,59 @@ fn a_whole_file_is_read(rt: HostRuntime) {
     check(&rt, is_whole(&rt, rt.alloc()), "a whole file");
 }
 
-const SAID: [(&str, &str); 7] = [
+const SAID: [(&str, &str); 14] = [
     (
         "listen = \"x\"",
-        "line 1: listen: expected an address HOST:PORT",
+        "line 1: listen: expected an address HOST:PORT, not \"x\"",
     ),
-    ("listens = \"x\"", "line 1: listens: there is no such key"),
+    ("listens = \"x\"", "line 1: there is no key \"listens\""),
     (
         "[[users]]\nname = \"ann\"\n\n[[users]]\nname = \"Bob\"\n",
-        "line 4: users, entry 2: expected a list of {name, admin}",
+        "line 5: users, entry 2: name: expected a name: 1 to 64 of a-z 0-9 . _ - @, the first a letter or a digit, not \"Bob\"",
+    ),
+    (
+        "[[users]]\nadmin = true",
+        "line 1: users, entry 1: name: it is missing",
+    ),
+    (
+        "[[groups]]\nname = \"class\"\nmembers = []",
+        "line 1: groups, entry 1: there is no key \"members\": the keys are name, users",
     ),
     (
         "[limits]\nusers = 100001",
-        "line 1: limits: expected a table of whole numbers, each within its greatest limit",
+        "line 2: limits: users: expected a whole number from 0 to 100000, not 100001",
     ),
     (
         "hub_url = \"http://h:1\"\npool = [\"http://h:9\",\n  \"ftp://h:9\"]",
-        "line 2: pool, entry 2: expected a list of at most 1,000 targets http://HOST:PORT, all distinct",
+        "line 2: pool, entry 2: expected a target http://HOST:PORT, not \"ftp://h:9\"",
+    ),
+    (
+        "pool = [\"http://h:9\", \"http://h:9\"]",
+        "line 1: pool: expected at most 1,000 targets, all distinct",
     ),
     (
         "proxy_api = \"http://h:1\"\nproxy_secret = \"12345678\"\nusers = 3",
-        "line 3: users: expected a list of {name, admin}",
+        "line 3: users: expected a list, not 3",
     ),
     (
         "proxy_api = \"http://h:1\"",
-        "no key is wrong alone: proxy_api and proxy_secret, custom scopes, or services with a command don't fit together",
+        "line 1: proxy_secret: it is missing, and stands with proxy_api",
+    ),
+    (
+        "[[tokens]]\ntoken = \"short\"\nuser = \"ann\"",
+        "line 2: tokens, entry 1: token: expected 8 to 255 visible ASCII characters, not a text of 5 bytes",
+    ),
+    (
+        "[[tokens]]\ntoken = \"token-of-nobody\"",
+        "line 1: tokens, entry 1: it has to be of one user or of one service, and not of both",
+    ),
+    (
+        "[[roles]]\nname = \"reader\"\nscopes = [\"read:users\", \"reed:users\"]",
+        "line 3: roles, entry 1: scopes, entry 2: no scope is called \"reed:users\"",
+    ),
+    (
+        "[[roles]]\nname = \"reader\"\n\n[[roles]]\nname = \"marker\"\nscopes = [\"custom:grades\"]",
+        "line 6: roles, entry 2: scopes, entry 1: no entry of custom_scopes is called \"custom:grades\"",
     ),
 ];
 

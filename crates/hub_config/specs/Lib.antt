@@ -1,3 +1,5 @@
+pub mod Keys
+pub mod Faults
 pub mod Settings
 pub mod Forms
 pub mod Places

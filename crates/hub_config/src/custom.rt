@@ -1,9 +1,10 @@
 //! Custom scopes: which are declared.
 ghost use Rattle.std.specs.Prelude.{◌≡◌, false, None, IfOk, IfErr, IfSome};
-ghost use Rattle.std.specs.List.{list_all};
 ghost use Rattle.hub_opening.specs.Kept.{MakeTable};
 ghost use Rattle.hub_config.specs.Custom as spec;
 
+use crate::config_key::ConfigKey;
+use crate::fault::{Fault, Rule};
 use crate::setting::ConfigError;
 use hub_opening::config::{ConfigToken, HubConfig};
 use hub_rows::records::Role;
@@ -31,34 +32,53 @@ fn action_is_declared(table: &ScopeTable, action: Action) -> bool
     }
 }
 
-fn are_declared(table: &ScopeTable, scopes: &[RawScope]) -> bool
-    ensures { result ≡ list_all (spec.scope_is_declared table.now) scopes.now }
+/// The first of these scopes that isn't declared.
+fn scopes_fault(table: &ScopeTable, scopes: &[RawScope]) -> Option<Fault>
+    ensures { result ≡ spec.scopes_fault table.now scopes.now }
 {
-    scopes.iter().all(|scope| is_declared(table, scope))
+    for (n, scope) in scopes.iter().enumerate() {
+        if !is_declared(table, scope) {
+            let fault = Fault::of(Rule::Undeclared);
+            return Some(fault.in_entry(n).under(ConfigKey::Scopes));
+        }
+    }
+    None
 }
 
-fn roles_are_declared(table: &ScopeTable, roles: &[Role]) -> bool
-    ensures { result ≡ list_all (λ role. list_all (spec.scope_is_declared table.now) role.scopes) roles.now }
+/// The first scope of these roles that isn't declared.
+fn roles_fault(table: &ScopeTable, roles: &[Role]) -> Option<Fault>
+    ensures { result ≡ spec.roles_fault table.now roles.now }
 {
-    roles
-        .iter()
-        .all(|role| are_declared(table, role.scopes.as_slice()))
+    for (n, role) in roles.iter().enumerate() {
+        match scopes_fault(table, role.scopes.as_slice()) {
+            Some(fault) => return Some(fault.in_entry(n).under(ConfigKey::Roles)),
+            None => {}
+        }
+    }
+    None
 }
 
-fn tokens_are_declared(table: &ScopeTable, tokens: &[ConfigToken]) -> bool
-    ensures { result ≡ list_all (λ token. list_all (spec.scope_is_declared table.now) token.scopes) tokens.now }
+/// The first scope of these tokens that isn't declared.
+fn tokens_fault(table: &ScopeTable, tokens: &[ConfigToken]) -> Option<Fault>
+    ensures { result ≡ spec.tokens_fault table.now tokens.now }
 {
-    tokens
-        .iter()
-        .all(|token| are_declared(table, token.scopes.as_slice()))
+    for (n, token) in tokens.iter().enumerate() {
+        match scopes_fault(table, token.scopes.as_slice()) {
+            Some(fault) => return Some(fault.in_entry(n).under(ConfigKey::Tokens)),
+            None => {}
+        }
+    }
+    None
 }
 
-/// Whether each custom scope of a role or a token is declared.
-pub(crate) fn all_declared(table: &ScopeTable, hub: &HubConfig) -> bool
-    ensures { result ≡ spec.all_declared table.now hub.now }
+/// The first custom scope of a role, or else of a token, that isn't declared.
+pub(crate) fn undeclared(table: &ScopeTable, hub: &HubConfig) -> Option<Fault>
+    ensures { result ≡ spec.undeclared table.now hub.now }
 {
-    roles_are_declared(table, hub.roles.as_slice())
-        && tokens_are_declared(table, hub.tokens.as_slice())
+    match roles_fault(table, hub.roles.as_slice()) {
+        Some(fault) => Some(fault),
+        None => tokens_fault(table, hub.tokens.as_slice()),
+    }
 }
 
 /// The table of these rows, if they make one.

@@ -6,8 +6,12 @@ ghost use Rattle.hub_config.specs.Settings.{Gives, pair};
 ghost use Rattle.hub_config.specs.Managed as spec;
 
 use crate::config::ConfigManaged;
+use crate::config_key::ConfigKey;
+use crate::fault::Rule;
 use crate::forms::Secret;
-use crate::setting::{ConfigError, add, both, listed, needed, optional};
+use crate::setting::{
+    ConfigError, add, both, in_entry, listed, needed, optional, refused_at, stands_with, under,
+};
 use hub_kit::list::List;
 use hub_kit::names::ServiceName;
 use hub_kit::target::Target;
@@ -21,18 +25,20 @@ fn managed_from(
     command: List<Text>,
     target: Option<Target>,
     secret: Option<Secret>,
-) -> Option<Option<ConfigManaged>>
-    ensures { result ≡ spec.managed_from (name, (command, (target, secret))) }
+) -> Result<Option<ConfigManaged>, ConfigError>
+    ensures { Gives result (spec.managed_from (name, (command, (target, secret)))) }
 {
     match (command.is_empty(), target, secret) {
-        (true, None, _) => Some(None),
-        (false, Some(target), Some(secret)) => Some(Some(ConfigManaged {
+        (true, None, _) => Ok(None),
+        (false, Some(target), Some(secret)) => Ok(Some(ConfigManaged {
             name,
             command,
             target,
             secret: secret.into_text(),
         })),
-        (_, _, _) => None,
+        (true, Some(_), _) => Err(stands_with(ConfigKey::Command, ConfigKey::Target)),
+        (false, None, _) => Err(stands_with(ConfigKey::Target, ConfigKey::Command)),
+        (false, Some(_), None) => Err(stands_with(ConfigKey::Secret, ConfigKey::Command)),
     }
 }
 
@@ -41,32 +47,27 @@ fn managed_of(alloc: Global, value: &Value) -> Result<Option<ConfigManaged>, Con
     ensures { Gives result (spec.managed_of (view value.now)) }
 {
     let fields = both(
-        needed::<ServiceName>(alloc, value, "name"),
+        needed::<ServiceName>(alloc, value, ConfigKey::Name),
         both(
-            listed::<Text>(alloc, value, "command"),
+            listed::<Text>(alloc, value, ConfigKey::Command),
             both(
-                optional::<Target>(alloc, value, "target"),
-                optional::<Secret>(alloc, value, "secret"),
+                optional::<Target>(alloc, value, ConfigKey::Target),
+                optional::<Secret>(alloc, value, ConfigKey::Secret),
             ),
         ),
     );
     match fields {
-        Ok((name, (command, (target, secret)))) => {
-            match managed_from(name, command, target, secret) {
-                Some(managed) => Ok(managed),
-                None => Err(ConfigError::Refused),
-            }
-        }
+        Ok((name, (command, (target, secret)))) => managed_from(name, command, target, secret),
         Err(error) => Err(error),
     }
 }
 
 fn managed_in(alloc: Global, items: &[Value]) -> Result<List<ConfigManaged>, ConfigError>
-    ensures { Gives result (spec.managed_in [] (items_view items.now)) }
+    ensures { Gives result (spec.managed_in [] 0 (items_view items.now)) }
 {
     let mut found = Vec::new(alloc);
-    for item in items {
-        match managed_of(alloc, item) {
+    for (n, item) in items.iter().enumerate() {
+        match in_entry(n, managed_of(alloc, item)) {
             Ok(Some(managed)) => add(&mut found, managed)?,
             Ok(None) => {}
             Err(error) => return Err(error),
@@ -79,10 +80,11 @@ fn managed_in(alloc: Global, items: &[Value]) -> Result<List<ConfigManaged>, Con
 pub(crate) fn managed(alloc: Global, value: &Value) -> Result<List<ConfigManaged>, ConfigError>
     ensures { Gives result (spec.managed (view value.now)) }
 {
-    match value.get("services") {
+    let key = ConfigKey::Services;
+    match value.get(key.text()) {
         Some(found) => match found.as_array() {
-            Some(items) => managed_in(alloc, items.as_slice()),
-            None => Err(ConfigError::Refused),
+            Some(items) => under(key, managed_in(alloc, items.as_slice())),
+            None => Err(refused_at(key, Rule::List)),
         },
         None => Ok(List::new(alloc)),
     }

@@ -4,8 +4,13 @@ ghost use Rattle.toml.specs.View.{view};
 ghost use Rattle.hub_config.specs.Settings.{Gives, pair};
 ghost use Rattle.hub_config.specs.People as spec;
 
+use crate::config_key::ConfigKey;
+use crate::fault::Rule;
 use crate::forms::{RedirectUri, Secret};
-use crate::setting::{ConfigError, Setting, both, has_only, listed, needed, optional};
+use crate::setting::{
+    ConfigError, Setting, both, has_only, listed, needed, optional, refused, refused_at,
+    stands_with,
+};
 use hub_kit::key::Key;
 use hub_kit::list::List;
 use hub_kit::names::{GroupName, RoleName, ServiceName, UserName};
@@ -22,12 +27,12 @@ use toml::Value;
 fn scopes(alloc: Global, value: &Value) -> Result<List<RawScope>, ConfigError>
     ensures { Gives result (spec.scopes (view value.now)) }
 {
-    match listed::<RawScope>(alloc, value, "scopes") {
+    match listed::<RawScope>(alloc, value, ConfigKey::Scopes) {
         Ok(scopes) => {
             if scopes.len() <= 64 {
                 Ok(scopes)
             } else {
-                Err(ConfigError::Refused)
+                Err(refused_at(ConfigKey::Scopes, Rule::ManyScopes))
             }
         }
         Err(error) => Err(error),
@@ -38,9 +43,9 @@ fn scopes(alloc: Global, value: &Value) -> Result<List<RawScope>, ConfigError>
 fn sorted<K: Key + Copy + Setting>(
     alloc: Global,
     value: &Value,
-    key: &str,
+    key: ConfigKey,
 ) -> Result<Sorted<K>, ConfigError>
-    ensures { Gives result (spec.sorted K.Ord.cmp K.reads key.now (view value.now)) }
+    ensures { Gives result (spec.sorted K.Ord.cmp K.reads key (view value.now)) }
 {
     match listed::<K>(alloc, value, key) {
         Ok(keys) => Ok(Sorted::from_vec(keys.into_vec())),
@@ -53,11 +58,11 @@ impl Setting for ConfigUser {
 
     fn read(alloc: Global, value: &Value) -> Result<ConfigUser, ConfigError> {
         if !has_only(value, &["name", "admin"]) {
-            return Err(ConfigError::Refused);
+            return Err(refused(Rule::Keys));
         }
         let fields = both(
-            needed::<UserName>(alloc, value, "name"),
-            optional::<bool>(alloc, value, "admin"),
+            needed::<UserName>(alloc, value, ConfigKey::Name),
+            optional::<bool>(alloc, value, ConfigKey::Admin),
         );
         match fields {
             Ok((name, admin)) => Ok(ConfigUser {
@@ -74,11 +79,11 @@ impl Setting for Group {
 
     fn read(alloc: Global, value: &Value) -> Result<Group, ConfigError> {
         if !has_only(value, &["name", "users"]) {
-            return Err(ConfigError::Refused);
+            return Err(refused(Rule::Keys));
         }
         let fields = both(
-            needed::<GroupName>(alloc, value, "name"),
-            sorted::<UserName>(alloc, value, "users"),
+            needed::<GroupName>(alloc, value, ConfigKey::Name),
+            sorted::<UserName>(alloc, value, ConfigKey::Users),
         );
         match fields {
             Ok((name, users)) => Ok(Group { name, users }),
@@ -92,21 +97,22 @@ fn service_from(
     name: ServiceName,
     redirect_uri: Option<RedirectUri>,
     secret: Option<Secret>,
-) -> Option<ConfigService>
-    ensures { result ≡ spec.service_from (name, (redirect_uri, secret)) }
+) -> Result<ConfigService, ConfigError>
+    ensures { Gives result (spec.service_from (name, (redirect_uri, secret))) }
 {
     match (redirect_uri, secret) {
-        (None, None) => Some(ConfigService {
+        (None, None) => Ok(ConfigService {
             name,
             redirect_uri: None,
             secret: None,
         }),
-        (Some(uri), Some(secret)) => Some(ConfigService {
+        (Some(uri), Some(secret)) => Ok(ConfigService {
             name,
             redirect_uri: Some(uri.into_text()),
             secret: Some(secret.into_text()),
         }),
-        (_, _) => None,
+        (None, Some(_)) => Err(stands_with(ConfigKey::RedirectUri, ConfigKey::Secret)),
+        (Some(_), None) => Err(stands_with(ConfigKey::Secret, ConfigKey::RedirectUri)),
     }
 }
 
@@ -118,20 +124,17 @@ impl Setting for ConfigService {
             value,
             &["name", "redirect_uri", "secret", "command", "target"],
         ) {
-            return Err(ConfigError::Refused);
+            return Err(refused(Rule::Keys));
         }
         let fields = both(
-            needed::<ServiceName>(alloc, value, "name"),
+            needed::<ServiceName>(alloc, value, ConfigKey::Name),
             both(
-                optional::<RedirectUri>(alloc, value, "redirect_uri"),
-                optional::<Secret>(alloc, value, "secret"),
+                optional::<RedirectUri>(alloc, value, ConfigKey::RedirectUri),
+                optional::<Secret>(alloc, value, ConfigKey::Secret),
             ),
         );
         match fields {
-            Ok((name, (uri, secret))) => match service_from(name, uri, secret) {
-                Some(service) => Ok(service),
-                None => Err(ConfigError::Refused),
-            },
+            Ok((name, (uri, secret))) => service_from(name, uri, secret),
             Err(error) => Err(error),
         }
     }
@@ -142,17 +145,17 @@ impl Setting for Role {
 
     fn read(alloc: Global, value: &Value) -> Result<Role, ConfigError> {
         if !has_only(value, &["name", "scopes", "users", "groups", "services"]) {
-            return Err(ConfigError::Refused);
+            return Err(refused(Rule::Keys));
         }
         let held = both(
-            needed::<RoleName>(alloc, value, "name"),
+            needed::<RoleName>(alloc, value, ConfigKey::Name),
             scopes(alloc, value),
         );
         let holders = both(
-            sorted::<UserName>(alloc, value, "users"),
+            sorted::<UserName>(alloc, value, ConfigKey::Users),
             both(
-                sorted::<GroupName>(alloc, value, "groups"),
-                sorted::<ServiceName>(alloc, value, "services"),
+                sorted::<GroupName>(alloc, value, ConfigKey::Groups),
+                sorted::<ServiceName>(alloc, value, ConfigKey::Services),
             ),
         );
         match both(held, holders) {
@@ -168,13 +171,13 @@ impl Setting for Role {
     }
 }
 
-fn owner_from(user: Option<UserName>, service: Option<ServiceName>) -> Option<Owner>
-    ensures { result ≡ spec.owner_from (user, service) }
+fn owner_from(user: Option<UserName>, service: Option<ServiceName>) -> Result<Owner, ConfigError>
+    ensures { Gives result (spec.owner_from (user, service)) }
 {
     match (user, service) {
-        (Some(user), None) => Some(Owner::User(user)),
-        (None, Some(service)) => Some(Owner::Service(service)),
-        (_, _) => None,
+        (Some(user), None) => Ok(Owner::User(user)),
+        (None, Some(service)) => Ok(Owner::Service(service)),
+        (_, _) => Err(refused(Rule::OneOwner)),
     }
 }
 
@@ -183,14 +186,11 @@ fn owner(alloc: Global, value: &Value) -> Result<Owner, ConfigError>
     ensures { Gives result (spec.owner (view value.now)) }
 {
     let owners = both(
-        optional::<UserName>(alloc, value, "user"),
-        optional::<ServiceName>(alloc, value, "service"),
+        optional::<UserName>(alloc, value, ConfigKey::User),
+        optional::<ServiceName>(alloc, value, ConfigKey::Service),
     );
     match owners {
-        Ok((user, service)) => match owner_from(user, service) {
-            Some(owner) => Ok(owner),
-            None => Err(ConfigError::Refused),
-        },
+        Ok((user, service)) => owner_from(user, service),
         Err(error) => Err(error),
     }
 }
@@ -214,10 +214,10 @@ impl Setting for ConfigToken {
 
     fn read(alloc: Global, value: &Value) -> Result<ConfigToken, ConfigError> {
         if !has_only(value, &["token", "user", "service", "scopes"]) {
-            return Err(ConfigError::Refused);
+            return Err(refused(Rule::Keys));
         }
         let fields = both(
-            needed::<Secret>(alloc, value, "token"),
+            needed::<Secret>(alloc, value, ConfigKey::Token),
             both(owner(alloc, value), scopes(alloc, value)),
         );
         match fields {
@@ -251,11 +251,11 @@ impl Setting for CustomRow {
 
     fn read(alloc: Global, value: &Value) -> Result<CustomRow, ConfigError> {
         if !has_only(value, &["name", "subscopes"]) {
-            return Err(ConfigError::Refused);
+            return Err(refused(Rule::Keys));
         }
         let fields = both(
-            needed::<CustomName>(alloc, value, "name"),
-            listed::<CustomName>(alloc, value, "subscopes"),
+            needed::<CustomName>(alloc, value, ConfigKey::Name),
+            listed::<CustomName>(alloc, value, ConfigKey::Subscopes),
         );
         match fields {
             Ok((name, subscopes)) => Ok(CustomRow { name, subscopes }),

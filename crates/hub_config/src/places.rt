@@ -1,12 +1,17 @@
 //! The places and the limits of a configuration.
-ghost use Rattle.std.specs.Prelude.{◌≡◌, ℕ, Option};
+ghost use Rattle.std.specs.Prelude.{◌≡◌, ℕ};
 ghost use Rattle.toml.specs.View.{view};
+ghost use Rattle.hub_config.specs.Faults.{Read};
 ghost use Rattle.hub_config.specs.Settings.{Gives, pair};
 ghost use Rattle.hub_config.specs.Settings as settings;
 ghost use Rattle.hub_config.specs.Places as spec;
 
+use crate::config_key::ConfigKey;
+use crate::fault::Rule;
 use crate::forms::Secret;
-use crate::setting::{ConfigError, Setting, both, has_only, limit, listed, optional};
+use crate::setting::{
+    ConfigError, Setting, both, has_only, limit, listed, optional, refused, refused_at, stands_with,
+};
 use addresses::address::Address;
 use hub_kit::list::List;
 use hub_kit::target::Target;
@@ -28,23 +33,27 @@ fn pool_from(targets: List<Target>) -> Option<Pool>
 pub(crate) fn pool(alloc: Global, value: &Value) -> Result<Pool, ConfigError>
     ensures { Gives result (spec.pool (view value.now)) }
 {
-    match listed::<Target>(alloc, value, "pool") {
+    match listed::<Target>(alloc, value, ConfigKey::Pool) {
         Ok(targets) => match pool_from(targets) {
             Some(pool) => Ok(pool),
-            None => Err(ConfigError::Refused),
+            None => Err(refused_at(ConfigKey::Pool, Rule::Pool)),
         },
         Err(error) => Err(error),
     }
 }
 
 /// The target and the secret of the proxy's interface, if both are there.
-fn proxy_from(api: Option<Target>, secret: Option<Secret>) -> Option<Option<(Target, Text)>>
-    ensures { result ≡ spec.proxy_from (api, secret) }
+fn proxy_from(
+    api: Option<Target>,
+    secret: Option<Secret>,
+) -> Result<Option<(Target, Text)>, ConfigError>
+    ensures { Gives result (spec.proxy_from (api, secret)) }
 {
     match (api, secret) {
-        (None, None) => Some(None),
-        (Some(api), Some(secret)) => Some(Some((api, secret.into_text()))),
-        (_, _) => None,
+        (None, None) => Ok(None),
+        (Some(api), Some(secret)) => Ok(Some((api, secret.into_text()))),
+        (None, Some(_)) => Err(stands_with(ConfigKey::ProxyApi, ConfigKey::ProxySecret)),
+        (Some(_), None) => Err(stands_with(ConfigKey::ProxySecret, ConfigKey::ProxyApi)),
     }
 }
 
@@ -53,14 +62,11 @@ pub(crate) fn proxy(alloc: Global, value: &Value) -> Result<Option<(Target, Text
     ensures { Gives result (spec.proxy (view value.now)) }
 {
     let both = both(
-        optional::<Target>(alloc, value, "proxy_api"),
-        optional::<Secret>(alloc, value, "proxy_secret"),
+        optional::<Target>(alloc, value, ConfigKey::ProxyApi),
+        optional::<Secret>(alloc, value, ConfigKey::ProxySecret),
     );
     match both {
-        Ok((api, secret)) => match proxy_from(api, secret) {
-            Some(proxy) => Ok(proxy),
-            None => Err(ConfigError::Refused),
-        },
+        Ok((api, secret)) => proxy_from(api, secret),
         Err(error) => Err(error),
     }
 }
@@ -69,7 +75,7 @@ pub(crate) fn proxy(alloc: Global, value: &Value) -> Result<Option<(Target, Text
 pub(crate) fn limits(alloc: Global, value: &Value) -> Result<Limits, ConfigError>
     ensures { Gives result (spec.limits (view value.now)) }
 {
-    match optional::<Limits>(alloc, value, "limits") {
+    match optional::<Limits>(alloc, value, ConfigKey::Limits) {
         Ok(given) => Ok(given.unwrap_or(greatest_limits())),
         Err(error) => Err(error),
     }
@@ -79,7 +85,7 @@ pub(crate) fn limits(alloc: Global, value: &Value) -> Result<Limits, ConfigError
 pub(crate) fn listen(alloc: Global, value: &Value) -> Result<Option<Text>, ConfigError>
     ensures { Gives result (spec.listen (view value.now)) }
 {
-    match optional::<Address>(alloc, value, "listen") {
+    match optional::<Address>(alloc, value, ConfigKey::Listen) {
         Ok(Some(address)) => Ok(Some(address.into_text())),
         Ok(None) => Ok(None),
         Err(error) => Err(error),
@@ -92,7 +98,7 @@ fn three(
     second: Result<u32, ConfigError>,
     third: Result<u32, ConfigError>,
 ) -> Result<(u32, (u32, u32)), ConfigError>
-    ensures { (a b c : Option ℕ) → Gives first a → Gives second b → Gives third c → Gives result (pair a (pair b c)) }
+    ensures { (a b c : Read ℕ) → Gives first a → Gives second b → Gives third c → Gives result (pair a (pair b c)) }
 {
     both(first, both(second, third))
 }
@@ -102,22 +108,22 @@ impl Setting for Limits {
 
     fn read(_: Global, value: &Value) -> Result<Limits, ConfigError> {
         if !has_limit_keys(value) {
-            return Err(ConfigError::Refused);
+            return Err(refused(Rule::Keys));
         }
         let people = three(
-            limit(value, "users", 100_000),
-            limit(value, "groups", 10_000),
-            limit(value, "services", 1_000),
+            limit(value, ConfigKey::Users, 100_000),
+            limit(value, ConfigKey::Groups, 10_000),
+            limit(value, ConfigKey::Services, 1_000),
         );
         let rights = three(
-            limit(value, "roles", 1_000),
-            limit(value, "servers", 100),
-            limit(value, "tokens", 1_000_000),
+            limit(value, ConfigKey::Roles, 1_000),
+            limit(value, ConfigKey::Servers, 100),
+            limit(value, ConfigKey::Tokens, 1_000_000),
         );
         let rest = three(
-            limit(value, "shares", 100_000),
-            limit(value, "codes", 100_000),
-            limit(value, "trail_bytes", 1_073_741_824),
+            limit(value, ConfigKey::Shares, 100_000),
+            limit(value, ConfigKey::Codes, 100_000),
+            limit(value, ConfigKey::TrailBytes, 1_073_741_824),
         );
         match both(people, both(rights, rest)) {
             Ok(

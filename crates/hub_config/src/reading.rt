@@ -1,15 +1,17 @@
 //! The configuration as a whole.
-ghost use Rattle.std.specs.Prelude.{◌≡◌, true, false, IfOk, IfErr};
+ghost use Rattle.std.specs.Prelude.{◌≡◌};
 ghost use Rattle.toml.specs.View.{view};
 ghost use Rattle.hub_config.specs.Settings.{Gives};
 ghost use Rattle.hub_config.specs.Settings as settings;
 ghost use Rattle.hub_config.specs.Config as spec;
 
 use crate::config::FileConfig;
-use crate::custom::{all_declared, table_of};
+use crate::config_key::ConfigKey;
+use crate::custom::{table_of, undeclared};
+use crate::fault::Rule;
 use crate::managed::{are_apart, managed};
 use crate::places::{limits, listen, pool, proxy};
-use crate::setting::{ConfigError, Setting, both, has_only, listed, optional};
+use crate::setting::{ConfigError, Setting, both, has_only, listed, optional, refused, refused_at};
 use hub_kit::target::Target;
 use hub_kit::text::Text;
 use hub_opening::config::{ConfigService, ConfigToken, ConfigUser, HubConfig};
@@ -25,22 +27,22 @@ impl Setting for HubConfig {
         let places = both(
             pool(alloc, value),
             both(
-                optional::<Target>(alloc, value, "hub_url"),
+                optional::<Target>(alloc, value, ConfigKey::HubUrl),
                 limits(alloc, value),
             ),
         );
         let people = both(
-            listed::<ConfigUser>(alloc, value, "users"),
+            listed::<ConfigUser>(alloc, value, ConfigKey::Users),
             both(
-                listed::<Group>(alloc, value, "groups"),
-                listed::<ConfigService>(alloc, value, "services"),
+                listed::<Group>(alloc, value, ConfigKey::Groups),
+                listed::<ConfigService>(alloc, value, ConfigKey::Services),
             ),
         );
         let rights = both(
-            listed::<Role>(alloc, value, "roles"),
+            listed::<Role>(alloc, value, ConfigKey::Roles),
             both(
-                listed::<ConfigToken>(alloc, value, "tokens"),
-                listed::<CustomRow>(alloc, value, "custom_scopes"),
+                listed::<ConfigToken>(alloc, value, ConfigKey::Tokens),
+                listed::<CustomRow>(alloc, value, ConfigKey::CustomScopes),
             ),
         );
         match both(places, both(people, rights)) {
@@ -96,11 +98,14 @@ impl Setting for FileConfig {
 
     fn read(alloc: Global, value: &Value) -> Result<FileConfig, ConfigError> {
         if !has_known_keys(value) {
-            return Err(ConfigError::Refused);
+            return Err(refused(Rule::Keys));
         }
         let edge = both(
             listen(alloc, value),
-            both(listed::<Text>(alloc, value, "command"), proxy(alloc, value)),
+            both(
+                listed::<Text>(alloc, value, ConfigKey::Command),
+                proxy(alloc, value),
+            ),
         );
         let beside = both(edge, managed(alloc, value));
         match both(beside, HubConfig::read(alloc, value)) {
@@ -121,10 +126,10 @@ fn read_table(alloc: Global, bytes: &[u8]) -> Result<FileConfig, ConfigError>
     ensures { Gives result (spec.config_in bytes.now) }
 {
     if bytes.len() > 1_048_576 {
-        return Err(ConfigError::Refused);
+        return Err(refused(Rule::Size));
     }
     let Ok(text) = std::str::from_utf8(bytes) else {
-        return Err(ConfigError::Refused);
+        return Err(refused(Rule::Utf8));
     };
     match toml::table_from_str(alloc, text) {
         Ok(table) => {
@@ -137,7 +142,7 @@ fn read_table(alloc: Global, bytes: &[u8]) -> Result<FileConfig, ConfigError>
             if error.is_memory() {
                 Err(ConfigError::Memory)
             } else {
-                Err(ConfigError::Refused)
+                Err(refused(Rule::Toml))
             }
         }
     }
@@ -145,30 +150,31 @@ fn read_table(alloc: Global, bytes: &[u8]) -> Result<FileConfig, ConfigError>
 
 // ---- rules between its parts
 
-/// Whether the declared custom scopes make a table, no others are used, and the services with a program are apart.
-fn is_sound(alloc: Global, config: &FileConfig) -> Result<bool, ConfigError>
-    ensures sound { IfOk result (λ sound. sound ≡ true → spec.IsSound config.now) }
-    ensures unsound { IfOk result (λ sound. sound ≡ false → ¬ (spec.IsSound config.now)) }
-    ensures err { IfErr result (λ e. e ≡ ConfigError.Memory) }
+/// Refuses a configuration whose custom scopes make no table, which uses others, or whose services with a program aren't apart.
+fn check(alloc: Global, config: &FileConfig) -> Result<(), ConfigError>
+    ensures { spec.IsChecked config.now result }
 {
     if !are_apart(config.hub.pool.as_slice(), config.managed.as_slice()) {
-        return Ok(false);
+        return Err(refused_at(ConfigKey::Services, Rule::Apart));
     }
     match table_of(alloc, config.hub.custom_scopes.as_slice()) {
-        Ok(Some(table)) => Ok(all_declared(&table, &config.hub)),
-        Ok(None) => Ok(false),
+        Ok(Some(table)) => match undeclared(&table, &config.hub) {
+            Some(fault) => Err(ConfigError::Refused(fault)),
+            None => Ok(()),
+        },
+        Ok(None) => Err(refused_at(ConfigKey::CustomScopes, Rule::CustomTable)),
         Err(error) => Err(error),
     }
 }
 
-/// Reads a configuration: one TOML table of at most 1,048,576 bytes. `Refused` comes exactly where the bytes are none.
+/// Reads a configuration: one TOML table of at most 1,048,576 bytes. `Refused` comes exactly where the bytes are none, with the first rule
+/// that they break.
 pub fn read_config(alloc: Global, bytes: &[u8]) -> Result<FileConfig, ConfigError>
     ensures { spec.IsRead bytes.now result }
 {
     match read_table(alloc, bytes) {
-        Ok(config) => match is_sound(alloc, &config) {
-            Ok(true) => Ok(config),
-            Ok(false) => Err(ConfigError::Refused),
+        Ok(config) => match check(alloc, &config) {
+            Ok(()) => Ok(config),
             Err(error) => Err(error),
         },
         Err(error) => Err(error),

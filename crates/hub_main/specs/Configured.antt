@@ -1,5 +1,5 @@
 -- With what the hub of a session is set up: what its file says, and its words on top.
-use Rattle.std.specs.Prelude.{◌≡◌, ℕ, false, List, [], ◌∷◌, ◌++◌, Option, Some, None, ⊤}
+use Rattle.std.specs.Prelude.{◌≡◌, ℕ, false, List, [], ◌∷◌, ◌++◌, Option, Some, None, Ok, ⊤}
 use Rattle.hub_devices.specs.Faults.{Rises}
 use Rattle.hub_devices.specs.NamedFiles.{Reads}
 use Rattle.scope_filters.specs.declared.holder.Owner.TheVariants as Own
@@ -37,7 +37,7 @@ most = 1048576
 
 -- these bytes are a configuration, and this is what it says
 pub record IsSaid (bytes : List ℕ) (file : FileConfig) : Type 0 where
-  pub says : config_in bytes ≡ Some file
+  pub says : config_in bytes ≡ Ok file
   pub sound : IsSound file
 
 -- the file of this name is a configuration, and this is what it says
@@ -48,7 +48,7 @@ pub record IsFile (files : FilesTold) (name : List ℕ) (file : FileConfig) : Ty
 
 -- These bytes are no configuration
 abbrev pub AreNone : List ℕ → Type 0
-AreNone bytes = (file : FileConfig) → config_in bytes ≡ Some file → ¬ (IsSound file)
+AreNone bytes = (file : FileConfig) → config_in bytes ≡ Ok file → ¬ (IsSound file)
 
 -- Why these bytes say nothing: they are no configuration, which the cause hands back as they were read, or memory was wanting. No other
 -- cause comes here

@@ -52,7 +52,7 @@ fn file_in(alloc: Global, bytes: Bytes) -> Result<FileConfig, Cause>
             drop(bytes);
             Ok(file)
         }
-        Err(ConfigError::Refused) => Err(Cause::NoConfig(bytes)),
+        Err(ConfigError::Refused(_)) => Err(Cause::NoConfig(bytes)),
         Err(ConfigError::Memory) => {
             drop(bytes);
             Err(Cause::Memory)

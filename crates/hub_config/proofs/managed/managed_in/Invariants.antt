@@ -3,5 +3,5 @@ use Rattle.toml.specs.View.{items_view}
 use Rattle.hub_config.specs.Managed.{managed_in}
 use Rattle.hub_config.proofs.managed.managed_in.Given as goal
 
-abbrev pub invariant-loop-item : goal.invariant-loop-item
-invariant-loop-item l = managed_in l.found.items (items_view (drop l.item-index l.fn.items)) ≡ managed_in [] (items_view l.fn.items)
+abbrev pub invariant-loop-n : goal.invariant-loop-n
+invariant-loop-n l = managed_in l.found.items l.n (items_view (drop l.n l.fn.items)) ≡ managed_in [] 0 (items_view l.fn.items)
