@@ -1,7 +1,9 @@
 //! What is said to people of a `serve` that didn't do its work. No contract speaks of it, and it changes no status.
 use crate::end::{End, Ended, Line, NotServed};
+use crate::plan::Plan;
 use hub_kit::text::Text;
 use hub_main::cause::Cause;
+use hub_main::explain::place_of_name;
 use hub_words::serve::read_serve;
 use std::alloc::{AllocError, Global};
 
@@ -10,7 +12,7 @@ const USAGE: &str =
     "hub serve --config FILE [--db FILE] [--no-trail] [--workers N] [--connections N]";
 
 /// The name of the file of configuration in the words.
-fn config_name(alloc: Global, words: &[Text]) -> Result<Text, AllocError> {
+pub fn config_name(alloc: Global, words: &[Text]) -> Result<Text, AllocError> {
     match read_serve(alloc, words) {
         Ok(serve) => serve.config.copy(alloc),
         Err(_) => Ok(Text::new(alloc)),
@@ -52,13 +54,26 @@ fn explain_ended(ended: &Ended) -> Option<&'static str> {
     }
 }
 
-/// Why `serve` didn't do its work by its plan, in a line; nothing where it did.
-pub fn explain_end(alloc: Global, end: &End) -> Result<Option<String>, AllocError> {
+/// Why `serve` didn't do its work by the plan of these words, in a line; nothing where it did.
+pub fn explain_end(
+    alloc: Global,
+    words: &[Text],
+    plan: &Plan,
+    end: &End,
+) -> Result<Option<String>, AllocError> {
     match end {
         Ok(ended) => match explain_ended(ended) {
             Some(said) => Ok(Some(String::from_str(alloc, said)?)),
             None => Ok(None),
         },
+        Err(NotServed::Because(Cause::UnknownName(name))) => {
+            let file = config_name(alloc, words)?;
+            let file = file.as_str();
+            let place = place_of_name(alloc, &plan.hub, name)?;
+            let place = place.as_str();
+            let name = *name;
+            Ok(Some(format!(in alloc; "{name} is neither kept nor configured: {file}: {place}")?))
+        }
         Err(why) => Ok(Some(format!(in alloc; "{why}")?)),
     }
 }
