@@ -1,5 +1,7 @@
 //! A hub behind a socket.
-ghost use Rattle.std.specs.Prelude.{◌≡◌, ℕ, None, ⊤};
+ghost use Rattle.std.specs.Prelude.{◌≡◌, ◌≤◌, ℕ, None, ⊤, IfErr};
+ghost use Rattle.hub_devices.specs.Faults.{Rises};
+ghost use Rattle.hub_devices.specs.declared.link_error.LinkError.TheVariants as Link;
 
 use crate::limits::{END_MILLISECONDS, REPLY_BYTES};
 use http_wire::writes::write_all;
@@ -8,16 +10,21 @@ use hub_edge::connection::SocketSource;
 use hub_edge::targets::connect_waiting;
 use hub_kit::bytes::Bytes;
 use hub_kit::target::Target;
+use hub_link::coded::{Coded, uncode};
 use hub_link::link::HubLink;
 use hub_link::replies::has_come;
+use std::alloc::Global;
 use std::io::{self, ErrorKind};
 use std::time::{Duration, Instant};
 
 /// How many bytes are read at once.
 const PIECE: usize = 4096;
 
-/// Asks the hub at a target, by a connection for each request. A reply ends where its length says, or where the hub ends the
-/// connection, so each request has to wish that.
+/// How a reply in chunks ends, but where its trailer is written with bare line feeds.
+const CHUNKS_END: &[u8] = b"\r\n\r\n";
+
+/// Asks the hub at a target, by a connection for each request. A reply ends where its length or its last chunk says, or where the hub ends
+/// the connection, so each request has to wish that. One in chunks is given as the same reply by its length.
 pub struct SocketHub {
     rt: HostRuntime,
     target: Target,
@@ -50,8 +57,13 @@ impl SocketHub {
         }
     }
 
+    /// Where it asks.
+    pub(crate) fn target(&self) -> &Target {
+        &self.target
+    }
+
     /// Sends a request, and reads all that comes.
-    fn exchange(&self, request: &Bytes) -> io::Result<Bytes> {
+    pub(crate) fn exchange(&self, request: &Bytes) -> io::Result<Bytes> {
         let moment = Duration::from_millis(END_MILLISECONDS);
         let (mut input, mut output) = connect_waiting(self.rt, &self.target, moment)?;
         if write_all(&mut output, request.as_slice()).is_err() {
@@ -60,7 +72,46 @@ impl SocketHub {
         let reply = read_to_end(&self.rt, &mut input, self.limit);
         // the connection ends when both of its sides do
         drop(output);
-        reply
+        by_length(self.rt.alloc(), reply?)
+    }
+
+    /// Counts what failed, but for want of memory.
+    pub(crate) fn told(&mut self, reply: io::Result<Bytes>) -> Result<Bytes, LinkError>
+        ensures counted { self.old.faults ≤ self.new.faults }
+        ensures cause { IfErr result (λ e. e ≡ Link.Failed → Rises self.old.faults self.new.faults) }
+    {
+        match reply {
+            Ok(reply) => Ok(reply),
+            Err(error) if error.kind() == ErrorKind::OutOfMemory => Err(LinkError::Memory),
+            Err(_) => {
+                self.faults = self.faults.saturating_add(1);
+                Err(LinkError::Failed)
+            }
+        }
+    }
+}
+
+/// A reply as it is read, by its length. One whose coding isn't read, or isn't kept to, is none.
+fn by_length(alloc: Global, reply: Bytes) -> io::Result<Bytes> {
+    match uncode(alloc, reply.as_slice())? {
+        Coded::Plain => Ok(reply),
+        Coded::Chunks(text) => Ok(text),
+        Coded::Refused => Err(io::Error::from(ErrorKind::InvalidData)),
+    }
+}
+
+/// Whether what came is a whole reply by its length or by its chunks. For chunks it is looked at only where it may have ended.
+fn is_whole(alloc: Global, reply: &[u8]) -> io::Result<bool> {
+    if has_come(reply) {
+        return Ok(true);
+    }
+    if !reply.ends_with(CHUNKS_END) {
+        return Ok(false);
+    }
+    match uncode(alloc, reply)? {
+        Coded::Chunks(_) => Ok(true),
+        Coded::Plain => Ok(false),
+        Coded::Refused => Ok(false),
     }
 }
 
@@ -74,8 +125,8 @@ fn await_end(rt: &HostRuntime, input: &mut SocketSource) {
     let _ = input.read_within(begun, Duration::from_millis(END_MILLISECONDS), &mut rest);
 }
 
-/// All that comes within this time, up to the most that a reply may have. Where what came is a whole reply by the length that it says, its
-/// end is waited for no longer than a moment.
+/// All that comes within this time, up to the most that a reply may have. Where what came is a whole reply by what it says, its end is
+/// waited for no longer than a moment.
 fn read_to_end(rt: &HostRuntime, input: &mut SocketSource, limit: Duration) -> io::Result<Bytes> {
     let begun = Instant::now(rt)?;
     let mut reply = Bytes::new(rt.alloc());
@@ -90,7 +141,7 @@ fn read_to_end(rt: &HostRuntime, input: &mut SocketSource, limit: Duration) -> i
             break;
         }
         reply.push_all(&piece[..count])?;
-        if has_come(reply.as_slice()) {
+        if is_whole(rt.alloc(), reply.as_slice())? {
             await_end(rt, input);
             return Ok(reply);
         }
@@ -106,13 +157,7 @@ impl HubLink for SocketHub {
     ghost does = { λ before request given after. ⊤ };
 
     fn ask(&mut self, request: &Bytes) -> Result<Bytes, LinkError> {
-        match self.exchange(request) {
-            Ok(reply) => Ok(reply),
-            Err(error) if error.kind() == ErrorKind::OutOfMemory => Err(LinkError::Memory),
-            Err(_) => {
-                self.faults = self.faults.saturating_add(1);
-                Err(LinkError::Failed)
-            }
-        }
+        let reply = self.exchange(request);
+        self.told(reply)
     }
 }
