@@ -6,13 +6,13 @@ ghost use Rattle.worker_hall.specs.Given.{GaveMore};
 ghost use Rattle.worker_hall.specs.Shifts.{AreServed};
 ghost use Rattle.proxy_serving.specs.Ends.{IsFault, IsOver, IsSaid};
 ghost use Rattle.proxy_serving.specs.Ends as spec;
-ghost use Rattle.proxy_serving.specs.Workers.{IsUnused, KitsServed, OverOneTable, split_from};
+ghost use Rattle.proxy_serving.specs.Workers.{KitsServed, ServedByAll, split_from};
 
 use crate::api_server::ApiServer;
 use crate::ends::{ProxyEnd, ProxyFault};
 use crate::forwarder::{Forwarder, ProxyKit};
 use crate::hiring::{hire_forwarders, hire_servers};
-use carries::Carrier;
+use carries::{Addressed, Carrier};
 use desk::{Desk, Pass};
 use http_wire::error::WriteError;
 use http_wire::writes::write_all;
@@ -20,6 +20,7 @@ use hub_devices::clock::Clock;
 use hub_devices::listener::Listener;
 use hub_devices::sink::Sink;
 use hub_kit::text::Text;
+use hub_words::proxy::ProxyWords;
 use proxy_api::service::RouteService;
 use route_desk::{RouteBook, Router, open};
 use route_table::lookup::Lookup;
@@ -58,13 +59,9 @@ pub fn serve_proxy<
     requires kits { 0 < length kits.old.items }
     requires clocks { 0 < length clocks.old.items }
     ensures said { IsSaid (O.held output.old) (O.held output.new) result.fault }
-    ensures served { ((result.forwarded ≡ 0) × (result.answered ≡ 0)
-        × (kits.new.items ≡ kits.old.items) × (clocks.new.items ≡ clocks.old.items))
-        ⊎ OverOneTable
-        (λ pass. KitsServed (AreServed L.are_sides ⟦<Forwarder<Router<'a, W>, U, C> as Serves<L::In, L::Out>>⟧.served)
-        (λ f. f.routes.pass ≡ pass) (λ f. f.kit) kits.old.items result.forwarded kits.new.items)
-        (λ pass. KitsServed (AreServed L.are_sides ⟦<ApiServer<'a, Router<'a, W>, C> as Serves<L::In, L::Out>>⟧.served)
-        (λ s. (s.routes.pass ≡ pass) × (s.secret.now ≡ secret.now)) (λ s. s.clock) clocks.old.items result.answered clocks.new.items) }
+    ensures served { ServedByAll L.are_sides ⟦<Forwarder<Router<'a, W>, U, C> as Serves<L::In, L::Out>>⟧.served
+        ⟦<ApiServer<'a, Router<'a, W>, C> as Serves<L::In, L::Out>>⟧.served secret.now
+        (kits.old.items, clocks.old.items) (kits.new.items, clocks.new.items) result }
     ensures forwarded { GaveMore (L.given browsers.old) result.forwarded (L.given browsers.new) }
     ensures answered { GaveMore (L.given api.old) result.answered (L.given api.new) }
     ensures fault { IsFault (L.faults browsers.old) (L.faults browsers.new) (L.faults api.old) (L.faults api.new)
@@ -82,6 +79,43 @@ pub fn serve_proxy<
         return ended(0, 0, ProxyFault::Output);
     }
     serve_over(rt, alloc, &desk, pass, secret, browsers, api, kits, clocks)
+}
+
+/// The same by the words of the command, which the clauses alone look at: browsers come by a listener for the address of `--listen`, and
+/// who sets routes by one for that of `--api`.
+pub fn serve_words<
+    'a,
+    L: Listener<In: Send, Out: Shuts + Send> + Addressed + Send,
+    U: Carrier<L::In, L::Out, Reads: Send, Writes: Send> + Send + Drop,
+    C: Clock + Send + Drop,
+    O: Sink,
+    W: Threads + Wait + Sync,
+>(
+    rt: &'a W,
+    alloc: Global,
+    _words: &ProxyWords,
+    secret: &'a Text,
+    browsers: &mut L,
+    api: &mut L,
+    kits: &mut Vec<ProxyKit<U, C>>,
+    clocks: &mut Vec<C>,
+    output: &mut O,
+) -> ProxyEnd
+    requires listen { L.address browsers.old ≡ _words.now.listen }
+    requires interface { L.address api.old ≡ _words.now.api }
+    requires kits { 0 < length kits.old.items }
+    requires clocks { 0 < length clocks.old.items }
+    ensures said { IsSaid (O.held output.old) (O.held output.new) result.fault }
+    ensures served { ServedByAll L.are_sides ⟦<Forwarder<Router<'a, W>, U, C> as Serves<L::In, L::Out>>⟧.served
+        ⟦<ApiServer<'a, Router<'a, W>, C> as Serves<L::In, L::Out>>⟧.served secret.now
+        (kits.old.items, clocks.old.items) (kits.new.items, clocks.new.items) result }
+    ensures forwarded { GaveMore (L.given browsers.old) result.forwarded (L.given browsers.new) }
+    ensures answered { GaveMore (L.given api.old) result.answered (L.given api.new) }
+    ensures fault { IsFault (L.faults browsers.old) (L.faults browsers.new) (L.faults api.old) (L.faults api.new)
+        result.forwarded result.answered (O.faults output.old) (O.faults output.new) result.fault }
+    ensures writes { O.faults output.old ≤ O.faults output.new }
+{
+    serve_proxy(rt, alloc, secret, browsers, api, kits, clocks, output)
 }
 
 /// Writes `ready` and a line end.
