@@ -12,6 +12,8 @@ if (location.pathname == '/people' && ['', '#users'].includes(location.hash)) {
 }
 begin('reader', whoever())
 const shown = await pages[location.pathname]()
+// this module doesn't wait for the page, so that the hub is asked at once
+if (document.readyState == 'loading') await new Promise(done => document.addEventListener('DOMContentLoaded', done))
 await shown.show()
 // a browser keeps a page whole for its back button, and somebody may have signed out meanwhile: so nothing is left on it, and it asks anew
 addEventListener('pagehide', () => document.body.replaceChildren())

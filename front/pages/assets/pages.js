@@ -50,7 +50,8 @@ export function pages(where, draw, searched = false) {
     const many = searched || total > SIZE
     if (many != search.contains(form)) search.replaceChildren(many ? form : '')
     shown.replaceChildren(many ? turns(list, from, items.length, total) : '', draw(items))
-    performance.mark(where.slice(1) + ' shown')
+    // front/check measures until the frame that has it
+    requestAnimationFrame(() => performance.mark(where.slice(1) + ' shown'))
     return items
   }
 
