@@ -1,5 +1,5 @@
 -- The texts of a sign-in.
-use Rattle.std.specs.Prelude.{Bool, ℕ, List, [], ◌++◌, length, codes, decimal}
+use Rattle.std.specs.Prelude.{Bool, ℕ, List, [], ◌++◌, length, codes, decimal, if◌then◌else◌}
 use Rattle.form_urlencoded.specs.Form.{append_pair}
 use Rattle.hub_kit.specs.declared.names.ServerKey.{ServerKey}
 use Rattle.guard_login.specs.Nexts.{base_of}
@@ -57,11 +57,14 @@ unfoldable pub state_line : Bool → List ℕ → List ℕ → List ℕ → List
 state_line secure base state next =
     codes "Set-Cookie: hub-guard-state=" ++ state ++ codes "." ++ next ++ codes "; Path=" ++ base ++ cookie_end secure
 
--- the cookie of a token, and the end of that of its sign-in
+-- the cookie of a token
+unfoldable pub token_line : Bool → List ℕ → List ℕ → List ℕ
+token_line secure base token = codes "Set-Cookie: hub-guard=" ++ token ++ codes "; Path=" ++ base ++ cookie_end secure
+
+-- the same, and the end of the cookie of its sign-in
 unfoldable pub token_lines : Bool → List ℕ → List ℕ → List ℕ
 token_lines secure base token =
-    codes "Set-Cookie: hub-guard=" ++ token ++ codes "; Path=" ++ base ++ cookie_end secure
-    ++ codes "Set-Cookie: hub-guard-state=; Path=" ++ base ++ codes "; Max-Age=0\r\n"
+    token_line secure base token ++ codes "Set-Cookie: hub-guard-state=; Path=" ++ base ++ codes "; Max-Age=0\r\n"
 
 -- to the hub, where the browser signs in
 unfoldable pub sends_text : Door → List ℕ → List ℕ → List ℕ

@@ -3,6 +3,8 @@ ghost use Rattle.std.specs.Prelude.{◌≡◌, ◌≢◌, ◌≤◌, ◌++◌, �
 ghost use Rattle.hub_link.specs.Links.{Exchange, Asks};
 ghost use Rattle.guard.specs.Guards.{Judges};
 ghost use Rattle.proxy_wire.specs.Upgrades.{is_upgrade};
+ghost use Rattle.proxy_core.specs.Telling.{place_of};
+ghost use Rattle.carries.specs.Telling.{sides_of};
 ghost use Rattle.guard_login.specs.Entries.{IsTaken, EnterEnds};
 ghost use Rattle.guard_login.specs.Entries as spec;
 ghost use Rattle.guard_login.specs.Signed as signed;
@@ -85,35 +87,11 @@ fn enter<H: HubLink, R: Random, I: Source, O: Shuts, U: Carrier<I, O>>(
 ) -> Result<Entered<U::Reads, U::Writes>, SessionFault>
     requires minor { head.now.minor ≤ 1 }
     requires sized { framing ≢ Framing.ToEnd }
-    ensures ends { (asks : List Exchange) × (rest : List ℕ) × Asks H.asked H.does link.old asks link.new
-        × IsTaken R.left R.faults random.old random.new
-        (λ reads writes. record {
-          left = U.Reads.left reads;
-          held = U.Writes.held writes;
-          reads = U.Reads.faults reads;
-          writes = U.Writes.faults writes;
-          upper_shut = U.Writes.closed writes;
-          lower_shut = O.closed output.new;
-        })
-        (is_upgrade head.now framing) door.now head.now framing asks (H.faults link.old) (H.faults link.new)
-        (record {
-          left = I.left input.old;
-          kept = rooms.old.kept;
-          held = O.held output.old;
-          told = U.told up.old;
-          reads = I.faults input.old;
-          links = U.faults up.old;
-          writes = O.faults output.old;
-        })
-        (record {
-          left = I.left input.new;
-          kept = rest ++ rooms.new.kept;
-          held = O.held output.new;
-          told = U.told up.new;
-          reads = I.faults input.new;
-          links = U.faults up.new;
-          writes = O.faults output.new;
-        }) result }
+    ensures ends { let place = place_of I.Source O.Sink U.Upstream in
+        let sides = sides_of U.Reads.Source U.Writes.Sink (O.closed output.new) in
+        (asks : List Exchange) × (rest : List ℕ) × Asks H.asked H.does link.old asks link.new × IsTaken R.left R.faults random.old
+        random.new sides (is_upgrade head.now framing) door.now head.now framing asks (H.faults link.old) (H.faults link.new)
+        (place input.old rooms.old.kept output.old up.old) (place input.new (rest ++ rooms.new.kept) output.new up.new) result }
     ensures asks { H.faults link.old ≤ H.faults link.new }
     ensures draws { R.faults random.old ≤ R.faults random.new }
     ensures reads { I.faults input.old ≤ I.faults input.new }
@@ -152,35 +130,11 @@ fn enter_kept<H: HubLink, R: Random, I: Source, O: Shuts, U: Carrier<I, O>>(
     up: &mut U,
 ) -> Result<Entered<U::Reads, U::Writes>, SessionFault>
     requires { rooms.old.kept ≡ [] }
-    ensures ends { (asks : List Exchange) × (kept : List ℕ) × Asks H.asked H.does link.old asks link.new
-        × EnterEnds R.left R.faults random.old random.new
-        (λ reads writes. record {
-          left = U.Reads.left reads;
-          held = U.Writes.held writes;
-          reads = U.Reads.faults reads;
-          writes = U.Writes.faults writes;
-          upper_shut = U.Writes.closed writes;
-          lower_shut = O.closed output.new;
-        })
-        door.now asks (H.faults link.old) (H.faults link.new)
-        (record {
-          left = I.left input.old;
-          kept = [];
-          held = O.held output.old;
-          told = U.told up.old;
-          reads = I.faults input.old;
-          links = U.faults up.old;
-          writes = O.faults output.old;
-        })
-        (record {
-          left = I.left input.new;
-          kept = kept;
-          held = O.held output.new;
-          told = U.told up.new;
-          reads = I.faults input.new;
-          links = U.faults up.new;
-          writes = O.faults output.new;
-        }) result }
+    ensures ends { let place = place_of I.Source O.Sink U.Upstream in
+        let sides = sides_of U.Reads.Source U.Writes.Sink (O.closed output.new) in
+        (asks : List Exchange) × (kept : List ℕ) × Asks H.asked H.does link.old asks link.new × EnterEnds R.left R.faults random.old
+        random.new sides door.now asks (H.faults link.old) (H.faults link.new) (place input.old [] output.old up.old)
+        (place input.new kept output.new up.new) result }
     ensures asks { H.faults link.old ≤ H.faults link.new }
     ensures draws { R.faults random.old ≤ R.faults random.new }
     ensures reads { I.faults input.old ≤ I.faults input.new }
@@ -213,35 +167,11 @@ pub fn enter_one<H: HubLink, R: Random, I: Source, O: Shuts, U: Carrier<I, O>>(
     output: &mut O,
     up: &mut U,
 ) -> Result<Entered<U::Reads, U::Writes>, SessionFault>
-    ensures ends { (asks : List Exchange) × (kept : List ℕ) × Asks H.asked H.does link.old asks link.new
-        × EnterEnds R.left R.faults random.old random.new
-        (λ reads writes. record {
-          left = U.Reads.left reads;
-          held = U.Writes.held writes;
-          reads = U.Reads.faults reads;
-          writes = U.Writes.faults writes;
-          upper_shut = U.Writes.closed writes;
-          lower_shut = O.closed output.new;
-        })
-        door.now asks (H.faults link.old) (H.faults link.new)
-        (record {
-          left = I.left input.old;
-          kept = [];
-          held = O.held output.old;
-          told = U.told up.old;
-          reads = I.faults input.old;
-          links = U.faults up.old;
-          writes = O.faults output.old;
-        })
-        (record {
-          left = I.left input.new;
-          kept = kept;
-          held = O.held output.new;
-          told = U.told up.new;
-          reads = I.faults input.new;
-          links = U.faults up.new;
-          writes = O.faults output.new;
-        }) result }
+    ensures ends { let place = place_of I.Source O.Sink U.Upstream in
+        let sides = sides_of U.Reads.Source U.Writes.Sink (O.closed output.new) in
+        (asks : List Exchange) × (kept : List ℕ) × Asks H.asked H.does link.old asks link.new × EnterEnds R.left R.faults random.old
+        random.new sides door.now asks (H.faults link.old) (H.faults link.new) (place input.old [] output.old up.old)
+        (place input.new kept output.new up.new) result }
     ensures asks { H.faults link.old ≤ H.faults link.new }
     ensures draws { R.faults random.old ≤ R.faults random.new }
     ensures reads { I.faults input.old ≤ I.faults input.new }

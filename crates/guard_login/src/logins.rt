@@ -1,6 +1,7 @@
 //! One request at a guard that lets browsers sign in.
 ghost use Rattle.std.specs.Prelude.{◌≡◌, ◌≢◌, ◌≤◌, ◌++◌, ℕ, List, Option, [], true};
 ghost use Rattle.hub_link.specs.Links.{Exchange, Asks};
+ghost use Rattle.proxy_core.specs.Telling.{place_of};
 ghost use Rattle.guard_login.specs.Answers.{WritesAnswer, Drew};
 ghost use Rattle.guard_login.specs.Logins.{Finishes, IsTreated, LoginEnds};
 ghost use Rattle.guard_login.specs.Signed.{started};
@@ -62,25 +63,9 @@ fn finish<R: Random, I: Source, O: Sink, U: Upstream>(
 ) -> Result<Signed, SessionFault>
     requires minor { head.now.minor ≤ 1 }
     requires sized { framing ≢ Framing.ToEnd }
-    ensures ends { (rest : List ℕ) × Finishes R.left R.faults random.old random.new door.now head.now framing step.now
-        (record {
-          left = I.left input.old;
-          kept = rooms.old.kept;
-          held = O.held output.old;
-          told = U.told up.old;
-          reads = I.faults input.old;
-          links = U.faults up.old;
-          writes = O.faults output.old;
-        })
-        (record {
-          left = I.left input.new;
-          kept = rest ++ rooms.new.kept;
-          held = O.held output.new;
-          told = U.told up.new;
-          reads = I.faults input.new;
-          links = U.faults up.new;
-          writes = O.faults output.new;
-        }) result }
+    ensures ends { let place = place_of I.Source O.Sink U.Upstream in
+        (rest : List ℕ) × Finishes R.left R.faults random.old random.new door.now head.now framing step.now
+        (place input.old rooms.old.kept output.old up.old) (place input.new (rest ++ rooms.new.kept) output.new up.new) result }
     ensures draws { R.faults random.old ≤ R.faults random.new }
     ensures reads { I.faults input.old ≤ I.faults input.new }
     ensures links { U.faults up.old ≤ U.faults up.new }
@@ -119,26 +104,10 @@ pub(crate) fn sign_in<H: HubLink, R: Random, I: Source, O: Sink, U: Upstream>(
 ) -> Result<Signed, SessionFault>
     requires minor { head.now.minor ≤ 1 }
     requires sized { framing ≢ Framing.ToEnd }
-    ensures ends { (asks : List Exchange) × (rest : List ℕ) × Asks H.asked H.does link.old asks link.new
-        × IsTreated R.left R.faults random.old random.new door.now head.now framing asks (H.faults link.old) (H.faults link.new)
-        (record {
-          left = I.left input.old;
-          kept = rooms.old.kept;
-          held = O.held output.old;
-          told = U.told up.old;
-          reads = I.faults input.old;
-          links = U.faults up.old;
-          writes = O.faults output.old;
-        })
-        (record {
-          left = I.left input.new;
-          kept = rest ++ rooms.new.kept;
-          held = O.held output.new;
-          told = U.told up.new;
-          reads = I.faults input.new;
-          links = U.faults up.new;
-          writes = O.faults output.new;
-        }) result }
+    ensures ends { let place = place_of I.Source O.Sink U.Upstream in
+        (asks : List Exchange) × (rest : List ℕ) × Asks H.asked H.does link.old asks link.new × IsTreated R.left R.faults random.old
+        random.new door.now head.now framing asks (H.faults link.old) (H.faults link.new)
+        (place input.old rooms.old.kept output.old up.old) (place input.new (rest ++ rooms.new.kept) output.new up.new) result }
     ensures asks { H.faults link.old ≤ H.faults link.new }
     ensures draws { R.faults random.old ≤ R.faults random.new }
     ensures reads { I.faults input.old ≤ I.faults input.new }
@@ -166,26 +135,10 @@ fn login_kept<H: HubLink, R: Random, I: Source, O: Sink, U: Upstream>(
     up: &mut U,
 ) -> Result<Signed, SessionFault>
     requires { rooms.old.kept ≡ [] }
-    ensures ends { (asks : List Exchange) × (kept : List ℕ) × Asks H.asked H.does link.old asks link.new
-        × LoginEnds R.left R.faults random.old random.new door.now asks (H.faults link.old) (H.faults link.new)
-        (record {
-          left = I.left input.old;
-          kept = [];
-          held = O.held output.old;
-          told = U.told up.old;
-          reads = I.faults input.old;
-          links = U.faults up.old;
-          writes = O.faults output.old;
-        })
-        (record {
-          left = I.left input.new;
-          kept = kept;
-          held = O.held output.new;
-          told = U.told up.new;
-          reads = I.faults input.new;
-          links = U.faults up.new;
-          writes = O.faults output.new;
-        }) result }
+    ensures ends { let place = place_of I.Source O.Sink U.Upstream in
+        (asks : List Exchange) × (kept : List ℕ) × Asks H.asked H.does link.old asks link.new × LoginEnds R.left R.faults random.old
+        random.new door.now asks (H.faults link.old) (H.faults link.new) (place input.old [] output.old up.old)
+        (place input.new kept output.new up.new) result }
     ensures asks { H.faults link.old ≤ H.faults link.new }
     ensures draws { R.faults random.old ≤ R.faults random.new }
     ensures reads { I.faults input.old ≤ I.faults input.new }
@@ -218,26 +171,10 @@ pub fn login_one<H: HubLink, R: Random, I: Source, O: Sink, U: Upstream>(
     output: &mut O,
     up: &mut U,
 ) -> Result<Signed, SessionFault>
-    ensures ends { (asks : List Exchange) × (kept : List ℕ) × Asks H.asked H.does link.old asks link.new
-        × LoginEnds R.left R.faults random.old random.new door.now asks (H.faults link.old) (H.faults link.new)
-        (record {
-          left = I.left input.old;
-          kept = [];
-          held = O.held output.old;
-          told = U.told up.old;
-          reads = I.faults input.old;
-          links = U.faults up.old;
-          writes = O.faults output.old;
-        })
-        (record {
-          left = I.left input.new;
-          kept = kept;
-          held = O.held output.new;
-          told = U.told up.new;
-          reads = I.faults input.new;
-          links = U.faults up.new;
-          writes = O.faults output.new;
-        }) result }
+    ensures ends { let place = place_of I.Source O.Sink U.Upstream in
+        (asks : List Exchange) × (kept : List ℕ) × Asks H.asked H.does link.old asks link.new × LoginEnds R.left R.faults random.old
+        random.new door.now asks (H.faults link.old) (H.faults link.new) (place input.old [] output.old up.old)
+        (place input.new kept output.new up.new) result }
     ensures asks { H.faults link.old ≤ H.faults link.new }
     ensures draws { R.faults random.old ≤ R.faults random.new }
     ensures reads { I.faults input.old ≤ I.faults input.new }

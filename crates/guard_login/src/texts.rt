@@ -176,20 +176,23 @@ fn state_line(
     Ok(text)
 }
 
-#[tactic(auto, unfolding(crate::specs::Texts::token_lines))]
-fn token_lines(
-    alloc: Global,
-    secure: bool,
-    base: &Text,
-    token: &Bytes,
-) -> Result<Bytes, AllocError>
-    ensures { IfOk result (λ text. text ≡ spec.token_lines secure base.now token.now) }
+#[tactic(auto, unfolding(crate::specs::Texts::token_line))]
+fn token_line(alloc: Global, secure: bool, base: &Text, token: &Bytes) -> Result<Bytes, AllocError>
+    ensures { IfOk result (λ text. text ≡ spec.token_line secure base.now token.now) }
 {
     let mut text = Bytes::from_slice(alloc, TOKEN_COOKIE)?;
     text.push_all(token.as_slice())?;
     text.push_all(PATH)?;
     text.push_all(base.as_bytes())?;
     text.push_all(cookie_end(secure))?;
+    Ok(text)
+}
+
+#[tactic(auto, unfolding(crate::specs::Texts::token_lines))]
+fn token_lines(alloc: Global, secure: bool, base: &Text, token: &Bytes) -> Result<Bytes, AllocError>
+    ensures { IfOk result (λ text. text ≡ spec.token_lines secure base.now token.now) }
+{
+    let mut text = token_line(alloc, secure, base, token)?;
     text.push_all(NO_STATE)?;
     text.push_all(base.as_bytes())?;
     text.push_all(GONE)?;
