@@ -1,5 +1,5 @@
 //! The command `guard`, over the outside that the program makes.
-ghost use Rattle.std.specs.Prelude.{◌≡◌, ◌≤◌, ◌<◌, Some, length};
+ghost use Rattle.std.specs.Prelude.{◌≡◌, ◌≤◌, ◌<◌, All, Some, length};
 ghost use Rattle.guard_serving.specs.Ends.{IsOver};
 ghost use Rattle.guard_serving.specs.Hall.{hall};
 ghost use Rattle.guard_serving.specs.Runs as spec;
@@ -10,7 +10,7 @@ use crate::guards::Guards;
 use crate::kit::GuardKit;
 use crate::secret::secret_of;
 use crate::serving::{serve_at_door, serve_by_token};
-use carries::Carrier;
+use carries::{Addressed, Carrier};
 use guard_login::door::Door;
 use hub_devices::files::Files;
 use hub_devices::listener::Listener;
@@ -111,6 +111,38 @@ fn run_words<
             unserved(GuardFault::of_secret(error))
         }
     }
+}
+
+/// The same of the command whose words are read: by a listener for their address, and by links that ask their hub.
+pub fn run_told<
+    L: Listener<In: Send, Out: Shuts + Send> + Addressed + Send,
+    H: HubLink + Addressed + Send + Drop,
+    R: Random + Send + Drop,
+    U: Carrier<L::In, L::Out, Reads: Send, Writes: Send> + Send + Drop,
+    F: Files,
+    O: Sink,
+    W: Threads + Wait + Sync,
+>(
+    rt: &W,
+    alloc: Global,
+    words: GuardWords,
+    files: &mut F,
+    doors: &mut L,
+    kits: &mut Vec<GuardKit<H, R, U>>,
+    output: &mut O,
+) -> GuardEnd
+    requires listen { L.address doors.old ≡ words.listen }
+    requires hub { All (λ kit. H.address kit.link ≡ words.hub) kits.old.items }
+    requires kits { 0 < length kits.old.items }
+    ensures ends { spec.RunEnds (spec.AreGuarded L.are_sides ⟦<GuardKit<H, R, U> as Guards<L::In, L::Out>>⟧.guarded
+        ⟦<GuardKit<H, R, U> as Guards<L::In, L::Out>>⟧.signed_in kits.old.items kits.new.items)
+        (kits.new.items ≡ kits.old.items) (Some words) (F.files files.old) (F.faults files.old) (F.faults files.new)
+        (hall L.given L.faults O.held O.faults doors.old output.old) result (hall L.given L.faults O.held O.faults doors.new output.new) }
+    ensures files { F.files files.new ≡ F.files files.old }
+    ensures looked { F.faults files.old ≤ F.faults files.new }
+    ensures writes { O.faults output.old ≤ O.faults output.new }
+{
+    run_words(rt, alloc, words, files, doors, kits, output)
 }
 
 /// Runs the command `guard` that the words say: reads the secret in the file that they name, if they do, writes `ready` and a line end, and
