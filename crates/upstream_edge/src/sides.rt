@@ -4,7 +4,7 @@ ghost use Rattle.hub_devices.specs.FailingCalls.{one_more};
 
 use hub_devices::sink::Sink;
 use hub_devices::source::{Failed, Source};
-use hub_edge::connection::{SocketSink, SocketSource};
+use hub_edge::connection::{Caller, SocketSink, SocketSource};
 use tunnel::shuts::Shuts;
 
 /// Whether bytes are the beginning of a reply that switches over.
@@ -27,6 +27,45 @@ fn is_switch(bytes: &[u8]) -> bool {
             ..
         ]
     )
+}
+
+/// The side of a caller that gives bytes.
+pub struct CallerSource {
+    source: SocketSource,
+    /// Its connection's number at the listener.
+    pub(crate) number: u64,
+}
+
+impl Drop for CallerSource {
+    fn drop(self) {
+        let CallerSource {
+            source: _,
+            number: _,
+        } = self;
+    }
+}
+
+impl CallerSource {
+    pub(crate) fn new(source: SocketSource, number: u64) -> CallerSource
+        ensures { result.number ≡ number }
+    {
+        CallerSource { source, number }
+    }
+
+    /// The peer, for whom a target is asked.
+    pub(crate) fn caller(&self) -> Option<Caller> {
+        self.source.caller()
+    }
+}
+
+impl Source for CallerSource {
+    ghost left = { λ _. None };
+
+    ghost faults = { λ s. ⟦<SocketSource as Source>⟧.faults s.source };
+
+    fn read(&mut self, into: &mut [u8]) -> Result<usize, Failed> {
+        self.source.read(into)
+    }
 }
 
 /// The side of a target that gives bytes, once a tunnel has it.
@@ -71,6 +110,8 @@ impl Source for TunnelSource {
 /// The side of a connection that takes bytes, until it is shut: then the peer is told that no more come.
 pub struct TunnelSink {
     sink: SocketSink,
+    /// A caller's connection's number at the listener.
+    pub(crate) number: u64,
     /// Whether nothing was written yet.
     is_fresh: bool,
     is_shut: bool,
@@ -81,6 +122,7 @@ impl Drop for TunnelSink {
     fn drop(self) {
         let TunnelSink {
             sink: _,
+            number: _,
             is_fresh: _,
             is_shut: _,
             faults: _,
@@ -90,11 +132,13 @@ impl Drop for TunnelSink {
 
 impl TunnelSink {
     /// The side of a caller. What is written first is the beginning of a reply.
-    pub(crate) fn of_caller(sink: SocketSink) -> TunnelSink
-        ensures { ⟦<TunnelSink as Sink>⟧.faults result ≡ 0 }
+    pub(crate) fn of_caller(sink: SocketSink, number: u64) -> TunnelSink
+        ensures faults { ⟦<TunnelSink as Sink>⟧.faults result ≡ 0 }
+        ensures number { result.number ≡ number }
     {
         TunnelSink {
             sink,
+            number,
             is_fresh: true,
             is_shut: false,
             faults: 0,
@@ -108,6 +152,7 @@ impl TunnelSink {
         sink.begin_tunnel();
         TunnelSink {
             sink,
+            number: 0,
             is_fresh: false,
             is_shut: false,
             faults: 0,

@@ -2,7 +2,7 @@
 ghost use Rattle.std.specs.Prelude.{◌≡◌, ◌≤◌, ℕ, None, length, IfOk};
 ghost use Rattle.hub_devices.specs.FailingCalls.{one_more};
 
-use crate::sides::{TunnelSink, TunnelSource};
+use crate::sides::{CallerSource, TunnelSink, TunnelSource};
 use carries::{Carried, Carrier, carry_head};
 use http_wire::error::SessionFault;
 use http_wire::head::Head;
@@ -173,14 +173,14 @@ impl<'a, T: Threads> Tunnelled for SocketUpstream<'a, T> {
 }
 
 /// The connections of one kind of source alone: a method of any kind can't hand its source on to a thread.
-impl<'a, T: Threads, O: Shuts> Carrier<SocketSource, O> for SocketUpstream<'a, T> {
+impl<'a, T: Threads, O: Shuts> Carrier<CallerSource, O> for SocketUpstream<'a, T> {
     fn carry(
         &mut self,
         alloc: Global,
         head: &Head,
         framing: Framing,
         target: &Target,
-        input: &mut SocketSource,
+        input: &mut CallerSource,
         rooms: &mut Rooms,
         output: &mut O,
     ) -> Result<Carried<TunnelSource, TunnelSink>, SessionFault> {

@@ -1,15 +1,21 @@
 //! A listener whose connections may become tunnels.
-ghost use Rattle.std.specs.Prelude.{◌≡◌, None};
+ghost use Rattle.std.specs.Prelude.{◌≡◌, ◌≤◌, Some, IfOk};
+ghost use Rattle.hub_devices.specs.FailingCalls.{one_more};
 
-use crate::sides::TunnelSink;
+use crate::sides::{CallerSource, TunnelSink};
+use carries::Addressed;
 use hub_devices::listener::Listener;
 use hub_devices::source::Failed;
-use hub_edge::connection::SocketSource;
 use hub_edge::listener::SocketListener;
+use hub_kit::text::Text;
+use std::io;
 
-/// A listener of connections whose sending side can be shut. Each is for one request.
+/// A listener of connections whose sending side can be shut. Each is for one request. It gives no more than a number can count.
 pub struct TunnelListener {
     listener: SocketListener,
+    address: Text,
+    /// How many connections it has given, and so the number of the next one.
+    given: u64,
     faults: u64,
 }
 
@@ -17,40 +23,67 @@ impl Drop for TunnelListener {
     fn drop(self) {
         let TunnelListener {
             listener: _,
+            address: _,
+            given: _,
             faults: _,
         } = self;
     }
 }
 
 impl TunnelListener {
-    pub fn new(listener: SocketListener) -> TunnelListener
-        ensures { ⟦<TunnelListener as Listener>⟧.faults result ≡ 0 }
+    /// Listens at `HOST:PORT`.
+    pub fn bind(rt: HostRuntime, address: &Text) -> io::Result<TunnelListener>
+        ensures faults { IfOk result (λ listener. ⟦<TunnelListener as Listener>⟧.faults listener ≡ 0) }
+        ensures given { IfOk result (λ listener. ⟦<TunnelListener as Listener>⟧.given listener ≡ Some 0) }
+        ensures address { IfOk result (λ listener. ⟦<TunnelListener as Addressed>⟧.address listener ≡ address.now) }
     {
-        TunnelListener {
-            listener,
+        let address = address.copy(rt.alloc())?;
+        Ok(TunnelListener {
+            listener: SocketListener::bind(rt, address.as_str())?,
+            address,
+            given: 0,
             faults: 0,
-        }
+        })
+    }
+
+    /// Counts a fault. The count stands still at the greatest `u64`.
+    fn fail(&mut self) -> Failed
+        ensures counted { self.new.faults ≡ one_more self.old.faults }
+        ensures kept { self.old.faults ≤ self.new.faults }
+        ensures given { self.new.given ≡ self.old.given }
+    {
+        self.faults = self.faults.saturating_add(1);
+        Failed
     }
 }
 
+impl Addressed for TunnelListener {
+    ghost address = { λ l. l.address };
+}
+
 impl Listener for TunnelListener {
-    type In = SocketSource;
+    type In = CallerSource;
 
     type Out = TunnelSink;
 
-    ghost are_sides = { λ _ _. Unit };
+    ghost are_sides = { λ input output. input.number ≡ output.number };
 
-    ghost given = { λ _. None };
+    ghost given = { λ l. Some l.given };
 
     ghost faults = { λ l. l.faults };
 
-    fn accept(&mut self) -> Result<(SocketSource, TunnelSink), Failed> {
+    fn accept(&mut self) -> Result<(CallerSource, TunnelSink), Failed> {
+        let number = self.given;
+        if number == u64::MAX {
+            return Err(self.fail());
+        }
         match self.listener.accept() {
-            Ok((input, output)) => Ok((input, TunnelSink::of_caller(output))),
-            Err(_) => {
-                self.faults = self.faults.saturating_add(1);
-                Err(Failed)
+            Ok((input, output)) => {
+                self.given = number + 1;
+                let input = CallerSource::new(input, number);
+                Ok((input, TunnelSink::of_caller(output, number)))
             }
+            Err(_) => Err(self.fail()),
         }
     }
 }
