@@ -5,10 +5,12 @@
 //! The program `hub` stands above.
 #![tactic(auto)]
 
+mod announced;
 mod paths;
 mod services;
 mod serving;
 mod system;
 mod telling;
+mod watched;
 
 pub use serving::serve;

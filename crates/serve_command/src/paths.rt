@@ -9,8 +9,8 @@ use hub_devices::source::Failed;
 use hub_edge::routes::{AllRoutes, KeptRoutes};
 use hub_kit::target::Target;
 use hub_kit::text::Text;
-use link_edge::hub::SocketHub;
 use link_edge::limits::PROXY_REPLY_SECONDS;
+use link_edge::proxy::SocketProxy;
 use proxy_link::proxy_link::ProxyLink;
 use std::alloc::AllocError;
 use std::sync::{Arc, Wait};
@@ -21,7 +21,7 @@ use std::time::Duration;
 pub(crate) struct HubRoutes<H: Wait + Copy> {
     kept: KeptRoutes<H>,
     /// The link to the proxy, whose routes count in place of the kept ones.
-    proxy: Option<ProxyLink<SocketHub>>,
+    proxy: Option<ProxyLink<SocketProxy>>,
     faults: u64,
 }
 
@@ -29,13 +29,13 @@ pub(crate) struct HubRoutes<H: Wait + Copy> {
 fn proxy_link(
     rt: HostRuntime,
     proxy: &Option<(Target, Text)>,
-) -> Result<Option<ProxyLink<SocketHub>>, AllocError> {
+) -> Result<Option<ProxyLink<SocketProxy>>, AllocError> {
     let alloc = rt.alloc();
     match proxy {
         Some((target, secret)) => {
             let secret = secret.copy(alloc)?;
             let limit = Duration::from_secs(PROXY_REPLY_SECONDS);
-            let hub = SocketHub::new(rt, target.copy(alloc)?, limit);
+            let hub = SocketProxy::new(rt, target.copy(alloc)?, limit);
             Ok(Some(ProxyLink::new(alloc, secret, hub)))
         }
         None => Ok(None),

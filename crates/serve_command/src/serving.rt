@@ -5,10 +5,12 @@ ghost use Rattle.hub_serving.specs.Ends.{forgiven_status, status_of};
 ghost use Rattle.hub_serving.specs.Plans.{IsPlanOf};
 ghost use Rattle.hub_words.specs.Serve.{serve_read};
 
+use crate::announced::Announced;
 use crate::paths::HubRoutes;
 use crate::services::service_kit;
 use crate::system::ServeSystem;
-use crate::telling::{announce, tell_left, tell_refused, tell_served};
+use crate::telling::{tell_left, tell_refused, tell_served, tell_unheard};
+use crate::watched::{Said, Watched};
 use hub_devices::files::Files;
 use hub_edge::clock::SystemClock;
 use hub_edge::ending::{close_at_end_of_input, close_at_signal};
@@ -123,12 +125,13 @@ fn outside<K: ProgramStore + Send, H: Threads + Wait + Copy + Send + Sync>(
     let kit = new_kit(rt, handle, plan, &shared)?;
     let kits = new_kits(rt, handle, plan, &shared)?;
     let services = service_kit(rt, handle, plan, &shared.routes)?;
+    let doors = Announced::new(rt, plan, listener)?;
     Ok(ServeOutside {
         output: Output::new(rt),
         store: None,
         kit,
         kits,
-        doors: listener,
+        doors,
         services,
         stopped: None,
         end: None,
@@ -165,7 +168,7 @@ fn run_over<K: ProgramStore + Send, H: Threads + Wait + Copy + Send + Sync>(
     tell_left(rt, plan, outside);
     let status = status_at_end(status, &outside.end, closer.is_closed());
     if status != 0 {
-        tell_served(rt, outside);
+        tell_served(rt, words, plan, outside);
     }
     status
 }
@@ -182,20 +185,23 @@ fn serve_plan<K: ProgramStore + Send, H: Threads + Wait + Copy + Send + Sync>(
     requires read { IsPlanOf (serve_read words.now) (files_told ⟦<SystemFiles as Files>⟧.files ⟦<SystemFiles as Files>⟧.faults files.now)
         plan.now }
 {
-    let Ok((listener, closer)) = open_listener(rt, &handle, &plan.listen) else {
+    let Ok(said) = Said::of(rt.alloc(), words, plan) else {
         drop(store);
-        return say(
-            &rt,
-            NO_LISTENER,
-            "the address of `listen` can't be listened at",
-        );
+        return say(&rt, 7, "there is no memory");
     };
-    announce(&rt, plan, &listener);
+    let (listener, closer) = match open_listener(rt, &handle, &plan.listen) {
+        Ok(opened) => opened,
+        Err(error) => {
+            drop(store);
+            tell_unheard(&rt, plan, &error);
+            return ExitCode::from(NO_LISTENER);
+        }
+    };
     let Ok(mut outside) = outside(rt, handle, plan, listener) else {
         drop(store);
         return say(&rt, 7, "there is no memory");
     };
-    outside.store = Some(store);
+    outside.store = Some(Watched::new(rt, store, said));
     let status = run_over(&rt, &handle, words, files, plan, &mut outside, &closer);
     if let Some(store) = outside.store.take() {
         store.close();

@@ -1,7 +1,7 @@
 //! The system's devices.
+use crate::announced::Announced;
 use crate::paths::HubRoutes;
 use hub_edge::clock::SystemClock;
-use hub_edge::listener::SocketListener;
 use hub_edge::output::Output;
 use hub_edge::programs::Programs;
 use hub_edge::random::SystemRandom;
@@ -31,7 +31,7 @@ impl<K: ProgramStore + Send, H: Threads + Wait + Copy + Send + Sync> ServeWorld
 
     type Draws = SystemRandom<HostRuntime>;
 
-    type Doors = SocketListener;
+    type Doors = Announced;
 
     type Runs = ServicePrograms<H>;
 }

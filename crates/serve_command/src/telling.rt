@@ -1,8 +1,10 @@
 //! What is said on standard error: where the hub listens, which services it left, and why it didn't serve what it was asked for. It changes
 //! no status, and where it can't be said nothing is.
 use crate::system::ServeSystem;
+use crate::watched::Said;
 use hub_edge::files::SystemFiles;
 use hub_edge::listener::SocketListener;
+use hub_edge::output::moment_now;
 use hub_kit::text::Text;
 use hub_main::cause::Cause;
 use hub_serving::end::NotServed;
@@ -10,10 +12,13 @@ use hub_serving::explain::{explain_end, explain_refusal};
 use hub_serving::plan::Plan;
 use hub_serving::world::ServeOutside;
 use hub_store::command::ProgramStore;
+use keeper::keeper::Row;
+use kept_rows::reading::read_row;
+use overruled::kept::{Overruled, told_of};
 use service_edge::programs::ServicePrograms;
 use services_run::place::State;
-use std::alloc::AllocError;
-use std::io::ErrorKind;
+use std::alloc::{AllocError, Global};
+use std::io::{Error, ErrorKind};
 use std::process::ExitCode;
 use std::sync::Wait;
 use std::thread::Threads;
@@ -58,6 +63,8 @@ fn store_cause<K: ProgramStore>(store: &Option<K>) -> Option<&'static str> {
 /// Says why the hub didn't serve all that it was asked for, if it didn't.
 pub(crate) fn tell_served<K: ProgramStore + Send, H: Threads + Wait + Copy + Send + Sync>(
     rt: &HostRuntime,
+    words: &[Text],
+    plan: &Plan,
     outside: &ServeOutside<ServeSystem<K, H>>,
 ) {
     let Some(end) = &outside.end else {
@@ -67,7 +74,7 @@ pub(crate) fn tell_served<K: ProgramStore + Send, H: Threads + Wait + Copy + Sen
         Err(NotServed::Because(Cause::NoStore)) => store_cause(&outside.store),
         _ => None,
     };
-    say_why(rt, explain_end(rt.alloc(), end), more);
+    say_why(rt, explain_end(rt.alloc(), words, plan, end), more);
 }
 
 /// Says why the words or the file of `serve` are refused.
@@ -115,15 +122,21 @@ pub(crate) fn tell_left<K: ProgramStore + Send, H: Threads + Wait + Copy + Send 
             let name = service.name.as_str();
             let target = service.target.as_text().as_str();
             let why = why_left(&outside.services.running, number);
+            let moment = moment_now(rt);
+            let now = moment.as_str();
             let _ = eprintln!(rt;
-                "hub: the service {name} is left, and its program at {target} may run on: {why}"
+                "{now} hub: the service {name} is left, and its program at {target} may run on: {why}"
             );
         }
     }
 }
 
-/// Says where the hub listens, over which store, and with how many configured users and workers.
-pub(crate) fn announce(rt: &HostRuntime, plan: &Plan, listener: &SocketListener) {
+/// Where the hub listens, over which store, and with how many configured users and workers.
+pub(crate) fn announcement(
+    alloc: Global,
+    plan: &Plan,
+    listener: &SocketListener,
+) -> Result<String, AllocError> {
     let place = match &plan.db {
         Some(name) => name.as_str(),
         None => "memory",
@@ -132,7 +145,69 @@ pub(crate) fn announce(rt: &HostRuntime, plan: &Plan, listener: &SocketListener)
     let port = listener.port().unwrap_or(0);
     let users = plan.hub.users.as_slice().len();
     let workers = plan.workers;
+    format!(in alloc;
+        "listens at {address}, port {port}, over {place}: {users} configured users, {workers} workers"
+    )
+}
+
+/// Says which thing of the configuration a kept row overrules, and which call changes it.
+fn tell_one(rt: &HostRuntime, file: &str, thing: Overruled) {
+    match thing {
+        Overruled::Members(group) => {
+            let group = group.as_str();
+            let _ = eprintln!(rt;
+                "hub: {file}: the group {group} is kept with other members; POST and DELETE /hub/api/groups/{group}/users change them"
+            );
+        }
+        Overruled::Admin(user) => {
+            let user = user.as_str();
+            let _ = eprintln!(rt;
+                "hub: {file}: the user {user} is kept as an admin; PATCH /hub/api/users/{user} changes it"
+            );
+        }
+    }
+}
+
+/// Says what of the configuration the kept rows overrule. A row that doesn't read is told by the opening.
+pub(crate) fn tell_overruled(rt: &HostRuntime, said: &Said, rows: &[Row]) {
+    for kept in rows {
+        // users and groups
+        if kept.kind > 2 {
+            return;
+        }
+        if let Ok(row) = read_row(rt.alloc(), kept) {
+            if let Some(thing) = told_of(said.users.as_slice(), said.groups.as_slice(), &row) {
+                tell_one(rt, said.file.as_str(), thing);
+            }
+            drop(row);
+        }
+    }
+}
+
+/// Says that the hub listens.
+pub(crate) fn announce(rt: &HostRuntime, line: &str) {
+    let moment = moment_now(rt);
+    let at = moment.as_str();
+    let _ = eprintln!(rt; "{at} hub: {line}");
+}
+
+/// Why an address can't be listened at.
+fn listener_cause(error: &Error) -> &'static str {
+    match error.kind() {
+        ErrorKind::AddrInUse => "another program listens there",
+        ErrorKind::AddrNotAvailable => "this machine has no such address",
+        ErrorKind::PermissionDenied => "the system doesn't permit it",
+        ErrorKind::InvalidInput | ErrorKind::NotFound => "the system knows no such address",
+        ErrorKind::OutOfMemory => "there is no memory",
+        _ => "the system refuses it",
+    }
+}
+
+/// Says at which address the hub can't listen, and why.
+pub(crate) fn tell_unheard(rt: &HostRuntime, plan: &Plan, error: &Error) {
+    let address = plan.listen.as_str();
+    let cause = listener_cause(error);
     let _ = eprintln!(rt;
-        "hub: listens at {address}, port {port}, over {place}: {users} configured users, {workers} workers"
+        "hub: nothing can listen at {address}, the `listen` of the configuration: {cause}"
     );
 }
