@@ -2,6 +2,8 @@
 //! nothing is supposed of its first contents.
 #![tactic(auto)]
 
+use backup_command::backup;
+use check_command::check;
 use cull_command::cull;
 use guard_command::guard;
 use help_command::told;
@@ -38,6 +40,8 @@ fn main(rt: HostRuntime) -> ExitCode {
     }
     match words {
         [first, ..] if first.as_str() == "serve" => serve(rt, rt, words, Unknown),
+        [first, ..] if first.as_str() == "check" => check(rt, words),
+        [first, ..] if first.as_str() == "backup" => backup(rt, words),
         [first, ..] if first.as_str() == "proxy" => proxy(rt, &rt, words),
         [first, ..] if first.as_str() == "guard" => guard(rt, &rt, words),
         [first, ..] if first.as_str() == "cull" => cull(rt, words),
