@@ -1,6 +1,5 @@
-//! Tests of what stands at the edge of the program, which no clause can say: the words of each command, what the system's devices do,
-//! whole rounds of the culler and of services over devices in memory, and what asks a hub, with requests and replies written by hand as
-//! they stand on the wire. Nothing stands above this crate.
+//! Tests of the program's edge that are no rows of text: sockets, programs, files and variables of the system; the states of services and
+//! the culler's command over devices in memory; replies of a hub. Nothing stands above this crate.
 #![tactic(auto)]
 
 #[cfg(test)]
@@ -12,8 +11,6 @@ mod of_hub_sockets;
 #[cfg(test)]
 mod of_replies;
 #[cfg(test)]
-mod of_rounds;
-#[cfg(test)]
 mod of_services;
 #[cfg(test)]
 mod programs;
@@ -21,5 +18,3 @@ mod programs;
 mod sockets;
 #[cfg(test)]
 mod variables;
-#[cfg(test)]
-mod words;

@@ -4,7 +4,6 @@ use hub_kit::moment::Moment;
 use hub_kit::target::Target;
 use hub_kit::targets::read_target;
 use hub_kit::text::Text;
-use hub_link::mem_link::MemHubLink;
 use route_table::extra::Extra;
 use route_table::route::RouteEntry;
 use route_table::routes::Routes;
@@ -39,31 +38,4 @@ pub fn table(rt: &impl Abort, alloc: Global) -> Routes {
     let added = routes.add(b"/user/ann", entry, Moment::zero());
     added.expect(rt, "there is memory");
     routes
-}
-
-/// A hub that gives these two replies and fails at the call of that number.
-pub fn hub(
-    rt: &impl Abort,
-    alloc: Global,
-    first: &[u8],
-    second: &[u8],
-    failing: u64,
-) -> MemHubLink {
-    let mut replies = Vec::new(alloc);
-    for reply in &[first, second] {
-        replies
-            .push(bytes(rt, alloc, *reply))
-            .expect(rt, "there is memory");
-    }
-    let failing = Vec::from_slice(alloc, &[failing]).expect(rt, "there is memory");
-    MemHubLink::new(alloc, replies, failing)
-}
-
-/// Whether the hub was asked this and no more, or nothing where these are no bytes.
-pub fn is_asked(link: &MemHubLink, asked: &[u8]) -> bool {
-    match link.asked() {
-        Some([]) => asked.is_empty(),
-        Some([ask]) => ask.0.as_slice() == asked,
-        _ => false,
-    }
 }

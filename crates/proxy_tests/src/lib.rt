@@ -1,5 +1,6 @@
-//! Tests of a proxy's calls over devices in memory, with requests and replies written by hand as they stand on the wire.
-//! A crate of their own, since a crate that has tests is proved twice. Nothing stands above it.
+//! Tests of a proxy and a guard over devices in memory that are no rows of text. Tunnels and requests that are carried have their threads;
+//! both commands end with their callers; a hub asks a proxy for its routes. A crate of their own, since a crate that has tests is proved
+//! twice. Nothing stands above it.
 #![tactic(auto)]
 
 #[cfg(test)]
@@ -9,17 +10,11 @@ mod check;
 #[cfg(test)]
 mod mem_carrier;
 #[cfg(test)]
-mod of_api;
-#[cfg(test)]
 mod of_carry;
-#[cfg(test)]
-mod of_forward;
-#[cfg(test)]
-mod of_guard;
 #[cfg(test)]
 mod of_guard_command;
 #[cfg(test)]
-mod of_login;
+mod of_proxy;
 #[cfg(test)]
 mod of_proxy_command;
 #[cfg(test)]

@@ -192,7 +192,7 @@ fn outside(rt: &impl Abort, alloc: Global, command: &Command) -> MemOutside
 {
     ServeOutside {
         output: MemSink::new(alloc, Vec::new(alloc)),
-        store: Some(store(rt, alloc, Vec::new(alloc))),
+        store: Some(store(rt, alloc)),
         kit: kit(rt, alloc, command.failing_route),
         kits: kits(rt, alloc),
         doors: doors(rt, alloc, command.failing_accept),
