@@ -1,6 +1,8 @@
 //! Rows of lines of words, each of which a command takes or doesn't.
 use crate::given::{check_words, said};
 use hub_kit::text::Text;
+use hub_words::backup::read_backup;
+use hub_words::check::read_check;
 use hub_words::cull::read_cull;
 use hub_words::guard::read_guard;
 use hub_words::load::read_load;
@@ -35,6 +37,8 @@ fn takes(alloc: Global, command: &str, words: &[Text], line: u64) -> Result<bool
         "guard" => read_guard(alloc, words).is_ok(),
         "cull" => read_cull(alloc, words).is_ok(),
         "load" => read_load(alloc, words).is_ok(),
+        "check" => read_check(alloc, words).is_ok(),
+        "backup" => read_backup(alloc, words).is_ok(),
         _ => return Err(Trouble::At(line, "a command that there isn't")),
     })
 }
