@@ -5,6 +5,10 @@
 #[cfg(test)]
 mod check;
 #[cfg(test)]
+mod of_chunk_sockets;
+#[cfg(test)]
+mod of_chunks;
+#[cfg(test)]
 mod of_culling;
 #[cfg(test)]
 mod of_hub_sockets;
