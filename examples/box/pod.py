@@ -3,7 +3,9 @@ place of the machine's own. It wants a range of further users for the account (/
 import asyncio, ctypes, json, os, pwd, shutil, subprocess
 import bounds, walls
 
-CLONE_NEWNS = 0x00020000
+CLONE_NEWNS, MS_BIND = 0x00020000, 4096
+# where podman finds the box's network: it has another one itself, so that no socket of its own is in the box's
+NETWORK = "/run/network-of-the-box"
 # of the account, before it is called root among the users of its own
 HOME = pwd.getpwuid(os.getuid()).pw_dir
 NEEDED = {"podman": "podman", "crun": "crun", "newuidmap": "uidmap", "catatonit": "catatonit"}
@@ -58,6 +60,9 @@ def enter_network():
     # crun refuses a machine that has cgroups of both versions, also where it is to use none
     if os.path.exists("/sys/fs/cgroup/unified"):
         cover("/sys/fs/cgroup/unified")
+    walls.put(NETWORK, "")
+    if walls.libc.mount(b"/proc/self/ns/net", NETWORK.encode(), None, MS_BIND, None):
+        raise OSError(ctypes.get_errno(), f"mount {NETWORK}")
     walls.set_up_network()
 
 
@@ -99,7 +104,8 @@ class Store:
         told += f"[storage.options]\nadditionalimagestores = [{json.dumps(images)}]\n"
         engine = {"lock_type": "file", "events_logger": "none", "cgroup_manager": "cgroupfs", "runtime": "crun",
                   "tmp_dir": f"{self.folder}/tmp"}
-        settings = "[engine]\n" + "".join(f"{key} = {json.dumps(value)}\n" for key, value in engine.items())
+        settings = "[containers]\ndefault_sysctls = []\n[engine]\n"
+        settings += "".join(f"{key} = {json.dumps(value)}\n" for key, value in engine.items())
         return {"CONTAINERS_STORAGE_CONF": self.put("storage.conf", told), "CONTAINERS_CONF": self.put("containers.conf", settings),
                 "XDG_RUNTIME_DIR": self.folder, "HOME": HOME}
 
@@ -110,8 +116,8 @@ class Store:
 def words(given, bound, store):
     """The words of podman, within processes of its own that end with it."""
     home_inside = f"/home/{given.name}"
-    told = ["--rm", "--init", "--network=host", "--cgroups=disabled", "--hostname=box", "--no-hosts", "--passwd=false", "--read-only",
-            "--read-only-tmpfs=false", "--security-opt=no-new-privileges", "--security-opt=mask=/sys", "--log-driver=none",
+    told = ["--rm", "--init", f"--network=ns:{NETWORK}", "--cgroups=disabled", "--hostname=box", "--no-hosts", "--passwd=false",
+            "--read-only", "--read-only-tmpfs=false", "--security-opt=no-new-privileges", "--security-opt=mask=/sys", "--log-driver=none",
             "--cap-drop=all", "--sig-proxy=false",
             f"--security-opt=seccomp={store.put('calls.json', json.dumps(list_of_calls()))}", f"--shm-size={bound['scratch']}m",
             f"--tmpfs=/tmp:rw,nosuid,nodev,mode=1777,size={bound['scratch']}m", f"--workdir={home_inside}", "--user=0:0"]
@@ -123,7 +129,7 @@ def words(given, bound, store):
         told.append(f"--volume={folder}:{folder}:ro")
     told.append(f"--volume={os.path.realpath(given.home)}:{home_inside}:rw,nosuid,nodev,rprivate")
     told += [f"--env={name}={value}" for name, value in walls.environment(given.name, home_inside).items()]
-    alone = ["/usr/bin/unshare", "--pid", "--fork", "--kill-child", "--mount-proc", "--"]
+    alone = ["/usr/bin/unshare", "--net", "--pid", "--fork", "--kill-child", "--mount-proc", "--"]
     return [*bound["before"], *alone, "podman", "run", *told, bound["image"], *given.program]
 
 
