@@ -153,7 +153,7 @@ class Person:
     def click(self, found):
         """Presses a part of the page. One that was just drawn anew is looked for once more by who waits."""
         if found:
-            self.run("arguments[0].scrollIntoView({block: 'center'})", found)
+            self.run("arguments[0].scrollIntoView({block: 'center', behavior: 'instant'})", found)
             found.click()
         return found is not None
 
