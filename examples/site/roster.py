@@ -96,7 +96,7 @@ def as_of_class(said, whole):
     """What the hub says of hub.toml, of which the class is a part, as what is wrong with the class, where the line is one of its own."""
     with open(FILE, encoding="utf-8") as file:
         text = file.read()
-    if found := re.search(r" names the \w+ (\S+), which ", said):
+    if found := re.search(r" the \w+ (\S+) is neither kept nor configured", said):
         line = next((at for at, line in enumerate(text.split("\n"), 1) if f'"{found[1]}"' in line), None)
         return f"{FILE}, line {line}: {said}: add {found[1]}, or take it out" if line else said
     found = re.search(r"\bline (\d+)\b", said)
